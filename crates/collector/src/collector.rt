@@ -10,7 +10,7 @@ ghost use Rattle.pit_parts.specs.declared.ranges.TheConstants.{MAX_ROWS};
 use crate::add_fault::AddFault;
 use crate::missing::Missing;
 use crate::shelf::Shelf;
-use pit_parts::past::Past;
+use pit_parts::listed::past::Past;
 use pit_units::OrMemory;
 use rows::{Item, Rows, Valued};
 use std::alloc::{AllocError, Global};

@@ -3,7 +3,7 @@ use Rattle.std.proofs.Common.{◌≡◌, ℕ, ◌+◌, List, ◌++◌, length, d
 use Rattle.std.proofs.Math.Seq.{drop-append_seam}
 use Rattle.std.proofs.lemmas.List.{drop-drop}
 use Rattle.std.specs.Io.KnownBytes.{Consumes, IsAtEnd}
-use Rattle.devices.specs.Feed.{left_after, put_back}
+use Rattle.devices.specs.feeds.Feed.{left_after, put_back}
 use Rattle.devices.specs.inner.ReadFeedFields.{HasGiven}
 
 behind : (all bytes rest : List ℕ) (n m : ℕ) → m ≡ n + length bytes → drop n all ≡ bytes ++ rest → rest ≡ drop m all

@@ -1,14 +1,6 @@
 pub mod Count
 pub mod Device
-pub mod Feed
-pub mod FileFeedView
-pub mod FileSinkView
-pub mod MemFeedView
-pub mod MemSinkView
-pub mod ReadFeedView
-pub mod SectionSinkView
 pub mod ShownBytes
-pub mod SinkState
-pub mod SinkSteps
-pub mod Writes
+pub mod feeds
 pub mod inner
+pub mod sinks

@@ -2,10 +2,10 @@
 use Rattle.std.specs.Prelude.{◌≡◌, ℕ, suc, List, [], ◌∷◌, Result, Ok, Err}
 use Rattle.std.proofs.Common.{refl, sym, ap, inl, inr, subst}
 use Rattle.forms.proofs.ShapeFacts.{states_said, fails_said, said_states, said_fails}
-use Rattle.forms.specs.Grammar.{Grammar, placed, read_all, HasFineForms}
-use Rattle.forms.specs.GrammarStates.{AllState, IsFirstFault}
-use Rattle.forms.specs.Shape.{said}
-use Rattle.forms.specs.ShapeStates.{States}
+use Rattle.forms.specs.grammar.Grammar.{Grammar, placed, read_all, HasFineForms}
+use Rattle.forms.specs.grammar.GrammarStates.{AllState, IsFirstFault}
+use Rattle.forms.specs.grammar.Shape.{said}
+use Rattle.forms.specs.grammar.ShapeStates.{States}
 use Rattle.forms.specs.Steps.{◌>>=◌}
 
 pub all_read : {R S K F : Type 0} (grammar : Grammar R S K F) (number : ℕ) (state : S) (rows : List R) (last : S) → HasFineForms grammar

@@ -8,8 +8,8 @@ use Rattle.forms.specs.Field.{Value}
 use Rattle.forms.specs.Fit.{is_fine}
 use Rattle.forms.specs.Read.{read}
 use Rattle.forms.specs.Spelled.{Spell}
-use Rattle.forms.specs.Shape.{Shape, failing, said, unless}
-use Rattle.forms.specs.ShapeStates.{States, Fails}
+use Rattle.forms.specs.grammar.Shape.{Shape, failing, said, unless}
+use Rattle.forms.specs.grammar.ShapeStates.{States, Fails}
 use Rattle.forms.specs.Steps.{◌>>=◌}
 
 -- what states something is read

@@ -8,7 +8,7 @@ use Rattle.forms.specs.FieldFault.{FieldFault}
 use Rattle.forms.specs.FieldFault as fault
 use Rattle.forms.specs.Field.{Field, Stepped, Word, Value, Millionths, Bytes, below, up_to, whole}
 use Rattle.forms.specs.Read.{read}
-use Rattle.forms.specs.Shape.{Shape, check, failing, said}
+use Rattle.forms.specs.grammar.Shape.{Shape, check, failing, said}
 
 abbrev form : List Field
 form = below 10 ∷ up_to 3 2500000 ∷ Word (λ word. bytes_eq word (codes "L")) ∷ []

@@ -4,12 +4,9 @@ pub mod Demands
 pub mod Field
 pub mod FieldFault
 pub mod Fit
-pub mod Grammar
-pub mod GrammarStates
 pub mod Read
-pub mod Shape
-pub mod ShapeStates
 pub mod Spelled
 pub mod Steps
 pub mod Words
 pub mod WrittenValues
+pub mod grammar

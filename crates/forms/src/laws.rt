@@ -9,10 +9,10 @@ ghost use Rattle.forms.specs.Fit.{Fit, is_fine};
 ghost use Rattle.forms.specs.Read.{read};
 ghost use Rattle.forms.specs.Spelled.{Spell};
 ghost use Rattle.forms.specs.WrittenValues.{written};
-ghost use Rattle.forms.specs.Grammar.{Grammar, HasFineForms, read_all};
-ghost use Rattle.forms.specs.GrammarStates.{AllState, IsFirstFault};
-ghost use Rattle.forms.specs.Shape.{Shape, said};
-ghost use Rattle.forms.specs.ShapeStates.{Fails, States};
+ghost use Rattle.forms.specs.grammar.Grammar.{Grammar, HasFineForms, read_all};
+ghost use Rattle.forms.specs.grammar.GrammarStates.{AllState, IsFirstFault};
+ghost use Rattle.forms.specs.grammar.Shape.{Shape, said};
+ghost use Rattle.forms.specs.grammar.ShapeStates.{Fails, States};
 
 /// Texts are read as the values that they spell, and as no others.
 #[tactic(auto, using(crate::proofs::FormFacts::read_spelled, crate::proofs::FormFacts::spelled_read))]

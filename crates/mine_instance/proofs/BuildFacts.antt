@@ -15,7 +15,7 @@ use Rattle.pit_parts.specs.declared.resource.Resource.{Resource}
 use Rattle.precedence.specs.Identifier.{id}
 use Rattle.precedence.specs.Numbering.{IsNumbering, NumberingView}
 use Rattle.precedence.proofs.PlacesWhere.{numbered_more}
-use Rattle.precedence.proofs.RunsOfRows.{range_more}
+use Rattle.precedence.proofs.runs.RunsOfRows.{range_more}
 use Rattle.mine_instance.specs.OfModel.{block_of_id, by_identifier, covers, pair_with, covering}
 
 -- the pairs of one destination more

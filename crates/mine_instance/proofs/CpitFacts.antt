@@ -6,10 +6,10 @@ use Rattle.std.proofs.lemmas.Bool.Decides.{nat_tests}
 use Rattle.std.proofs.lemmas.List.{length-map}
 use Rattle.std.proofs.lemmas.List.Elements.{All-map, All-filter, filter_passes}
 use Rattle.std.proofs.lemmas.List.Kept.{AllPairs-filter}
-use Rattle.mine_instance.specs.CpitKept.{IsCpit}
-use Rattle.mine_instance.specs.CpitOrder.{cpit_coef_before}
+use Rattle.mine_instance.specs.cpit.CpitKept.{IsCpit}
+use Rattle.mine_instance.specs.cpit.CpitOrder.{cpit_coef_before}
 use Rattle.mine_instance.specs.Greatest.{greatest}
-use Rattle.mine_instance.specs.OfCpit.{cpit, is_chosen, without_destination, destination_of}
+use Rattle.mine_instance.specs.cpit.OfCpit.{cpit, is_chosen, without_destination, destination_of}
 use Rattle.mine_instance.specs.Order.{coef_before}
 use Rattle.mine_instance.specs.Valid.{IsValid}
 use Rattle.mine_instance.specs.declared.coefs.coef.Coef.{Coef}

@@ -13,9 +13,9 @@ use Rattle.precedence.proofs.LawFacts.{lie_higher, lists_rise, range_rises}
 use Rattle.pit_parts.specs.declared.resource.Resource.{Resource}
 use Rattle.pit_parts.specs.declared.limit.Limit.{Limit}
 use Rattle.pit_parts.specs.Plan.{PlanParts}
-use Rattle.pit_parts.specs.Formula.{IsRuled}
+use Rattle.pit_parts.specs.formulas.Formula.{IsRuled}
 use Rattle.pit_parts.specs.PlanKept.{IsPlan}
-use Rattle.pit_parts.specs.Worth.{worth, IsWorth}
+use Rattle.pit_parts.specs.formulas.Worth.{worth, IsWorth}
 use Rattle.pit_parts.specs.declared.block.Block.{Block}
 use Rattle.pit_parts.specs.declared.formulas.formula.Formula.{Formula}
 use Rattle.pit_parts.specs.declared.formulas.formula.NamedFormula.{NamedFormula}

@@ -1,16 +1,13 @@
 pub mod BlockValues
 pub mod ByBlock
-pub mod Cpit
-pub mod CpitKept
-pub mod CpitOrder
 pub mod Greatest
 pub mod Groups
 pub mod Instance
-pub mod OfCpit
 pub mod OfModel
 pub mod OneSlope
 pub mod Order
 pub mod Seen
 pub mod Valid
 pub mod WorthsOf
+pub mod cpit
 pub mod inner

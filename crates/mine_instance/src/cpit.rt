@@ -1,7 +1,7 @@
 //! The constrained pit limit problem of an instance.
 
 ghost use Rattle.std.specs.Prelude.{◌≡◌, length};
-ghost use Rattle.mine_instance.specs.CpitKept.{IsCpit};
+ghost use Rattle.mine_instance.specs.cpit.CpitKept.{IsCpit};
 
 use pit_parts::limit::Limit;
 use pit_parts::listed::Listed;
@@ -38,11 +38,11 @@ pub struct Cpit {
 }
 
 impl Model for Cpit {
-    ghost use Rattle.mine_instance.specs.Cpit.{CpitParts};
+    ghost use Rattle.mine_instance.specs.cpit.Cpit.{CpitParts};
 
     ghost Value = { CpitParts };
 
-    ghost use Rattle.mine_instance.specs.CpitKept.{IsCpit, cpit_of};
+    ghost use Rattle.mine_instance.specs.cpit.CpitKept.{IsCpit, cpit_of};
 
     ghost view = { λ c. cpit_of c.name c.rate c.periods c.resources c.values.items
         c.coefs c.limits.items };
@@ -52,7 +52,7 @@ impl Model for Cpit {
 }
 
 impl Cpit {
-    ghost use Rattle.mine_instance.specs.CpitKept.{cpit_of};
+    ghost use Rattle.mine_instance.specs.cpit.CpitKept.{cpit_of};
 
     /// The CPIT of these parts, which must fit one another and keep their ranges and orders.
     pub fn new(

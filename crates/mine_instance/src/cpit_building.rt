@@ -3,7 +3,7 @@
 ghost use Rattle.std.specs.Prelude.{◌≡◌, ◌==◌, ◌<◌, ◌++◌, length, map, filter, All, IfOk, OnOk};
 ghost use Rattle.mine_instance.specs.Greatest.{greatest};
 ghost use Rattle.mine_instance.specs.Groups.{coefs_in};
-ghost use Rattle.mine_instance.specs.OfCpit.{cpit, is_chosen, without_destination};
+ghost use Rattle.mine_instance.specs.cpit.OfCpit.{cpit, is_chosen, without_destination};
 ghost use Rattle.mine_instance.specs.Seen.{seen};
 ghost use Rattle.mine_instance.specs.Valid.{IsValid};
 

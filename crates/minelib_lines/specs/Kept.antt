@@ -4,7 +4,7 @@ use Rattle.pit_units.specs.Decimal.{IsInDecimalRange}
 use Rattle.pit_parts.specs.Name.{is_name}
 use Rattle.pit_parts.specs.declared.limit.Bound.{Bound}
 use Rattle.pit_parts.specs.declared.limit.Bound.TheVariants.{AtMost, AtLeast, Between}
-use Rattle.mine_instance.specs.Cpit.{CpitParts}
+use Rattle.mine_instance.specs.cpit.Cpit.{CpitParts}
 use Rattle.mine_instance.specs.Instance.{Instance}
 
 -- a bound of such numbers

@@ -3,9 +3,9 @@ use Rattle.std.specs.Prelude.{◌≡◌, ℕ, List, length, map, pos, Result, Ok
 use Rattle.std.specs.List.{flat_map}
 use Rattle.forms.specs.Words.{◌>>=◌}
 use Rattle.pit_parts.specs.declared.block.Block.{Block}
-use Rattle.mine_instance.specs.Cpit.{CpitParts}
-use Rattle.mine_instance.specs.CpitKept.{cpit_of}
-use Rattle.mine_instance.specs.OfCpit.{without_destination}
+use Rattle.mine_instance.specs.cpit.Cpit.{CpitParts}
+use Rattle.mine_instance.specs.cpit.CpitKept.{cpit_of}
+use Rattle.mine_instance.specs.cpit.OfCpit.{without_destination}
 use Rattle.mine_instance.specs.OfModel.{instance_with}
 use Rattle.mine_instance.specs.Instance.{Instance}
 use Rattle.minelib_reading.specs.BlockLines.{blocks_in}

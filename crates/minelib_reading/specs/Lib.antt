@@ -7,9 +7,6 @@ pub mod ItemForms
 pub mod ModelLines
 pub mod ModelStates
 pub mod PrecLines
-pub mod SpelledKeys
-pub mod SpelledLines
-pub mod SpelledModel
-pub mod SpelledTexts
 pub mod StatedModel
 pub mod inner
+pub mod spelled

@@ -12,7 +12,7 @@ use Rattle.mine_instance.specs.declared.coefs.coef.Coef.{Coef}
 use Rattle.minelib_reading.specs.HeaderNumbers.{no_key, with_key, count_in, is_given, is_complete, number_said}
 use Rattle.minelib_reading.specs.ItemForms.{coef_form, coef_said, limit_form, limit_said, row_said, values_form}
 use Rattle.minelib_lines.specs.HeaderTable.{field_of, key_word, keys_of}
-use Rattle.minelib_reading.specs.SpelledKeys.{section_text}
+use Rattle.minelib_reading.specs.spelled.SpelledKeys.{section_text}
 use Rattle.text_lines.specs.LineKinds.{text_kinds}
 use Rattle.text_lines.specs.TextLines.{Line, fields_of, lines_in, end_of}
 use Rattle.minelib_reading.specs.declared.model.key.Header.{Header}

@@ -1,7 +1,7 @@
 -- What a model file states, and what that is of an instance and of a constrained pit limit problem.
 use Rattle.std.specs.Prelude.{List, [], ◌∷◌, map, ℤ}
 use Rattle.pit_parts.specs.declared.limit.Limit.{Limit}
-use Rattle.mine_instance.specs.Cpit.{CpitParts}
+use Rattle.mine_instance.specs.cpit.Cpit.{CpitParts}
 use Rattle.mine_instance.specs.declared.coefs.coef.Coef.{Coef}
 use Rattle.mine_instance.specs.Instance.{Instance}
 use Rattle.minelib_lines.specs.LineValues.{StatedHeader, at_only_destination, header_of, header_of_cpit}

@@ -76,7 +76,7 @@ fn block_said(line: &[u8], before: usize) -> Result<Block, TextKind>
 }
 
 #[inline(always)]
-#[tactic(auto, using(crate::proofs::CountedLater::block_read))]
+#[tactic(auto, using(crate::proofs::counts::CountedLater::block_read))]
 fn uncounted_block(line: &[u8], before: usize) -> Result<Block, TextKind>
     ensures value { result ≡ uncounted_block before line.now }
     ensures few { OnOk result (before < MAX_BLOCKS) }
@@ -119,7 +119,7 @@ fn block_with(x: u16, y: u16, z: u16, kg: u64, grade: u64, zone: u8) -> Block
 }
 
 /// The blocks that a text states, by identifier.
-#[tactic(auto, using(crate::proofs::ValidRead::few_blocks))]
+#[tactic(auto, using(crate::proofs::models::ValidRead::few_blocks))]
 pub fn read_blocks(alloc: Global, text: &[u8]) -> Result<Blocks, OrMemory<LineFault>>
     ensures stated { Gives (λ x. x) result (blocks_in text.now) }
     ensures few { IfOk result (λ blocks. length blocks ≤ MAX_BLOCKS) }
@@ -128,7 +128,7 @@ pub fn read_blocks(alloc: Global, text: &[u8]) -> Result<Blocks, OrMemory<LineFa
     Ok(blocks)
 }
 
-#[tactic(auto, using(crate::proofs::SpelledRead::blocks_read))]
+#[tactic(auto, using(crate::proofs::spelled::SpelledRead::blocks_read))]
 fn drafted(alloc: Global, text: &[u8]) -> Result<Blocks, OrMemory<LineFault>>
     ensures { Gives (λ x. x) result (blocks_in text.now) }
 {

@@ -111,7 +111,7 @@ impl TakeItems for CountedItems {
         Ok(())
     }
 
-    #[tactic(auto, using(crate::proofs::CountedFacts::next_place, crate::proofs::CountedFacts::last_added))]
+    #[tactic(auto, using(crate::proofs::counts::CountedFacts::next_place, crate::proofs::counts::CountedFacts::last_added))]
     fn take_coef(&mut self, coef: Coef) -> Result<(), AllocError> {
         self.coefs += 1;
         self.past_coefs = PastCoefs::More(Snapshot::of(&self.past_coefs), Snapshot::of(&coef));

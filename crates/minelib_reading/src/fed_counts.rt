@@ -26,7 +26,7 @@ use text_lines::text_fault::LineFault;
 /// # Errors
 ///
 /// Those of `read_fed`.
-#[tactic(auto, using(crate::proofs::FedAnswers::blocks_told, crate::proofs::FedAnswers::blocks_faulty))]
+#[tactic(auto, using(crate::proofs::counts::FedAnswers::blocks_told, crate::proofs::counts::FedAnswers::blocks_faulty))]
 pub fn count_blocks<F: Feed>(
     alloc: Global,
     feed: &mut F,
@@ -55,7 +55,7 @@ pub fn count_blocks<F: Feed>(
 /// # Errors
 ///
 /// Those of `read_fed`.
-#[tactic(auto, using(crate::proofs::FedAnswers::arcs_told, crate::proofs::FedAnswers::arcs_lacking, crate::proofs::FedAnswers::arcs_faulty))]
+#[tactic(auto, using(crate::proofs::counts::FedAnswers::arcs_told, crate::proofs::counts::FedAnswers::arcs_lacking, crate::proofs::counts::FedAnswers::arcs_faulty))]
 pub fn count_arcs<F: Feed>(
     alloc: Global,
     blocks: usize,
@@ -89,7 +89,7 @@ pub fn count_arcs<F: Feed>(
 /// # Errors
 ///
 /// Those of `read_fed`.
-#[tactic(auto, using(crate::proofs::FedAnswers::model_told, crate::proofs::FedAnswers::model_lacking, crate::proofs::FedAnswers::model_faulty))]
+#[tactic(auto, using(crate::proofs::counts::FedAnswers::model_told, crate::proofs::counts::FedAnswers::model_lacking, crate::proofs::counts::FedAnswers::model_faulty))]
 pub fn count_model<F: Feed>(
     alloc: Global,
     problem: Problem,

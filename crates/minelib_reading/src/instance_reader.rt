@@ -24,7 +24,7 @@ use text_lines::text_fault::{TextFault, TextFile, error_in_file};
 /// - `Fault`: the texts denote no instance. It names the first faulty line: of the blocks, then of the precedences,
 ///   then of the model.
 /// - `OutOfMemory`: memory was refused.
-#[tactic(auto, unfolding(crate::specs::Denotes::denoted), using(crate::proofs::ValidRead::read_valid))]
+#[tactic(auto, unfolding(crate::specs::Denotes::denoted), using(crate::proofs::models::ValidRead::read_valid))]
 pub fn read_instance(
     alloc: Global,
     blocks: &[u8],

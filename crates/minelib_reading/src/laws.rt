@@ -2,8 +2,8 @@
 
 ghost use Rattle.std.specs.Prelude.{◌≡◌, ◌≢◌, ◌↔◌, ◌⊎◌, ℕ, ◌≤◌, [], ◌∷◌, ◌++◌, false, true, List, length, ℤ, Ok, Err};
 ghost use Rattle.forms.specs.Words.{Spell, AllState, IsFirstFault, Value, whole_at, Fails, States};
-ghost use Rattle.mine_instance.specs.Cpit.{CpitParts};
-ghost use Rattle.mine_instance.specs.CpitKept.{IsCpit};
+ghost use Rattle.mine_instance.specs.cpit.Cpit.{CpitParts};
+ghost use Rattle.mine_instance.specs.cpit.CpitKept.{IsCpit};
 ghost use Rattle.mine_instance.specs.Valid.{ArePredsOf, IsValid};
 ghost use Rattle.mine_instance.specs.Order.{coef_before};
 ghost use Rattle.mine_instance.specs.declared.coefs.coef.Coef.{Coef};
@@ -15,8 +15,8 @@ ghost use Rattle.minelib_lines.specs.LineValues.{block_values, preds_values};
 ghost use Rattle.minelib_reading.specs.ModelLines.{ModelDraftView, coef_line, header_line, is_behind, is_next, is_ready, last_of, limit_line, model_in, section_line, values_line};
 ghost use Rattle.minelib_reading.specs.ModelStates.{StateModel, stated_by};
 ghost use Rattle.minelib_reading.specs.PrecLines.{LacksLines, prec_grammar, preds_form, preds_in, preds_of, preds_shape};
-ghost use Rattle.minelib_reading.specs.SpelledModel.{AreModelLines, SpellCoef, SpellLimit, SpellValues};
-ghost use Rattle.minelib_reading.specs.SpelledTexts.{SpellCpit, SpellInstance};
+ghost use Rattle.minelib_reading.specs.spelled.SpelledModel.{AreModelLines, SpellCoef, SpellLimit, SpellValues};
+ghost use Rattle.minelib_reading.specs.spelled.SpelledTexts.{SpellCpit, SpellInstance};
 ghost use Rattle.minelib_reading.specs.StatedModel.{StatedModel};
 ghost use Rattle.minelib_lines.specs.declared.header_key.HeaderKey.{HeaderKey};
 ghost use Rattle.minelib_reading.specs.declared.model.key.Section.{Section};
@@ -83,7 +83,7 @@ pub fn lines_state_what_they_spell()
 {}
 
 /// Where a text is read as blocks, each line that is not skipped states one of them, in order.
-#[tactic(auto, using(crate::proofs::SpelledRead::blocks_spelled))]
+#[tactic(auto, using(crate::proofs::spelled::SpelledRead::blocks_spelled))]
 pub fn block_lines_are_spelled()
     ensures { (text : List ℕ) (blocks : List Block) → blocks_in text ≡ Ok blocks
         → AllState block_grammar 1 [] (lines_in text) blocks }
@@ -135,7 +135,7 @@ pub fn cpits_are_spelled()
 {}
 
 /// Lines that state blocks are read as these blocks, whatever their spelling.
-#[tactic(auto, using(crate::proofs::SpelledRead::blocks_back))]
+#[tactic(auto, using(crate::proofs::spelled::SpelledRead::blocks_back))]
 pub fn spelled_blocks_are_read()
     ensures { (text : List ℕ) (blocks : List Block)
         → AllState block_grammar 1 [] (lines_in text) blocks
@@ -143,7 +143,7 @@ pub fn spelled_blocks_are_read()
 {}
 
 /// Lines that state the predecessors of n blocks, one line for each block, are read as these.
-#[tactic(auto, using(crate::proofs::SpelledRead::lists_back))]
+#[tactic(auto, using(crate::proofs::spelled::SpelledRead::lists_back))]
 pub fn spelled_preds_are_read()
     ensures { (n : ℕ) (text : List ℕ) (lists : List (List ℕ)) → length lists ≡ n
         → AllState (prec_grammar n) 1 [] (lines_in text) lists → preds_in n text ≡ Ok lists }
@@ -151,7 +151,7 @@ pub fn spelled_preds_are_read()
 
 /// The faulty line of a block file is the first that states no block behind those before it. Its kind is that of the
 /// first thing that is asked of it and fails.
-#[tactic(auto, using(crate::proofs::SpelledRead::bad_block))]
+#[tactic(auto, using(crate::proofs::spelled::SpelledRead::bad_block))]
 pub fn faulty_lines_spell_no_block()
     ensures { (text : List ℕ) (fault : LineFault) → blocks_in text ≡ Err fault
         → IsFirstFault block_grammar 1 [] (lines_in text) fault }
@@ -160,7 +160,7 @@ pub fn faulty_lines_spell_no_block()
 /// The fault of a precedence file is one of two. Either its line is the first that states no predecessors behind those
 /// before it, and its kind is that of the first thing that is asked of the line and fails. Or all lines state
 /// predecessors, and lines are lacking at the end.
-#[tactic(auto, using(crate::proofs::SpelledRead::bad_preds))]
+#[tactic(auto, using(crate::proofs::spelled::SpelledRead::bad_preds))]
 pub fn faulty_lines_spell_no_preds()
     ensures { (n : ℕ) (text : List ℕ) (fault : LineFault) → preds_in n text ≡ Err fault
         → IsFirstFault (prec_grammar n) 1 [] (lines_in text) fault ⊎ LacksLines n text fault }

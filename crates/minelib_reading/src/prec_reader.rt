@@ -46,7 +46,7 @@ impl<P: TakePreds> Admit for PrecDraft<P> {
 }
 
 // The predecessors of a line, where so many lines stand before.
-#[tactic(auto, using(crate::proofs::CountedLater::preds_counted, crate::proofs::CountedLater::preds_by_count))]
+#[tactic(auto, using(crate::proofs::counts::CountedLater::preds_counted, crate::proofs::counts::CountedLater::preds_by_count))]
 fn preds_said(
     line: &[u8],
     before: usize,
@@ -67,7 +67,7 @@ fn preds_said(
 }
 
 // The predecessors of a line of two fields or more.
-#[tactic(auto, using(crate::proofs::CountedLater::uncounted_preds_read))]
+#[tactic(auto, using(crate::proofs::counts::CountedLater::uncounted_preds_read))]
 fn uncounted_preds(
     line: &[u8],
     before: usize,
@@ -95,7 +95,7 @@ fn uncounted_preds(
 }
 
 // Whether no number stands twice, and `own` not at all. Most lists rise, which is quicker to see than what is marked.
-#[tactic(auto, using(crate::proofs::MarkFacts::rising_differ))]
+#[tactic(auto, using(crate::proofs::counts::MarkFacts::rising_differ))]
 fn are_others(ids: &[u32], own: u32, marks: &mut Marks) -> Result<bool, AllocError>
     requires { All (λ id. id < marks.old) ids.now }
     ensures value { IfOk result
@@ -163,7 +163,7 @@ impl<P: TakePreds + Drop> PrecDraft<P> {
 }
 
 /// The predecessors that a text states, of so many blocks.
-#[tactic(auto, using(crate::proofs::SpelledRead::preds_read))]
+#[tactic(auto, using(crate::proofs::spelled::SpelledRead::preds_read))]
 pub fn read_preds(alloc: Global, blocks: usize, text: &[u8]) -> Result<Preds, OrMemory<LineFault>>
     requires { blocks ≤ MAX_BLOCKS }
     ensures { Gives (λ lists. lists) result (preds_in blocks text.now) }

@@ -14,11 +14,11 @@ use Rattle.minelib_lines.specs.LineValues.{block_values, preds_values}
 use Rattle.minelib_lines.specs.Lines.{lines_from, text_of}
 use Rattle.minelib_reading.specs.BlockLines.{block_form}
 use Rattle.minelib_reading.specs.PrecLines.{preds_form}
-use Rattle.minelib_reading.specs.SpelledTexts.{SpellBlocks, SpellPreds}
-use Rattle.minelib_reading.proofs.BlockLineFacts.{block_fits}
-use Rattle.minelib_reading.proofs.FormFields.{ArePlain}
-use Rattle.minelib_reading.proofs.Places.{is_place, stands_there}
-use Rattle.minelib_reading.proofs.PrecLineFacts.{fine, wholes_fit}
+use Rattle.minelib_reading.specs.spelled.SpelledTexts.{SpellBlocks, SpellPreds}
+use Rattle.minelib_reading.proofs.lines.BlockLineFacts.{block_fits}
+use Rattle.minelib_reading.proofs.lines.FormFields.{ArePlain}
+use Rattle.minelib_reading.proofs.models.Places.{is_place, stands_there}
+use Rattle.minelib_reading.proofs.lines.PrecLineFacts.{fine, wholes_fit}
 use Rattle.minelib_writing.specs.Written.{block_fields, prec_fields}
 use Rattle.text_lines.specs.TextLines.{fields_of}
 use Rattle.minelib_text.proofs.LinesBack.{text_spells}

@@ -21,13 +21,13 @@ use Rattle.minelib_lines.specs.declared.header_key.HeaderKey.TheVariants as key
 use Rattle.minelib_lines.specs.declared.problem.Problem.{Problem}
 use Rattle.minelib_reading.specs.declared.model.key.Section.{Section}
 use Rattle.minelib_reading.specs.declared.model.key.Section.TheVariants.{Heading, Objective, Coefs, Limits}
-use Rattle.minelib_reading.proofs.HeaderFacts.{KeepsOwn, each_with, each_key, all_given, contains_cases, first_given}
-use Rattle.minelib_reading.proofs.SpelledModelBack.{key_states, section_states, told, values_states}
-use Rattle.minelib_reading.proofs.SpelledModelRead.{At, Now}
+use Rattle.minelib_reading.proofs.keys.HeaderFacts.{KeepsOwn, each_with, each_key, all_given, contains_cases, first_given}
+use Rattle.minelib_reading.proofs.spelled.SpelledModelBack.{key_states, section_states, told, values_states}
+use Rattle.minelib_reading.proofs.spelled.SpelledModelRead.{At, Now}
 use Rattle.minelib_reading.specs.ModelStates.{header_stated}
-use Rattle.minelib_reading.specs.SpelledKeys.{section_text}
+use Rattle.minelib_reading.specs.spelled.SpelledKeys.{section_text}
 use Rattle.text_lines.proofs.PlainText.{IsField}
-use Rattle.minelib_reading.proofs.LinesThen.{heading}
+use Rattle.minelib_reading.proofs.lines.LinesThen.{heading}
 use Rattle.minelib_text.proofs.KeysBack.{IsHeader, header_line, section_line, word_field}
 use Rattle.minelib_text.proofs.ModelBack.{values_line}
 

@@ -2,20 +2,20 @@
 use Rattle.std.specs.Prelude.{◌≡◌, ℕ, suc, ◌≤◌, false, List, [], ◌∷◌, ◌++◌, Result, Ok, Err, ◌⊎◌}
 use Rattle.std.proofs.Common.{refl, sym, ◌∙◌, ap, subst, inl, inr, append_assoc}
 use Rattle.forms.proofs.GrammarFacts.{all_read, fault_read}
-use Rattle.minelib_reading.proofs.Finished.{finished_fails}
+use Rattle.minelib_reading.proofs.models.Finished.{finished_fails}
 use Rattle.forms.specs.Words.{read_all, AllState, IsFirstFault, Fails}
 use Rattle.minelib_reading.specs.ModelLines.{ModelDraftView, blank_model, is_whole, model_grammar, model_in, model_line}
 use Rattle.minelib_reading.specs.ModelStates.{stated_by}
-use Rattle.minelib_reading.specs.SpelledModel.{BeginModel, EndsEarly, IsFirstSpoiled}
+use Rattle.minelib_reading.specs.spelled.SpelledModel.{BeginModel, EndsEarly, IsFirstSpoiled}
 use Rattle.text_lines.specs.TextLines.{Line, lines_in}
 use Rattle.minelib_lines.specs.declared.problem.Problem.{Problem}
 use Rattle.text_lines.specs.declared.text_fault.LineFault.{LineFault}
 use Rattle.text_lines.specs.declared.text_fault.TextKind.{TextKind}
 use Rattle.minelib_text.proofs.Completed.{completed}
-use Rattle.minelib_reading.proofs.ModelShapes.{all_fine}
-use Rattle.minelib_reading.proofs.LinesThen.{joined}
-use Rattle.minelib_reading.proofs.SpelledModelBack.{spelled_stated}
-use Rattle.minelib_reading.proofs.SpelledModelRead.{lines_now, stated_spelled}
+use Rattle.minelib_reading.proofs.models.ModelShapes.{all_fine}
+use Rattle.minelib_reading.proofs.lines.LinesThen.{joined}
+use Rattle.minelib_reading.proofs.spelled.SpelledModelBack.{spelled_stated}
+use Rattle.minelib_reading.proofs.spelled.SpelledModelRead.{lines_now, stated_spelled}
 use Rattle.text_lines.proofs.ReadSteps.{same_ok}
 
 -- where lines fail

@@ -24,12 +24,12 @@ use Rattle.minelib_lines.specs.declared.header_key.HeaderKey.TheVariants as key
 use Rattle.minelib_lines.specs.declared.problem.Problem.{Problem}
 use Rattle.minelib_lines.specs.declared.problem.Problem.TheVariants.{Pcpsp, Cpit}
 use Rattle.minelib_writing.specs.Written.{key_line, key_lines}
-use Rattle.minelib_reading.proofs.FormFields.{ArePlain, spelled_fields}
-use Rattle.minelib_reading.proofs.HeaderFacts.{contains_cases, each_key}
-use Rattle.minelib_reading.proofs.ModelShapes.{field_fine}
-use Rattle.minelib_reading.proofs.PrecTests.{pairs_differ}
-use Rattle.minelib_reading.specs.SpelledKeys.{IsKeyLine}
-use Rattle.minelib_reading.specs.SpelledModel.{AreHeaderLines, IsHeaderLine}
+use Rattle.minelib_reading.proofs.lines.FormFields.{ArePlain, spelled_fields}
+use Rattle.minelib_reading.proofs.keys.HeaderFacts.{contains_cases, each_key}
+use Rattle.minelib_reading.proofs.models.ModelShapes.{field_fine}
+use Rattle.minelib_reading.proofs.lines.PrecTests.{pairs_differ}
+use Rattle.minelib_reading.specs.spelled.SpelledKeys.{IsKeyLine}
+use Rattle.minelib_reading.specs.spelled.SpelledModel.{AreHeaderLines, IsHeaderLine}
 use Rattle.minelib_text.proofs.LinesBack.{AreWritten, none_written, numbered, then_written}
 use Rattle.minelib_text.proofs.PlainLines.{inner_field, only_field}
 

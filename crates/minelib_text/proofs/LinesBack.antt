@@ -8,7 +8,7 @@ use Rattle.std.proofs.lemmas.List.{length_push}
 use Rattle.std.proofs.lemmas.List.Elements.{All-cons, All-head, All-nil, All-tail, All-weaker}
 use Rattle.std.proofs.lemmas.List.Sums.{AllPass-from_list_all}
 use Rattle.minelib_lines.specs.Lines.{text_of, line_of, lines_from}
-use Rattle.minelib_reading.specs.SpelledLines.{AreLines}
+use Rattle.minelib_reading.specs.spelled.SpelledLines.{AreLines}
 use Rattle.text_lines.specs.TextLines.{Line, without_mark, is_skipped, numbered_lines, lines_in}
 use Rattle.text_lines.specs.TextParts.{IsLineText}
 use Rattle.text_lines.proofs.PlainText.{is_inner, IsLine, not_lf, not_cr, not_mark}

@@ -12,13 +12,13 @@ use Rattle.minelib_lines.specs.Lines.{text_of, line_of, lines_from}
 use Rattle.minelib_lines.specs.LineValues.{StatedHeader, coef_values, limit_values, values_values}
 use Rattle.minelib_lines.specs.declared.problem.Problem.{Problem}
 use Rattle.minelib_lines.specs.declared.problem.Problem.TheVariants.{Pcpsp, Cpit}
-use Rattle.minelib_reading.proofs.CoefLineFacts.{coef_fine, coef_fits, coef_plain}
-use Rattle.minelib_reading.proofs.LimitLineFacts.{bound_plain, limit_fine, limit_fits}
-use Rattle.minelib_reading.proofs.Places.{is_place, item_there}
-use Rattle.minelib_reading.proofs.ValidModel.{IsModel}
-use Rattle.minelib_reading.proofs.ValuesLineFacts.{many_fine, many_plain, values_fits}
+use Rattle.minelib_reading.proofs.lines.CoefLineFacts.{coef_fine, coef_fits, coef_plain}
+use Rattle.minelib_reading.proofs.lines.LimitLineFacts.{bound_plain, limit_fine, limit_fits}
+use Rattle.minelib_reading.proofs.models.Places.{is_place, item_there}
+use Rattle.minelib_reading.proofs.models.ValidModel.{IsModel}
+use Rattle.minelib_reading.proofs.lines.ValuesLineFacts.{many_fine, many_plain, values_fits}
 use Rattle.minelib_reading.specs.ItemForms.{coef_form, limit_form, values_form}
-use Rattle.minelib_reading.specs.SpelledModel.{AreModelLines, HasDestination, IsSingle, SpellCoef, SpellLimit, SpellValues}
+use Rattle.minelib_reading.specs.spelled.SpelledModel.{AreModelLines, HasDestination, IsSingle, SpellCoef, SpellLimit, SpellValues}
 use Rattle.minelib_reading.specs.StatedModel.{StatedModel}
 use Rattle.minelib_writing.specs.Written.{value_fields, coef_fields, limit_fields, key_lines, section_lines}
 use Rattle.text_lines.specs.TextLines.{Line, fields_of, lines_in}

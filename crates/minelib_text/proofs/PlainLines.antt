@@ -5,7 +5,7 @@ use Rattle.std.proofs.lemmas.Bool.{and_parts}
 use Rattle.forms.proofs.FormFacts.{spell_written}
 use Rattle.forms.specs.Words.{Field, Value, Fit, Spell, is_fine, written}
 use Rattle.minelib_lines.specs.Lines.{line_of}
-use Rattle.minelib_reading.proofs.FormFields.{ArePlain, spelled_fields}
+use Rattle.minelib_reading.proofs.lines.FormFields.{ArePlain, spelled_fields}
 use Rattle.text_lines.specs.TextLines.{is_skipped, fields_of}
 use Rattle.text_lines.proofs.PlainText.{EachField, IsField, IsLine, all_parts, all_weaker, first_field, first_read, is_inner, is_plain, plain_inner}
 

@@ -5,7 +5,7 @@ use Rattle.mine_instance.specs.Valid.{IsValid, AreCoefs}
 use Rattle.mine_instance.specs.Instance.{Instance}
 use Rattle.minelib_reading.specs.Denotes.{Denotes, DenotesCpit}
 use Rattle.minelib_reading.specs.StatedModel.{model_of, alone, model_of_cpit}
-use Rattle.minelib_reading.proofs.SpelledDenotes.{spelled_denoted, spelled_cpit}
+use Rattle.minelib_reading.proofs.spelled.SpelledDenotes.{spelled_denoted, spelled_cpit}
 use Rattle.pit_units.specs.Decimal.{IsInDecimalRange}
 use Rattle.minelib_lines.specs.Kept.{IsKept, IsKeptCpit}
 use Rattle.minelib_lines.specs.declared.problem.Problem.TheVariants.{Pcpsp, Cpit}
@@ -14,9 +14,9 @@ use Rattle.minelib_text.proofs.BlocksBack.{blocks_back, preds_back}
 use Rattle.minelib_text.proofs.ModelBack.{model_back, IsWritable}
 use Rattle.std.proofs.lemmas.List.{get_or-map, length-map}
 use Rattle.std.proofs.lemmas.List.Elements.{All-map, All-nil, All-cons}
-use Rattle.mine_instance.specs.Cpit.{CpitParts}
-use Rattle.mine_instance.specs.CpitKept.{IsCpit}
-use Rattle.mine_instance.specs.OfCpit.{without_destination}
+use Rattle.mine_instance.specs.cpit.Cpit.{CpitParts}
+use Rattle.mine_instance.specs.cpit.CpitKept.{IsCpit}
+use Rattle.mine_instance.specs.cpit.OfCpit.{without_destination}
 use Rattle.minelib_lines.specs.Lines.{line_of, lines_from}
 use Rattle.minelib_lines.specs.LineValues.{at_only_destination}
 

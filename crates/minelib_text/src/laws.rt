@@ -2,8 +2,8 @@
 
 ghost use Rattle.std.specs.Prelude.{◌≡◌, ◌⊎◌, ℕ, ◌≤◌, ◌++◌, ◌∷◌, [], All, true, List, length, Err};
 ghost use Rattle.forms.specs.Words.{IsFirstFault};
-ghost use Rattle.mine_instance.specs.Cpit.{CpitParts};
-ghost use Rattle.mine_instance.specs.CpitKept.{IsCpit};
+ghost use Rattle.mine_instance.specs.cpit.Cpit.{CpitParts};
+ghost use Rattle.mine_instance.specs.cpit.CpitKept.{IsCpit};
 ghost use Rattle.mine_instance.specs.OfModel.{instance};
 ghost use Rattle.mine_instance.specs.OneSlope.{instance_by};
 ghost use Rattle.mine_instance.specs.Valid.{IsValid};
@@ -13,7 +13,7 @@ ghost use Rattle.minelib_lines.specs.Kept.{IsKept, IsKeptCpit};
 ghost use Rattle.minelib_reading.specs.ModelLines.{blank_model, model_grammar, model_in};
 ghost use Rattle.minelib_text.specs.SameTexts.{HaveSameTexts};
 ghost use Rattle.minelib_lines.specs.Lines.{text_of};
-ghost use Rattle.minelib_reading.specs.SpelledModel.{EndsEarly, IsFirstSpoiled};
+ghost use Rattle.minelib_reading.specs.spelled.SpelledModel.{EndsEarly, IsFirstSpoiled};
 ghost use Rattle.text_lines.specs.TextLines.{fields_of, is_ended, lines_in, lines_of};
 ghost use Rattle.text_lines.specs.TextParts.{AreBlanks, IsFieldText, IsLineText};
 ghost use Rattle.minelib_writing.specs.Written.{text_blocks, text_prec, text_pcpsp, text_cpit};

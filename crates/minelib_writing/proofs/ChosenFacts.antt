@@ -4,7 +4,7 @@ use Rattle.std.specs.Prelude.{ℤ, filter}
 use Rattle.std.proofs.lemmas.List.{length-map}
 use Rattle.mine_instance.specs.Greatest.{greatest}
 use Rattle.mine_instance.specs.Instance.{Instance}
-use Rattle.mine_instance.specs.OfCpit.{cpit, is_chosen, without_destination}
+use Rattle.mine_instance.specs.cpit.OfCpit.{cpit, is_chosen, without_destination}
 use Rattle.mine_instance.specs.Valid.{IsValid}
 use Rattle.minelib_lines.specs.HeaderTable.{key_value, keys_of, type_text}
 use Rattle.minelib_lines.specs.LineValues.{header_of}

@@ -16,7 +16,7 @@ use Rattle.mine_instance.specs.declared.coefs.coef.Coef.{Coef}
 use Rattle.minelib_writing.specs.declared.lines.coefs.CoefForm.TheVariants.{OfChosen}
 use Rattle.minelib_writing.specs.inner.CoefParts.{coef_part, coef_text, cpit_coef_text, has_values}
 use Rattle.minelib_writing.proofs.FieldsWritten.{whole_written}
-use Rattle.minelib_writing.proofs.OneDigit.{one_digit}
+use Rattle.minelib_writing.proofs.numbers.OneDigit.{one_digit}
 
 -- the line of a coefficient, whose destination and resource are digits
 pub coef_line : (c : Coef) → c.d < 10 → c.r < 10

@@ -1,13 +1,11 @@
 pub mod BestFacts
-pub mod CentsFacts
 pub mod ChosenFacts
 pub mod CoefFacts
-pub mod Digits
 pub mod FieldsWritten
 pub mod KeptFacts
 pub mod LineFacts
-pub mod OneDigit
 pub mod PartsWritten
 pub mod RunCounts
 pub mod SectionsWritten
 pub mod SpacedFacts
+pub mod numbers

@@ -4,9 +4,9 @@ use Rattle.std.specs.List.{concat}
 use Rattle.std.proofs.lemmas.List.{take-append-drop}
 use Rattle.std.proofs.lemmas.List.Folds.{concat-append}
 use Rattle.std.proofs.Math.Seq.{take-add}
-use Rattle.devices.specs.SinkState.{SinkState}
-use Rattle.devices.specs.SinkSteps.{IsAppended, IsAppendCut}
-use Rattle.devices.specs.Writes.{IsWrittenOn}
+use Rattle.devices.specs.sinks.SinkState.{SinkState}
+use Rattle.devices.specs.sinks.SinkSteps.{IsAppended, IsAppendCut}
+use Rattle.devices.specs.sinks.Writes.{IsWrittenOn}
 use Rattle.devices.proofs.Fronts.{cut_before, cut_then, written_then}
 use Rattle.minelib_writing.proofs.SectionsWritten.{held_cut}
 

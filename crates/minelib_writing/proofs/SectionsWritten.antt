@@ -5,11 +5,11 @@ use Rattle.std.proofs.lemmas.Result.{MatchResult-weaker}
 use Rattle.std.specs.Prelude.{Result}
 use Rattle.std.proofs.Math.Seq.{take-add}
 use Rattle.minelib_lines.specs.Lines.{text_of}
-use Rattle.devices.specs.SinkState.{SinkState}
-use Rattle.devices.specs.SinkSteps.{IsAppended, IsAppendCut}
+use Rattle.devices.specs.sinks.SinkState.{SinkState}
+use Rattle.devices.specs.sinks.SinkSteps.{IsAppended, IsAppendCut}
 use Rattle.devices.specs.declared.sinks.sink.SinkFault.{SinkFault}
 use Rattle.pit_units.specs.declared.or_memory.OrMemory.{OrMemory}
-use Rattle.devices.specs.Writes.{IsWrittenOn, WritesOn}
+use Rattle.devices.specs.sinks.Writes.{IsWrittenOn, WritesOn}
 use Rattle.devices.proofs.Fronts.{cut_before, cut_then, written_then}
 pub use Rattle.devices.proofs.Fronts.{buffered, nothing_put}
 

@@ -1,6 +1,6 @@
 -- The texts of an instance by their names.
 use Rattle.std.specs.Prelude.{ℕ, List, [], ◌∷◌, codes}
-use Rattle.mine_instance.specs.OfCpit.{cpit}
+use Rattle.mine_instance.specs.cpit.OfCpit.{cpit}
 use Rattle.mine_instance.specs.Instance.{Instance}
 use Rattle.minelib_writing.specs.Written.{text_blocks, text_prec, text_upit, text_pcpsp, text_cpit}
 use Rattle.minelib_writing.specs.declared.text_name.TextName.{TextName}

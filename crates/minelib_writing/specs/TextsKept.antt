@@ -1,7 +1,7 @@
 -- What is known of an instance once one of its texts is written.
 use Rattle.std.specs.Prelude.{⊤}
-use Rattle.mine_instance.specs.CpitKept.{IsCpit}
-use Rattle.mine_instance.specs.OfCpit.{cpit}
+use Rattle.mine_instance.specs.cpit.CpitKept.{IsCpit}
+use Rattle.mine_instance.specs.cpit.OfCpit.{cpit}
 use Rattle.mine_instance.specs.Instance.{Instance}
 use Rattle.minelib_lines.specs.Kept.{IsKept, IsKeptCpit}
 use Rattle.minelib_writing.specs.declared.text_name.TextName.{TextName}

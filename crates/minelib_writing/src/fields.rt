@@ -25,7 +25,7 @@ pub fn put_text(out: &mut Vec<u8>, text: &[u8], end: u8) -> Result<(), AllocErro
 
 /// Appends a whole number.
 #[inline(always)]
-#[tactic(auto, using(crate::proofs::OneDigit::one_digit))]
+#[tactic(auto, using(crate::proofs::numbers::OneDigit::one_digit))]
 pub fn put_whole(out: &mut Vec<u8>, number: u64) -> Result<(), AllocError>
     ensures { OnOk result (out.new.items ≡ out.old.items ++ decimal number) }
 {

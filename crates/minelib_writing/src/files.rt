@@ -2,10 +2,10 @@
 //! is as it was, or it was begun and holds the front of the text; after `SinkFailed` it refused one call, and after `OutOfMemory` none.
 
 ghost use Rattle.std.specs.Prelude.{◌<◌, length, All, OnOk, ⊤};
-ghost use Rattle.devices.specs.Writes.{Writes};
+ghost use Rattle.devices.specs.sinks.Writes.{Writes};
 ghost use Rattle.mine_instance.specs.Seen.{seen};
-ghost use Rattle.mine_instance.specs.CpitKept.{IsCpit};
-ghost use Rattle.mine_instance.specs.OfCpit.{cpit as instance_cpit};
+ghost use Rattle.mine_instance.specs.cpit.CpitKept.{IsCpit};
+ghost use Rattle.mine_instance.specs.cpit.OfCpit.{cpit as instance_cpit};
 ghost use Rattle.mine_instance.specs.Valid.{IsValid};
 ghost use Rattle.minelib_lines.specs.Kept.{IsKept, IsKeptCpit};
 ghost use Rattle.minelib_writing.specs.Texts.{text_named};

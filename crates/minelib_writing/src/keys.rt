@@ -5,7 +5,7 @@ ghost use Rattle.forms.specs.Words.{written_value};
 ghost use Rattle.minelib_lines.specs.KeyParts.{value_in};
 ghost use Rattle.minelib_lines.specs.Lines.{text_of};
 ghost use Rattle.minelib_writing.specs.Written.{key_line, key_lines};
-ghost use Rattle.devices.specs.Writes.{WritesOn};
+ghost use Rattle.devices.specs.sinks.Writes.{WritesOn};
 
 use crate::fields::{put_decimal_to, put_text, put_whole_to};
 use devices::sinks::sink::Sink;

@@ -4,8 +4,8 @@ ghost use Rattle.std.specs.Prelude.{◌≡◌, ◌+◌, ◌<◌, ◌≤◌, ℕ,
 ghost use Rattle.std.specs.List.{concat};
 ghost use Rattle.minelib_lines.specs.Lines.{text_of};
 ghost use Rattle.minelib_writing.specs.inner.KeptParts.{HoldsFrom};
-ghost use Rattle.devices.specs.SinkSteps.{refusals, IsAppendCut};
-ghost use Rattle.devices.specs.Writes.{IsWrittenOn, WritesOn};
+ghost use Rattle.devices.specs.sinks.SinkSteps.{refusals, IsAppendCut};
+ghost use Rattle.devices.specs.sinks.Writes.{IsWrittenOn, WritesOn};
 
 use crate::fields::put_text;
 use devices::sinks::sink::Sink;

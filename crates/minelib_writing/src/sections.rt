@@ -4,7 +4,7 @@ ghost use Rattle.std.specs.Prelude.{OnOk, length};
 ghost use Rattle.minelib_lines.specs.Lines.{text_of};
 ghost use Rattle.minelib_writing.specs.Written.{section_lines};
 ghost use Rattle.minelib_writing.specs.inner.KeptParts.{HoldsFrom};
-ghost use Rattle.devices.specs.Writes.{WritesOn};
+ghost use Rattle.devices.specs.sinks.Writes.{WritesOn};
 
 use crate::parts::{Parted, write_titled};
 use devices::sinks::sink::Sink;

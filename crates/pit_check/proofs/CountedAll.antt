@@ -2,7 +2,7 @@
 use Rattle.std.specs.Prelude.{◌≡◌, ℕ, ◌≤◌, List, [], length, Option, None, Some, IfSome, Result, Ok, Err}
 use Rattle.std.proofs.Common.{refl, sym, ap, arith, map}
 use Rattle.std.proofs.lemmas.List.{length-map}
-use Rattle.mine_instance.specs.OfCpit.{without_destination}
+use Rattle.mine_instance.specs.cpit.OfCpit.{without_destination}
 use Rattle.forms.specs.Words.{◌>>=◌}
 use Rattle.minelib_reading.specs.BlockLines.{blocks_in}
 use Rattle.minelib_reading.specs.Denotes.{cpit_denoted, denoted, instance_read}

@@ -1,7 +1,7 @@
 -- A compile, step by step: what the feeds and the run say of it.
 use Rattle.std.proofs.Common.{◌≡◌, ℕ, Bool, List, [], ◌∷◌, map, take, Option, Result, Ok, Err, inl, inr, refl, sym, subst}
 use Rattle.std.specs.List.{AllZip}
-use Rattle.devices.specs.FileSinkView.{unbegun}
+use Rattle.devices.specs.sinks.FileSinkView.{unbegun}
 use Rattle.devices.specs.declared.feeds.feed.FeedFault.{FeedFault}
 use Rattle.minelib_writing.specs.Texts.{ending_of}
 use Rattle.pit_compile.specs.declared.refusal.Refusal.{Refusal}

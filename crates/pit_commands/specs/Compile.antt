@@ -3,7 +3,7 @@ use Rattle.std.specs.Prelude.{◌≡◌, ℕ, ◌⊎◌, Bool, List, [], ◌∷�
 use Rattle.std.specs.declared.alloc.Global.{Global}
 use Rattle.std.specs.Fmt.{decimal}
 use Rattle.std.specs.List.{AllZip, sum_by}
-use Rattle.devices.specs.FileSinkView.{FileSinkView, file_told, unbegun}
+use Rattle.devices.specs.sinks.FileSinkView.{FileSinkView, file_told, unbegun}
 use Rattle.devices.specs.declared.feeds.feed.FeedFault.{FeedFault}
 use Rattle.lane.specs.MessageKinds.{row_count}
 use Rattle.lane.specs.Whole.{GatheredView}

@@ -4,7 +4,7 @@ ghost use Rattle.std.specs.Prelude.{◌≡◌, string_bytes, IfOk};
 ghost use Rattle.minelib_writing.specs.Texts.{ending_of};
 ghost use Rattle.minelib_writing.specs.declared.text_name.TextName.{TextName as AName};
 ghost use Rattle.pit_compile.specs.Sinks.{sink_of};
-ghost use Rattle.devices.specs.FileSinkView.{unbegun};
+ghost use Rattle.devices.specs.sinks.FileSinkView.{unbegun};
 ghost use Rattle.pit_edge.specs.OpenedFile.{path_to};
 
 use devices::sinks::file_sink::FileSink;

@@ -5,9 +5,9 @@ use Rattle.std.proofs.lemmas.List.{drop_more, get_or-drop, get_or-take, length-d
 use Rattle.std.proofs.lemmas.List.Elements.{All-from_get_or, All-from_recursion, All-head, All-more, All-rest, recursion_from_All}
 use Rattle.std.proofs.lemmas.List.Kept.{AllPairs-cons}
 use Rattle.mine_instance.specs.Instance.{Instance}
-use Rattle.devices.specs.SinkState.{SinkState, IsWritten, IsCutOff}
+use Rattle.devices.specs.sinks.SinkState.{SinkState, IsWritten, IsCutOff}
 use Rattle.minelib_writing.specs.Texts.{all_texts, text_named}
-use Rattle.devices.specs.Writes.{Writes}
+use Rattle.devices.specs.sinks.Writes.{Writes}
 use Rattle.minelib_writing.specs.declared.text_name.TextName.{TextName}
 use Rattle.minelib_writing.specs.declared.text_name.TextName.TheVariants.{Blocks}
 use Rattle.devices.specs.declared.sinks.sink.SinkFault.{SinkFault}

@@ -5,7 +5,7 @@ use Rattle.pit_compile.specs.Compiling.{IsCompiled, IsNotCompiled}
 use Rattle.pit_compile.specs.Run.{IsRefused}
 use Rattle.pit_compile.specs.SinkAnswers.{AreCutOff}
 use Rattle.pit_compile.specs.Sinks.{AreCutOffAt}
-use Rattle.devices.specs.SinkState.{SinkState}
+use Rattle.devices.specs.sinks.SinkState.{SinkState}
 use Rattle.minelib_writing.specs.declared.text_name.TextName.{TextName}
 use Rattle.mine_instance.specs.Instance.{Instance}
 use Rattle.pit_compile.specs.declared.compiling.Compiled.{Compiled}

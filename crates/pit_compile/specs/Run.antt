@@ -5,7 +5,7 @@ use Rattle.pit_parts.specs.Plan.{PlanParts}
 use Rattle.pit_parts.specs.declared.formulas.formula.Formula.{Formula}
 use Rattle.pit_parts.specs.declared.settings.Settings.{Settings as Chosen}
 use Rattle.pit_compile.specs.ZoneFiles.{AreGiven, HasPassed, IsFeedFault, IsVerdict, instance_from}
-use Rattle.devices.specs.SinkState.{SinkState}
+use Rattle.devices.specs.sinks.SinkState.{SinkState}
 use Rattle.minelib_writing.specs.declared.text_name.TextName.{TextName}
 use Rattle.pit_compile.specs.Settings.{IsSettingsFault}
 use Rattle.pit_compile.specs.Sinks.{AreWritten, AreCutOffAt}

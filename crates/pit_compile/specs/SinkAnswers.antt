@@ -1,6 +1,6 @@
 -- The answer of a run by the sinks that it wrote to.
 use Rattle.mine_instance.specs.Instance.{Instance}
-use Rattle.devices.specs.SinkState.{SinkState}
+use Rattle.devices.specs.sinks.SinkState.{SinkState}
 use Rattle.minelib_writing.specs.declared.text_name.TextName.{TextName}
 use Rattle.pit_compile.specs.declared.refusal.Refusal.{Refusal}
 use Rattle.pit_compile.specs.declared.refusal.Refusal.TheVariants.{Settings, NoThread, FeedFailed, TooLong, Row, Same, SinkFailed, OutOfMemory}

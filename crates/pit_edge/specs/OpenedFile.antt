@@ -1,6 +1,6 @@
 -- A file by the path that it is opened by.
 use Rattle.std.specs.Prelude.{◌≡◌, ℕ, List, ◌∷◌, ◌++◌, Bool, false, Option, None, Result, Ok, Err}
-use Rattle.devices.specs.FileFeedView.{FileFeedView}
+use Rattle.devices.specs.feeds.FileFeedView.{FileFeedView}
 use Rattle.devices.specs.declared.feeds.feed.FeedFault.{FeedFault}
 
 -- the path of a file of an instance: BASE, a point and the file's ending

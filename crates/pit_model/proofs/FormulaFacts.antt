@@ -3,10 +3,10 @@ use Rattle.std.specs.Prelude.{◌≡◌, ℕ, zero, suc, ◌-◌, ◌/◌, ◌^�
 use Rattle.std.proofs.Common.{refl, arith, leb-true}
 use Rattle.std.proofs.lemmas.List.Elements.{All-nil, All-cons}
 use Rattle.forms.specs.Words.{Field, Value, is_fine, Fit, Check, check, failing}
-use Rattle.pit_parts.specs.BandsKept.{AreBands, IsBand, starts_rise}
+use Rattle.pit_parts.specs.formulas.BandsKept.{AreBands, IsBand, starts_rise}
 use Rattle.pit_model.specs.FormulaShapes.{bands_form, bands_of, formula_shape}
 use Rattle.pit_model.specs.PlanCells.{a_recovery, a_start}
-use Rattle.pit_parts.specs.Formula.{IsRuled}
+use Rattle.pit_parts.specs.formulas.Formula.{IsRuled}
 use Rattle.pit_model.specs.declared.draft.formulas.FormulaKey.{FormulaKey}
 use Rattle.pit_model.specs.declared.draft.formulas.FormulaKey.TheVariants as key
 use Rattle.pit_model.specs.declared.plan_fault.PlanFaultKind.{PlanFaultKind}

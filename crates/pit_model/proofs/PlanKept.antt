@@ -11,7 +11,7 @@ use Rattle.forms.specs.Words.{Field, Word, Value, Millionths, Bytes, millionths,
 use Rattle.records.specs.RecordCells.{cell_at, cells_of}
 use Rattle.pit_model.specs.inner.DraftFields.{KeepsStated}
 use Rattle.pit_parts.specs.Plan.{PlanParts}
-use Rattle.pit_parts.specs.Formula.{IsRuled}
+use Rattle.pit_parts.specs.formulas.Formula.{IsRuled}
 use Rattle.pit_parts.specs.PlanKept.{plan_of, AreCovers, AreTonnes, IsBound, IsCone, IsGrid, IsPlan, IsSlope, IsTonnes, RiseStrictly, has_repeat, is_turned}
 use Rattle.pit_model.specs.PlanCells.{a_bound, a_period_count, a_rate}
 use Rattle.pit_model.specs.FormulaShapes.{formula_shape}

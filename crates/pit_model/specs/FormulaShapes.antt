@@ -2,7 +2,7 @@
 -- and the formula.
 use Rattle.std.specs.Prelude.{ℕ, zero, suc, ◌-◌, ◌/◌, ◌^◌, nat_le, List, [], ◌∷◌, ◌++◌, length, drop, unsigned_abs, Option, Some, None, codes, if◌then◌else◌}
 use Rattle.forms.specs.Words.{Field, Value, millionths, whole_at, Check, check}
-use Rattle.pit_parts.specs.BandsKept.{starts_rise}
+use Rattle.pit_parts.specs.formulas.BandsKept.{starts_rise}
 use Rattle.pit_model.specs.PlanCells.{a_cost, a_name, a_price, a_recovery, a_start}
 use Rattle.pit_parts.specs.declared.formulas.band.Band.{Band}
 use Rattle.pit_model.specs.declared.draft.formulas.FormulaKey.{FormulaKey}

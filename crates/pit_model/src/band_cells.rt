@@ -2,7 +2,7 @@
 
 ghost use Rattle.std.specs.Prelude.{◌≡◌, ◌+◌, ◌-◌, ◌/◌, ◌%◌, ◌^◌, ◌<◌, ◌≤◌, suc, length, All, OnOk, IfOk};
 ghost use Rattle.pit_units.specs.OrMemory.{Gives};
-ghost use Rattle.pit_parts.specs.BandsKept.{IsBand};
+ghost use Rattle.pit_parts.specs.formulas.BandsKept.{IsBand};
 ghost use Rattle.pit_model.specs.inner.ByPlace.{band_by, bands_in};
 
 use crate::cells::Cells;

@@ -10,8 +10,8 @@ use Rattle.std.specs.List.Sorted.{IsPartitionPoint, IsPartitionedBy}
 use Rattle.std.specs.Option.{option_map_or}
 use Rattle.std.proofs.Math.Bool.{and-false}
 use Rattle.pit_parts.specs.PartLaws.{IsBandOf}
-use Rattle.pit_parts.specs.Bands.{recovery_at}
-use Rattle.pit_parts.specs.BandsKept.{AreBands, starts_rise}
+use Rattle.pit_parts.specs.formulas.Bands.{recovery_at}
+use Rattle.pit_parts.specs.formulas.BandsKept.{AreBands, starts_rise}
 use Rattle.pit_parts.specs.declared.formulas.band.Band.{Band}
 
 -- neighbours that rise are bands that rise

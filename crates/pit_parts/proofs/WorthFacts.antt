@@ -6,11 +6,11 @@ use Rattle.std.proofs.lemmas.Nat.{mul-le, div-add-mod', mod_below}
 use Rattle.std.specs.Prelude.{ℤ, pos, negsuc, ◌+ℤ◌, ◌-ℤ◌, ◌*ℤ◌, ◌≤ℤ◌, neg_ℤ, unsigned_abs}
 use Rattle.std.specs.List.{filter, last_or}
 use Rattle.std.specs.Option.{option_map_or}
-use Rattle.pit_parts.specs.Bands.{recovery_at}
-use Rattle.pit_parts.specs.BandsKept.{IsBand}
+use Rattle.pit_parts.specs.formulas.Bands.{recovery_at}
+use Rattle.pit_parts.specs.formulas.BandsKept.{IsBand}
 use Rattle.pit_parts.specs.PartLaws.{Earns}
-use Rattle.pit_parts.specs.Formula.{IsRuled}
-use Rattle.pit_parts.specs.Worth.{floor, IsFloor, worth, IsWorth}
+use Rattle.pit_parts.specs.formulas.Formula.{IsRuled}
+use Rattle.pit_parts.specs.formulas.Worth.{floor, IsFloor, worth, IsWorth}
 use Rattle.pit_parts.specs.declared.formulas.band.Band.{Band}
 use Rattle.pit_parts.specs.declared.block.Block.{Block}
 use Rattle.pit_parts.specs.declared.formulas.formula.Formula.{Formula}

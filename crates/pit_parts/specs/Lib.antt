@@ -1,14 +1,10 @@
-pub mod Bands
-pub mod BandsKept
 pub mod Block
 pub mod BlockParts
 pub mod Destinations
-pub mod Formula
-pub mod FormulaCopy
 pub mod Name
 pub mod PartLaws
 pub mod Plan
 pub mod PlanFormulas
 pub mod PlanKept
-pub mod Worth
+pub mod formulas
 pub mod inner

@@ -1,7 +1,7 @@
 -- Other words for NAMEs, bands, worths and limits, which laws compare with their definitions.
 use Rattle.std.specs.Prelude.{ℕ, ◌+◌, ◌*◌, ◌≤◌, List, All, ℤ, pos, ◌+ℤ◌, ◌*ℤ◌, ◌≤ℤ◌, codes}
 use Rattle.std.specs.List.{Contains}
-use Rattle.pit_parts.specs.Bands.{recovery_at}
+use Rattle.pit_parts.specs.formulas.Bands.{recovery_at}
 use Rattle.pit_parts.specs.declared.formulas.band.Band.{Band}
 use Rattle.pit_parts.specs.declared.block.Block.{Block}
 use Rattle.pit_parts.specs.declared.formulas.formula.Formula.{Formula}

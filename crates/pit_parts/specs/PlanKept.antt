@@ -1,7 +1,7 @@
 -- What every plan keeps: the ranges of its parts, and their order.
 use Rattle.std.specs.Prelude.{◌≡◌, ℕ, ◌<◌, ◌≤◌, List, [], ◌∷◌, length, ℤ, pos, ◌≤ℤ◌, All, Bool, false, ◌==◌, ◌&&◌, ◌||◌, nat_lt, AllPairs, IsTrue, int_le, not}
 use Rattle.std.specs.List.{list_any}
-use Rattle.pit_parts.specs.Formula.{IsRuled}
+use Rattle.pit_parts.specs.formulas.Formula.{IsRuled}
 use Rattle.pit_parts.specs.declared.grid.Axis.{Axis}
 use Rattle.pit_parts.specs.declared.grid.Grid.{Grid}
 use Rattle.pit_parts.specs.declared.cone.Slope.{Slope}

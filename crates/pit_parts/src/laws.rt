@@ -1,13 +1,13 @@
 //! Laws of the definitions that contracts cite: each function here does nothing, and its contract states one.
 
 ghost use Rattle.std.specs.Prelude.{◌≡◌, ◌↔◌, IsTrue, false, ℕ, ℤ, ◌<◌, ◌≤ℤ◌, List, All, Contains};
-ghost use Rattle.pit_parts.specs.Bands.{recovery_at};
-ghost use Rattle.pit_parts.specs.BandsKept.{AreBands};
-ghost use Rattle.pit_parts.specs.Formula.{IsRuled};
+ghost use Rattle.pit_parts.specs.formulas.Bands.{recovery_at};
+ghost use Rattle.pit_parts.specs.formulas.BandsKept.{AreBands};
+ghost use Rattle.pit_parts.specs.formulas.Formula.{IsRuled};
 ghost use Rattle.pit_parts.specs.Name.{is_name_byte};
 ghost use Rattle.pit_parts.specs.PartLaws.{name_bytes, place_of, Earns, IsBandOf, KeepsBound};
 ghost use Rattle.pit_parts.specs.PlanKept.{is_turned, stands_before};
-ghost use Rattle.pit_parts.specs.Worth.{floor, IsFloor, worth, IsWorth};
+ghost use Rattle.pit_parts.specs.formulas.Worth.{floor, IsFloor, worth, IsWorth};
 ghost use Rattle.pit_parts.specs.declared.formulas.band.Band.{Band};
 ghost use Rattle.pit_parts.specs.declared.block.Block.{Block};
 ghost use Rattle.pit_parts.specs.declared.formulas.formula.Formula.{Formula as AFormula};

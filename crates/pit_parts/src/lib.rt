@@ -9,7 +9,6 @@ pub mod laws;
 pub mod limit;
 pub mod listed;
 pub mod name;
-pub mod past;
 pub mod plan;
 pub mod ranges;
 pub mod resource;

@@ -2,6 +2,8 @@
 
 use std::marker::Model;
 
+pub mod past;
+
 /// Items in their order. Contracts see the list of them.
 #[derive(Debug, Drop)]
 pub struct Listed<T> {

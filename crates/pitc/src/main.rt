@@ -5,8 +5,8 @@
 #![tactic(auto)]
 
 ghost use Rattle.std.specs.Prelude.{◌≡◌, ◌≤◌};
-ghost use Rattle.pit_parts.specs.Formula.{IsRuled};
-ghost use Rattle.pit_parts.specs.Worth.{worth, mill, dump};
+ghost use Rattle.pit_parts.specs.formulas.Formula.{IsRuled};
+ghost use Rattle.pit_parts.specs.formulas.Worth.{worth, mill, dump};
 ghost use Rattle.pit_parts.specs.declared.ranges.TheConstants.{MAX_COST, MAX_PRICE, MAX_RECOVERY};
 
 use pit_check::check::check_files;

@@ -18,7 +18,7 @@ use Rattle.precedence.specs.Numbering.{IsNumbering}
 use Rattle.precedence.specs.inner.Seen.{placed, IsPlaced, IsSortedTable}
 use Rattle.precedence.proofs.Order.{id_is}
 use Rattle.precedence.proofs.SeenPlaces.{keys-placed, length-placed, placed_at, all_placed}
-use Rattle.precedence.proofs.Starts.{count_below}
+use Rattle.precedence.proofs.runs.Starts.{count_below}
 
 keys_moved : (listed : List Block) (entries : List (ℕ × ℕ)) → IsPermutation (placed 0 listed) entries
     → IsPermutation (place_codes listed) (keys_of entries)

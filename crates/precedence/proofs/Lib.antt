@@ -5,10 +5,8 @@ pub mod Identifiers
 pub mod Order
 pub mod Pieces
 pub mod PlacesWhere
-pub mod RunLists
-pub mod RunsOfRows
 pub mod SeenPlaces
 pub mod Reaches
-pub mod Starts
 pub mod Tables
 pub mod LawFacts
+pub mod runs

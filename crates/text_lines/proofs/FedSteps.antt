@@ -1,7 +1,7 @@
 -- A text that is read while a feed gives it: each step keeps what was read and what is to come.
 use Rattle.std.proofs.Common.{◌≡◌, ℕ, ◌+◌, ◌<◌, ◌≤◌, true, List, [], ◌++◌, length, take, drop, refl, sym, ap, ◌∙◌, arith, Result, Ok, Err, Option, Some, None, IfOk, IfSome}
 use Rattle.std.proofs.lemmas.List.{take_all, append_assoc, append-nil, length-append, length-take-le, length-drop, take-append-drop, nil_from_length}
-use Rattle.devices.specs.Feed.{put_back}
+use Rattle.devices.specs.feeds.Feed.{put_back}
 use Rattle.devices.specs.declared.feeds.slurp.SlurpFault.{SlurpFault}
 use Rattle.devices.proofs.Giving.{put_back-append}
 use Rattle.pit_units.specs.declared.or_memory.OrMemory.{OrMemory}

@@ -1,7 +1,7 @@
 -- Bytes that a feed gave, into a buffer or to be passed over.
 use Rattle.std.proofs.Common.{◌≡◌, ℕ, ◌+◌, List, ◌++◌, ap, ◌∙◌, arith, Option}
 use Rattle.std.proofs.lemmas.List.{length-append}
-use Rattle.devices.specs.Feed.{put_back}
+use Rattle.devices.specs.feeds.Feed.{put_back}
 use Rattle.devices.proofs.Giving.{put_back-append}
 use Rattle.text_lines.specs.inner.Waiting.{Gave, Held, WaitingView}
 

@@ -1,7 +1,7 @@
 //! A source of bytes.
 
 ghost use Rattle.std.specs.Prelude.{◌≡◌, ◌+◌, ◌<◌, ◌≤◌, ℕ, List, [], Bool, Option, length, take, IsTrue, IsOk, IfOk, OnOk, OnErr, IfSome};
-ghost use Rattle.devices.specs.Feed.{put_back};
+ghost use Rattle.devices.specs.feeds.Feed.{put_back};
 
 use thiserror::Error;
 

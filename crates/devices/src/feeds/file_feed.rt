@@ -20,7 +20,7 @@ pub struct FileFeed<F: Read> {
 }
 
 impl<F: Read> Model for FileFeed<F> {
-    ghost use Rattle.devices.specs.FileFeedView.{FileFeedView};
+    ghost use Rattle.devices.specs.feeds.FileFeedView.{FileFeedView};
     ghost use Rattle.devices.specs.ShownBytes.{bytes_of};
 
     ghost Value = { FileFeedView };

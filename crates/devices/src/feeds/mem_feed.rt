@@ -1,7 +1,7 @@
 //! Bytes in memory as a feed.
 
 ghost use Rattle.std.specs.Prelude.{◌≡◌, ◌+◌, ◌<◌, ◌≤◌, ◌↔◌, [], take, drop, length, Some, IsErr, IfOk, OnErr};
-ghost use Rattle.devices.specs.MemFeedView.{MemFeedView, fresh, pull_count, after_pull, never_fails, failures_of};
+ghost use Rattle.devices.specs.feeds.MemFeedView.{MemFeedView, fresh, pull_count, after_pull, never_fails, failures_of};
 
 use crate::feeds::feed::{Feed, FeedFault};
 use std::marker::Model;
@@ -18,7 +18,7 @@ pub struct MemFeed {
 
 impl Model for MemFeed {
     ghost use Rattle.std.specs.Prelude.{◌≤◌, drop, vec_len};
-    ghost use Rattle.devices.specs.MemFeedView.{MemFeedView};
+    ghost use Rattle.devices.specs.feeds.MemFeedView.{MemFeedView};
 
     ghost Value = { MemFeedView };
 

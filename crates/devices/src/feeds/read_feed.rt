@@ -2,7 +2,7 @@
 
 ghost use Rattle.std.specs.Io.KnownBytes.{ReadConsumes};
 ghost use Rattle.std.specs.Prelude.{◌≡◌, ◌+◌, ◌<◌, ◌≤◌, [], false, length, take, IfOk, IfSome, OnOk, OnErr};
-ghost use Rattle.devices.specs.Feed.{put_back};
+ghost use Rattle.devices.specs.feeds.Feed.{put_back};
 
 use crate::count::{Count, raised};
 use crate::feeds::feed::{Feed, FeedFault};
@@ -24,8 +24,8 @@ pub struct ReadFeed<R: Read> {
 
 impl<R: Read> Model for ReadFeed<R> {
     ghost use Rattle.devices.specs.Count.{count_of};
-    ghost use Rattle.devices.specs.Feed.{left_after};
-    ghost use Rattle.devices.specs.ReadFeedView.{ReadFeedView};
+    ghost use Rattle.devices.specs.feeds.Feed.{left_after};
+    ghost use Rattle.devices.specs.feeds.ReadFeedView.{ReadFeedView};
     ghost use Rattle.devices.specs.inner.ReadFeedFields.{HasGiven};
 
     ghost Value = { ReadFeedView };

@@ -3,9 +3,9 @@
 ghost use Rattle.std.specs.Prelude.{◌≡◌, ◌+◌, ◌<◌, ◌≤◌, [], false, length, string_bytes, take, IsErr, IfOk, OnOk, OnErr};
 ghost use Rattle.std.specs.Io.KnownBytes.{WriteAppends};
 ghost use Rattle.devices.specs.Device.{added};
-ghost use Rattle.devices.specs.FileSinkView.{file_told as told, unbegun};
-ghost use Rattle.devices.specs.SinkState.{IsCutOff, IsWritten};
-ghost use Rattle.devices.specs.SinkSteps.{IsBegunAsBefore};
+ghost use Rattle.devices.specs.sinks.FileSinkView.{file_told as told, unbegun};
+ghost use Rattle.devices.specs.sinks.SinkState.{IsCutOff, IsWritten};
+ghost use Rattle.devices.specs.sinks.SinkSteps.{IsBegunAsBefore};
 
 use crate::count::{Count, raised};
 use crate::sinks::single_write::write_some;
@@ -29,7 +29,7 @@ impl<'a, R: Files> Model for FileSink<'a, R> {
     ghost use Rattle.std.specs.Prelude.{is_some, string_bytes};
     ghost use Rattle.std.specs.Option.{option_and_then};
     ghost use Rattle.devices.specs.Count.{count_of};
-    ghost use Rattle.devices.specs.FileSinkView.{FileSinkView};
+    ghost use Rattle.devices.specs.sinks.FileSinkView.{FileSinkView};
 
     ghost Value = { FileSinkView };
 

@@ -1,7 +1,7 @@
 //! A sink of bytes in memory.
 
 ghost use Rattle.std.specs.Prelude.{◌≡◌, ◌+◌, ◌<◌, ◌≤◌, ◌↔◌, ◌⊎◌, [], ◌++◌, take, length, min, Some, true, IsTrue, IsErr, IfOk, OnOk, OnErr};
-ghost use Rattle.devices.specs.MemSinkView.{IsFresh, IsCalled, FailsNext};
+ghost use Rattle.devices.specs.sinks.MemSinkView.{IsFresh, IsCalled, FailsNext};
 
 use crate::count::{Count, raised};
 use crate::sinks::sink::{Sink, SinkFault};
@@ -21,7 +21,7 @@ pub struct MemSink {
 
 impl Model for MemSink {
     ghost use Rattle.std.specs.Prelude.{◌≤◌, vec_capacity};
-    ghost use Rattle.devices.specs.MemSinkView.{MemSinkView};
+    ghost use Rattle.devices.specs.sinks.MemSinkView.{MemSinkView};
     ghost use Rattle.devices.specs.Count.{count_of};
 
     ghost Value = { MemSinkView };

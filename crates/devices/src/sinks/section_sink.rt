@@ -1,7 +1,7 @@
 //! A sink over a vector that already holds something.
 
 ghost use Rattle.std.specs.Prelude.{◌≡◌, ◌+◌, ◌<◌, [], ◌++◌, Some, length, true, false, IsOk, IfOk, OnOk, OnErr};
-ghost use Rattle.devices.specs.SectionSinkView.{section_told as told};
+ghost use Rattle.devices.specs.sinks.SectionSinkView.{section_told as told};
 
 use crate::count::{Count, raised};
 use crate::sinks::sink::{Sink, SinkFault};
@@ -21,7 +21,7 @@ pub struct SectionSink {
 impl Model for SectionSink {
     ghost use Rattle.std.specs.Prelude.{◌≤◌, take, drop, length, vec_capacity};
     ghost use Rattle.devices.specs.Count.{count_of};
-    ghost use Rattle.devices.specs.SectionSinkView.{SectionSinkView};
+    ghost use Rattle.devices.specs.sinks.SectionSinkView.{SectionSinkView};
 
     ghost Value = { SectionSinkView };
 

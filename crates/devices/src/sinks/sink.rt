@@ -2,8 +2,8 @@
 
 ghost use Rattle.std.specs.Prelude.{◌≡◌, ◌+◌, ◌<◌, ◌≤◌, [], length, take, IfOk, OnOk, OnErr};
 ghost use Rattle.devices.specs.Device.{added};
-ghost use Rattle.devices.specs.SinkState.{SinkState, IsWritten, IsCutOff};
-ghost use Rattle.devices.specs.SinkSteps.{IsBegunAsBefore};
+ghost use Rattle.devices.specs.sinks.SinkState.{SinkState, IsWritten, IsCutOff};
+ghost use Rattle.devices.specs.sinks.SinkSteps.{IsBegunAsBefore};
 
 use pit_units::OrMemory;
 use thiserror::Error;

@@ -1,8 +1,8 @@
 //! Large slices to a sink.
 
 ghost use Rattle.std.specs.Prelude.{◌≡◌, [], OnOk, OnErr};
-ghost use Rattle.devices.specs.SinkSteps.{IsAppended, IsAppendCut};
-ghost use Rattle.devices.specs.Writes.{HasRoom};
+ghost use Rattle.devices.specs.sinks.SinkSteps.{IsAppended, IsAppendCut};
+ghost use Rattle.devices.specs.sinks.Writes.{HasRoom};
 
 use crate::sinks::sink::{Sink, SinkFault};
 

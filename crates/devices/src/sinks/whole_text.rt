@@ -1,7 +1,7 @@
 //! A whole text to a sink.
 
 ghost use Rattle.std.specs.Prelude.{ℕ, List, OnOk};
-ghost use Rattle.devices.specs.Writes.{Writes, WritesOn};
+ghost use Rattle.devices.specs.sinks.Writes.{Writes, WritesOn};
 
 use crate::sinks::sink::Sink;
 use crate::sinks::slices::{LARGE, flush};

@@ -2,8 +2,8 @@
 
 ghost use Rattle.std.specs.Prelude.{◌≡◌, ◌≤◌, Err, [], true, false, map, unwrap_or, length, IfOk};
 ghost use Rattle.std.specs.List.{list_any};
-ghost use Rattle.mine_instance.specs.CpitKept.{IsCpit};
-ghost use Rattle.mine_instance.specs.OfCpit.{without_destination};
+ghost use Rattle.mine_instance.specs.cpit.CpitKept.{IsCpit};
+ghost use Rattle.mine_instance.specs.cpit.OfCpit.{without_destination};
 ghost use Rattle.minelib_reading.specs.Denotes.{cpit_read, instance_read};
 ghost use Rattle.minelib_reading.specs.HeaderNumbers.{count_in};
 ghost use Rattle.minelib_reading.specs.ModelLines.{blank_model, finish_model, header_line, is_colon, is_ready, is_whole, item_line, keyed_line, name_with, section_line};
@@ -80,7 +80,7 @@ impl<T: TakeItems> Admit for ModelDraft<T> {
     ghost admit_line = { admit_model };
 
     // A line that is read as an item of its section has no colon, so it is not searched for one.
-    #[tactic(auto, using(crate::proofs::ModelShapes::stray_takes))]
+    #[tactic(auto, using(crate::proofs::models::ModelShapes::stray_takes))]
     fn admit(&mut self, line: &[u8]) -> Result<(), OrMemory<TextKind>> {
         match self.section {
             Section::Heading => self.admit_key_or(line, TextKind::Key),
@@ -154,7 +154,7 @@ impl<T: TakeItems> ModelDraft<T> {
             && is_limits(self.section)
     }
 
-    #[tactic(auto, unfolding(crate::specs::inner::ModelParts::admit_model), using(crate::proofs::ModelShapes::values_keyless, crate::proofs::ModelShapes::values_takes))]
+    #[tactic(auto, unfolding(crate::specs::inner::ModelParts::admit_model), using(crate::proofs::models::ModelShapes::values_keyless, crate::proofs::models::ModelShapes::values_takes))]
     fn admit_values(&mut self, line: &[u8]) -> Result<(), OrMemory<TextKind>>
         requires { self.old.section ≡ Section.Objective }
         ensures { Leaves self.new result (admit_model self.old line.now) }
@@ -171,7 +171,7 @@ impl<T: TakeItems> ModelDraft<T> {
         }
     }
 
-    #[tactic(auto, unfolding(crate::specs::inner::ModelParts::admit_model), using(crate::proofs::ModelShapes::coef_keyless, crate::proofs::ModelShapes::coef_takes))]
+    #[tactic(auto, unfolding(crate::specs::inner::ModelParts::admit_model), using(crate::proofs::models::ModelShapes::coef_keyless, crate::proofs::models::ModelShapes::coef_takes))]
     fn admit_coef(&mut self, line: &[u8]) -> Result<(), OrMemory<TextKind>>
         requires { self.old.section ≡ Section.Coefs }
         ensures { Leaves self.new result (admit_model self.old line.now) }
@@ -190,7 +190,7 @@ impl<T: TakeItems> ModelDraft<T> {
         }
     }
 
-    #[tactic(auto, unfolding(crate::specs::inner::ModelParts::admit_model), using(crate::proofs::ModelShapes::limit_keyless, crate::proofs::ModelShapes::limit_takes))]
+    #[tactic(auto, unfolding(crate::specs::inner::ModelParts::admit_model), using(crate::proofs::models::ModelShapes::limit_keyless, crate::proofs::models::ModelShapes::limit_takes))]
     fn admit_limit(&mut self, line: &[u8]) -> Result<(), OrMemory<TextKind>>
         requires { self.old.section ≡ Section.Limits }
         ensures { Leaves self.new result (admit_model self.old line.now) }
@@ -223,7 +223,7 @@ impl<T: TakeItems> ModelDraft<T> {
         }
     }
 
-    #[tactic(auto, using(crate::proofs::ModelShapes::stray_takes))]
+    #[tactic(auto, using(crate::proofs::models::ModelShapes::stray_takes))]
     fn admit_key(&mut self, key: Option<ModelKey>, values: &[u8]) -> Result<(), OrMemory<TextKind>>
         ensures { Leaves self.new result (takes (keyed_line self.old key (fields_of values.now))) }
     {
@@ -234,7 +234,7 @@ impl<T: TakeItems> ModelDraft<T> {
         }
     }
 
-    #[tactic(auto, using(crate::proofs::ModelShapes::header_takes))]
+    #[tactic(auto, using(crate::proofs::models::ModelShapes::header_takes))]
     fn admit_header(&mut self, key: HeaderKey, values: &[u8]) -> Result<(), OrMemory<TextKind>>
         ensures { Leaves self.new result (takes (header_line self.old key (fields_of values.now))) }
     {
@@ -251,7 +251,7 @@ impl<T: TakeItems> ModelDraft<T> {
         Ok(())
     }
 
-    #[tactic(auto, using(crate::proofs::ModelShapes::section_takes))]
+    #[tactic(auto, using(crate::proofs::models::ModelShapes::section_takes))]
     fn admit_section(&mut self, section: Section, values: &[u8]) -> Result<(), OrMemory<TextKind>>
         ensures { Leaves self.new result
             (takes (section_line self.old section (fields_of values.now))) }

@@ -53,7 +53,7 @@ pub fn values_of_line(
 }
 
 // Reads the values of a line of as many fields as it has to have. The fault of another line may be of another kind.
-#[tactic(auto, using(crate::proofs::ValuesLineFacts::values_counted))]
+#[tactic(auto, using(crate::proofs::lines::ValuesLineFacts::values_counted))]
 fn uncounted_values(
     blocks: usize,
     destinations: u8,
@@ -120,7 +120,7 @@ pub fn coef_of_line(
 
 // The coefficient of a line of as many fields as it has to have. The fault of another line may be of another kind.
 #[inline(always)]
-#[tactic(auto, using(crate::proofs::CoefLineFacts::coef_steps))]
+#[tactic(auto, using(crate::proofs::lines::CoefLineFacts::coef_steps))]
 fn uncounted_coef(
     problem: Problem,
     blocks: usize,
@@ -187,7 +187,7 @@ pub fn is_coef_behind(coefs: &[Coef], coef: &Coef) -> bool
 /// # Errors
 ///
 /// `Fields`, or what is wrong with the first faulty field.
-#[tactic(auto, using(crate::proofs::LimitLineFacts::limit_same))]
+#[tactic(auto, using(crate::proofs::lines::LimitLineFacts::limit_same))]
 pub fn limit_of_line(resources: u8, periods: u8, line: &[u8]) -> Result<Limit, TextKind>
     ensures { result ≡ limit_of_line resources periods (fields_of line.now) }
 {

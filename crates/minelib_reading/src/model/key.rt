@@ -74,7 +74,7 @@ impl Header {
     }
 
     /// Whether all keys stood.
-    #[tactic(auto, using(crate::proofs::HeaderFacts::all_numbers))]
+    #[tactic(auto, using(crate::proofs::keys::HeaderFacts::all_numbers))]
     pub fn is_complete(&self) -> bool
         ensures { result ≡ is_complete self.now }
     {
@@ -83,7 +83,7 @@ impl Header {
 }
 
 // Keeps the number of a key at its place.
-#[tactic(auto, using(crate::proofs::HeaderFacts::key_set))]
+#[tactic(auto, using(crate::proofs::keys::HeaderFacts::key_set))]
 fn put(numbers: &mut [Option<u32>; KEYS], key: HeaderKey, number: u32)
     ensures { record { numbers = numbers.new }
         ≡ with_key (record { numbers = numbers.old }) key number }

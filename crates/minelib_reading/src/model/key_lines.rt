@@ -60,7 +60,7 @@ pub fn only_value(line: &[u8]) -> Result<&[u8], TextKind>
 }
 
 /// The key that the bytes before a colon are.
-#[tactic(auto, using(crate::proofs::ModelFacts::key_of_one, crate::proofs::ModelFacts::key_of_none))]
+#[tactic(auto, using(crate::proofs::models::ModelFacts::key_of_one, crate::proofs::models::ModelFacts::key_of_none))]
 pub fn key_of(problem: Problem, line: &[u8]) -> Option<ModelKey>
     ensures { result ≡ key_of problem (fields_of line.now) }
 {

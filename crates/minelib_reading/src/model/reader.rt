@@ -18,7 +18,7 @@ use text_lines::text_fault::LineFault;
 /// # Errors
 ///
 /// The first faulty line, or `OutOfMemory`.
-#[tactic(auto, using(crate::proofs::ModelShapes::lines_are_all))]
+#[tactic(auto, using(crate::proofs::models::ModelShapes::lines_are_all))]
 pub fn read_model(
     alloc: Global,
     problem: Problem,

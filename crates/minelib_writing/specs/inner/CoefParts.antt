@@ -2,7 +2,7 @@
 use Rattle.std.specs.Prelude.{◌≡◌, ℕ, ◌+◌, ◌<◌, ◌&&◌, Bool, true, false, nat_lt, IsTrue, ℤ, List, [], ◌∷◌, ◌++◌, length, slice_index_or, map, filter, if◌then◌else◌}
 use Rattle.std.specs.List.{concat}
 use Rattle.std.proofs.Common.{ap, cond, refl}
-use Rattle.mine_instance.specs.OfCpit.{is_chosen, without_destination}
+use Rattle.mine_instance.specs.cpit.OfCpit.{is_chosen, without_destination}
 use Rattle.mine_instance.specs.declared.coefs.coef.Coef.{Coef}
 use Rattle.minelib_lines.specs.Lines.{line_of, lines_from, text_of}
 use Rattle.minelib_lines.specs.declared.problem.Problem.TheVariants.{Pcpsp}

@@ -5,7 +5,7 @@ ghost use Rattle.precedence.specs.IdRuns.{ids_of};
 ghost use Rattle.minelib_lines.specs.Lines.{line_of, lines_from, text_of};
 ghost use Rattle.minelib_writing.specs.Written.{prec_fields};
 ghost use Rattle.pit_parts.specs.declared.ranges.TheConstants.{MAX_BLOCKS};
-ghost use Rattle.devices.specs.Writes.{WritesOn};
+ghost use Rattle.devices.specs.sinks.Writes.{WritesOn};
 
 use crate::fields::put_whole_behind;
 use crate::id_text::IdText;

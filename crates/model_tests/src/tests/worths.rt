@@ -1,8 +1,8 @@
 //! What blocks are worth, by the stored closures of destinations.
 
 ghost use Rattle.std.specs.Prelude.{◌≡◌};
-ghost use Rattle.pit_parts.specs.Formula.{IsRuled};
-ghost use Rattle.pit_parts.specs.Worth.{worth};
+ghost use Rattle.pit_parts.specs.formulas.Formula.{IsRuled};
+ghost use Rattle.pit_parts.specs.formulas.Worth.{worth};
 
 use pit_model::plan::Plan;
 use pit_model::read_plan;

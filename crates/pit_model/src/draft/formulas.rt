@@ -3,10 +3,10 @@
 ghost use Rattle.std.specs.Prelude.{◌≡◌, ◌≤◌, [], length, All, Ok};
 ghost use Rattle.forms.specs.Words.{failing, unless};
 ghost use Rattle.pit_units.specs.OrMemory.{Gives};
-ghost use Rattle.pit_parts.specs.BandsKept.{IsBand};
+ghost use Rattle.pit_parts.specs.formulas.BandsKept.{IsBand};
 ghost use Rattle.pit_model.specs.inner.ByPlace.{destination_in, destined};
 ghost use Rattle.pit_model.specs.FormulaShapes.{bands_asked, formula_key_of};
-ghost use Rattle.pit_parts.specs.Formula.{IsRuled};
+ghost use Rattle.pit_parts.specs.formulas.Formula.{IsRuled};
 ghost use Rattle.pit_model.specs.PlanShapes.{room_for_destination};
 ghost use Rattle.pit_model.specs.Stated.{with_destination};
 ghost use Rattle.pit_model.specs.declared.draft.formulas.FormulaKey.TheVariants as key;

@@ -4,7 +4,7 @@ use Rattle.std.proofs.lemmas.Bool.{and_parts, eqb-true}
 use Rattle.std.specs.Bool.{Decides, one_answer}
 use Rattle.std.specs.Cmp.{IsEquivalence}
 use Rattle.std.specs.Cmp.Lexicographic.{pointwise_decides}
-use Rattle.pit_parts.specs.BandsKept.{band_eq, bands_eq}
+use Rattle.pit_parts.specs.formulas.BandsKept.{band_eq, bands_eq}
 use Rattle.pit_parts.specs.declared.formulas.band.Band.{Band}
 
 -- a test that tells equality is an equivalence

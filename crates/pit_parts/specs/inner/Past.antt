@@ -1,6 +1,6 @@
 -- How items that are not kept are seen as the list of them.
 use Rattle.std.specs.Prelude.{List, [], ◌∷◌, ◌++◌}
-use Rattle.pit_parts.specs.declared.past.Links.{Links, Start, More'}
+use Rattle.pit_parts.specs.declared.listed.past.Links.{Links, Start, More'}
 
 -- in the order in which they came
 abbrev pub items_in : {A : Type 0} → Links A → List A

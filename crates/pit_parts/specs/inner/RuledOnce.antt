@@ -1,8 +1,8 @@
 -- There is one proof at most that a formula's numbers are in range, which a destination keeps.
 use Rattle.std.specs.Prelude.{List}
 use Rattle.std.specs.Coded.{Coded-set, coded_bool, le_prop}
-use Rattle.pit_parts.specs.BandsKept.{AreBands}
-use Rattle.pit_parts.specs.Formula.{IsRuled}
+use Rattle.pit_parts.specs.formulas.BandsKept.{AreBands}
+use Rattle.pit_parts.specs.formulas.Formula.{IsRuled}
 use Rattle.pit_parts.specs.declared.formulas.band.Band.{Band}
 use Rattle.pit_parts.specs.declared.formulas.formula.Formula.{Formula}
 use Rattle.pit_parts.specs.declared.formulas.formula.Formula.TheVariants as formula

@@ -1,8 +1,8 @@
 //! The bands of a heap leach: how much of the metal is recovered at which grade.
 
 ghost use Rattle.std.specs.Prelude.{◌≡◌, ◌≤◌, ◌↔◌, IsTrue, IsSome, IfSome, IfOk, All, true, length, take, nat_le, filter};
-ghost use Rattle.pit_parts.specs.Bands.{recovery_at};
-ghost use Rattle.pit_parts.specs.BandsKept.{IsBand, AreBands, starts_rise};
+ghost use Rattle.pit_parts.specs.formulas.Bands.{recovery_at};
+ghost use Rattle.pit_parts.specs.formulas.BandsKept.{IsBand, AreBands, starts_rise};
 ghost use Rattle.pit_parts.specs.declared.ranges.TheConstants.{MAX_RECOVERY};
 
 use crate::ranges::{MAX_BANDS, MAX_GRADE, MAX_RECOVERY};
@@ -30,7 +30,7 @@ impl Model for Bands {
 
     ghost Value = { List Band };
 
-    ghost use Rattle.pit_parts.specs.BandsKept.{AreBands};
+    ghost use Rattle.pit_parts.specs.formulas.BandsKept.{AreBands};
 
     ghost view = { λ b. b.bands.items };
 
@@ -96,7 +96,7 @@ pub fn starts_rise(bands: &[Band]) -> bool
 impl PartialEq for Bands {
     ghost use Rattle.std.specs.Prelude.{◌≡◌, ◌↔◌, IsTrue};
     ghost use Rattle.std.specs.Cmp.{partial_equiv_from_equiv};
-    ghost use Rattle.pit_parts.specs.BandsKept.{bands_eq};
+    ghost use Rattle.pit_parts.specs.formulas.BandsKept.{bands_eq};
     ghost use Rattle.pit_parts.specs.inner.Equality.{bands_equivalence};
 
     ghost eq = { bands_eq };

@@ -1,9 +1,9 @@
 //! A destination: a formula, and the stored closure that values blocks by it.
 
 ghost use Rattle.std.specs.Prelude.{◌≡◌, ℤ};
-ghost use Rattle.pit_parts.specs.Formula.{IsRuled};
+ghost use Rattle.pit_parts.specs.formulas.Formula.{IsRuled};
 ghost use Rattle.pit_parts.specs.inner.RuledOnce.{IsRuled-prop};
-ghost use Rattle.pit_parts.specs.Worth.{worth, IsWorth};
+ghost use Rattle.pit_parts.specs.formulas.Worth.{worth, IsWorth};
 ghost use Rattle.pit_parts.specs.declared.block.Block.{Block as ABlock};
 
 use crate::block::Block;

@@ -1,9 +1,9 @@
 //! How a destination values a block.
 
 ghost use Rattle.std.specs.Prelude.{◌≡◌, IfOk, OnErr};
-ghost use Rattle.pit_parts.specs.Formula.{IsRuled};
-ghost use Rattle.pit_parts.specs.FormulaCopy.{HasBands};
-ghost use Rattle.pit_parts.specs.Worth.{worth, IsWorth};
+ghost use Rattle.pit_parts.specs.formulas.Formula.{IsRuled};
+ghost use Rattle.pit_parts.specs.formulas.FormulaCopy.{HasBands};
+ghost use Rattle.pit_parts.specs.formulas.Worth.{worth, IsWorth};
 
 use crate::block::Block;
 use crate::formulas::band::Bands;

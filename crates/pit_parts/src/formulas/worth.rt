@@ -1,7 +1,7 @@
 //! What a block is worth, in cents.
 
 ghost use Rattle.std.specs.Prelude.{◌≡◌, ◌≤◌, ◌*◌, ◌^◌};
-ghost use Rattle.pit_parts.specs.Worth.{mill, leach, dump, floor, IsWorth};
+ghost use Rattle.pit_parts.specs.formulas.Worth.{mill, leach, dump, floor, IsWorth};
 ghost use Rattle.pit_parts.specs.declared.ranges.TheConstants.{MAX_COST, MAX_PRICE, MAX_RECOVERY};
 
 use crate::block::Block;

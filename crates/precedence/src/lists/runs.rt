@@ -75,7 +75,7 @@ fn keep_hint(hints: &[Cell<Hint>], i: usize, run: Hint) {
 }
 
 // Appends the run of the identifiers whose codes lie in a row, and tells the first of them and the one past the last.
-#[tactic(auto, using(crate::proofs::Starts::runs))]
+#[tactic(auto, using(crate::proofs::runs::Starts::runs))]
 #[inline(always)]
 fn add_run(
     runs: &mut Vec<IdRun>,
@@ -101,7 +101,7 @@ fn add_run(
 }
 
 // Appends the run from `first` on and before `past`, where it has an identifier.
-#[tactic(auto, using(crate::proofs::RunLists::pushed_run))]
+#[tactic(auto, using(crate::proofs::runs::RunLists::pushed_run))]
 #[inline(always)]
 fn push_run(runs: &mut Vec<IdRun>, first: u32, past: u32) -> Result<(), AllocError>
     requires { first ≤ past }
@@ -119,7 +119,7 @@ fn push_run(runs: &mut Vec<IdRun>, first: u32, past: u32) -> Result<(), AllocErr
 
 // Where the codes from the place `first` on are no longer below `past`. Most rows of scattered blocks have no code, and need no
 // search for it.
-#[tactic(auto, using(crate::proofs::Starts::starts))]
+#[tactic(auto, using(crate::proofs::runs::Starts::starts))]
 #[inline(always)]
 fn run_end(codes: &[u64], first: usize, hint: usize, past: u64) -> usize
     requires rising { IsStrictlyIncreasing codes.now }
@@ -134,7 +134,7 @@ fn run_end(codes: &[u64], first: usize, hint: usize, past: u64) -> usize
 }
 
 // The first row after the row `i` that can have a code from the one of the identifier `past` on, or the number of rows.
-#[tactic(auto, using(crate::proofs::Starts::runs))]
+#[tactic(auto, using(crate::proofs::runs::Starts::runs))]
 #[inline(always)]
 fn next_row(places: &Places, pasts: &[u64], i: usize, past: usize, from: u64) -> usize
     requires rising { IsStrictlyIncreasing pasts.now }

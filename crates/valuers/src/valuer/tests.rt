@@ -2,7 +2,7 @@
 
 ghost use Rattle.std.specs.Prelude.{◌≡◌, ◌≤◌, ◌^◌, true, [], IfOk, length};
 ghost use Rattle.lane.specs.MessageKinds.{is_done};
-ghost use Rattle.pit_parts.specs.Worth.{mill};
+ghost use Rattle.pit_parts.specs.formulas.Worth.{mill};
 
 use super::*;
 use crate::gate::OpenGate;

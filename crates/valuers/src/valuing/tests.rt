@@ -1,7 +1,7 @@
 //! The worths that the stored closures answer.
 
 ghost use Rattle.std.specs.Prelude.{◌≡◌, ◌≤◌, ◌^◌};
-ghost use Rattle.pit_parts.specs.Worth.{dump};
+ghost use Rattle.pit_parts.specs.formulas.Worth.{dump};
 
 use super::worths_of;
 use pit_parts::block::Block;

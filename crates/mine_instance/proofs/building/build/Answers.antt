@@ -1,7 +1,7 @@
 use Rattle.std.proofs.Common.{◌≡◌, ◌∙◌, List, length, get_or, map, sym, ap, arith}
 use Rattle.std.proofs.lemmas.List.{length-map}
 use Rattle.pit_parts.specs.PlanFormulas.{formulas_of_plan}
-use Rattle.pit_parts.specs.Worth.{worth}
+use Rattle.pit_parts.specs.formulas.Worth.{worth}
 use Rattle.pit_parts.specs.declared.formulas.formula.NamedFormula.{NamedFormula}
 use Rattle.mine_instance.proofs.ModelFacts.{worths_fit}
 use Rattle.mine_instance.specs.OfModel.{values_of}

@@ -1,6 +1,6 @@
 use Rattle.std.proofs.Common.{◌≡◌, ◌-◌, ◌≤◌, length, map, take}
 use Rattle.std.specs.Prelude.{filter}
-use Rattle.mine_instance.specs.OfCpit.{is_chosen, without_destination}
+use Rattle.mine_instance.specs.cpit.OfCpit.{is_chosen, without_destination}
 use Rattle.mine_instance.proofs.cpit_building.chosen_of.Given as goal
 
 -- Those so far that are at their blocks' destinations are chosen.

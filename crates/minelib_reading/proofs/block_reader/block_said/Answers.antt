@@ -1,5 +1,5 @@
 use Rattle.std.proofs.Common.{sym}
-use Rattle.minelib_reading.proofs.CountedLater.{block_counted, block_kind}
+use Rattle.minelib_reading.proofs.counts.CountedLater.{block_counted, block_kind}
 use Rattle.minelib_reading.proofs.block_reader.block_said.Goals as goal
 
 pub returns-in-Ok-clause-value : goal.returns-in-Ok-clause-value

@@ -1,4 +1,4 @@
-use Rattle.minelib_reading.proofs.FedAnswers.{arcs_told}
+use Rattle.minelib_reading.proofs.counts.FedAnswers.{arcs_told}
 use Rattle.minelib_reading.proofs.fed_counts.count_arcs.Goals as goal
 
 pub returns-in-Ok-finish-clause-counts : goal.returns-in-Ok-finish-clause-counts

@@ -1,5 +1,5 @@
 use Rattle.minelib_lines.specs.declared.problem.Problem.TheVariants.{Cpit}
-use Rattle.minelib_reading.proofs.ValidRead.{cpit_is_valid, model_is_valid}
+use Rattle.minelib_reading.proofs.models.ValidRead.{cpit_is_valid, model_is_valid}
 use Rattle.minelib_reading.proofs.instance_reader.read_cpit.Goals as goal
 
 pub into_cpit-requires-clause-name : goal.into_cpit-requires-clause-name

@@ -1,7 +1,7 @@
 use Rattle.std.proofs.Common.{rules}
 use Rattle.minelib_lines.specs.declared.problem.Problem.TheVariants.{Pcpsp}
 use Rattle.minelib_reading.specs.Denotes.{denoted}
-use Rattle.minelib_reading.proofs.ValidRead.{model_is_valid, read_valid}
+use Rattle.minelib_reading.proofs.models.ValidRead.{model_is_valid, read_valid}
 use Rattle.minelib_reading.proofs.instance_reader.read_instance.Goals as goal
 
 pub into_instance-requires : goal.into_instance-requires

@@ -1,4 +1,4 @@
-use Rattle.minelib_reading.proofs.SpelledDenotes.{cpit_spelled, spelled_cpit}
+use Rattle.minelib_reading.proofs.spelled.SpelledDenotes.{cpit_spelled, spelled_cpit}
 use Rattle.minelib_reading.proofs.laws.cpits_are_spelled.Goals as goal
 
 pub returns : goal.returns

@@ -1,5 +1,5 @@
 use Rattle.text_lines.specs.declared.text_fault.TextKind.TheVariants as kind
-use Rattle.minelib_reading.proofs.LineKindsFacts.{fail_preds, fails_section, preds_fail, section_fails}
+use Rattle.minelib_reading.proofs.lines.LineKindsFacts.{fail_preds, fails_section, preds_fail, section_fails}
 use Rattle.minelib_reading.proofs.laws.faulty_lines_have_their_kind.Goals as goal
 
 pub returns : goal.returns

@@ -1,4 +1,4 @@
-use Rattle.minelib_reading.proofs.SpelledDenotes.{denoted_spelled, spelled_denoted}
+use Rattle.minelib_reading.proofs.spelled.SpelledDenotes.{denoted_spelled, spelled_denoted}
 use Rattle.minelib_reading.proofs.laws.instances_are_spelled.Goals as goal
 
 pub returns : goal.returns

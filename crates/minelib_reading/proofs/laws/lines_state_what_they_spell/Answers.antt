@@ -1,6 +1,6 @@
-use Rattle.minelib_reading.proofs.BlockLineFacts.{block_back, block_line}
-use Rattle.minelib_reading.proofs.ModelSteps.{coef_back, coef_step, key_spelled, limit_back, limit_step, values_back, values_step}
-use Rattle.minelib_reading.proofs.PrecLineFacts.{preds_back, preds_line}
+use Rattle.minelib_reading.proofs.lines.BlockLineFacts.{block_back, block_line}
+use Rattle.minelib_reading.proofs.models.ModelSteps.{coef_back, coef_step, key_spelled, limit_back, limit_step, values_back, values_step}
+use Rattle.minelib_reading.proofs.lines.PrecLineFacts.{preds_back, preds_line}
 use Rattle.minelib_reading.proofs.laws.lines_state_what_they_spell.Goals as goal
 
 pub returns : goal.returns

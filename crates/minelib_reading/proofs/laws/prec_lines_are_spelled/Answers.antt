@@ -1,4 +1,4 @@
-use Rattle.minelib_reading.proofs.SpelledRead.{preds_spelled}
+use Rattle.minelib_reading.proofs.spelled.SpelledRead.{preds_spelled}
 use Rattle.minelib_reading.proofs.laws.prec_lines_are_spelled.Goals as goal
 
 pub returns : goal.returns

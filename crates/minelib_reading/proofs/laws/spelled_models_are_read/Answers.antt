@@ -1,4 +1,4 @@
-use Rattle.minelib_reading.proofs.SpelledDenotes.{model_back, states_back}
+use Rattle.minelib_reading.proofs.spelled.SpelledDenotes.{model_back, states_back}
 use Rattle.minelib_reading.proofs.laws.spelled_models_are_read.Goals as goal
 
 pub returns : goal.returns

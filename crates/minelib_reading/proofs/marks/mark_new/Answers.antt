@@ -1,5 +1,5 @@
 use Rattle.std.proofs.Common.{sym}
-use Rattle.minelib_reading.proofs.MarkFacts.{repeated, marked_of_all, marked_at}
+use Rattle.minelib_reading.proofs.counts.MarkFacts.{repeated, marked_of_all, marked_at}
 use Rattle.minelib_reading.proofs.marks.mark_new.Goals as goal
 
 pub returns-then-marks-id-clause-value : goal.returns-then-marks-id-clause-value

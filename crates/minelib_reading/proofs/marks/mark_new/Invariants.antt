@@ -1,6 +1,6 @@
 use Rattle.std.proofs.Common.{◌≡◌, true, take}
 use Rattle.minelib_reading.specs.PrecLines.{all_differ}
-use Rattle.minelib_reading.proofs.MarkFacts.{AreJustMarked}
+use Rattle.minelib_reading.proofs.counts.MarkFacts.{AreJustMarked}
 use Rattle.minelib_reading.proofs.marks.mark_new.Given as goal
 
 -- the numbers so far differ, and are what is marked

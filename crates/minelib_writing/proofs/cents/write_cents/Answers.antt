@@ -4,7 +4,7 @@ use Rattle.std.proofs.lemmas.Fmt.{length-decimal-le_wide}
 use Rattle.std.specs.Fmt.{decimal, sign_text}
 use Rattle.pit_units.proofs.Text.{put_before}
 use Rattle.pit_units.specs.Decimal.{fraction_text}
-use Rattle.minelib_writing.proofs.CentsFacts.{cents_text}
+use Rattle.minelib_writing.proofs.numbers.CentsFacts.{cents_text}
 use Rattle.minelib_writing.proofs.cents.write_cents.Goals as goal
 
 pub write_digits-start-requires : goal.write_digits-start-requires

@@ -1,6 +1,6 @@
 use Rattle.std.proofs.lemmas.Bool.{cases_eq}
 use Rattle.std.proofs.Common.{◌%◌}
-use Rattle.minelib_writing.proofs.CentsFacts.{two_decimals}
+use Rattle.minelib_writing.proofs.numbers.CentsFacts.{two_decimals}
 use Rattle.minelib_writing.proofs.cents.write_hundredths.Goals as goal
 
 pub returns-clause-text : goal.returns-clause-text

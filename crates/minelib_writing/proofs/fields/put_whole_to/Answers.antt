@@ -1,5 +1,5 @@
 use Rattle.std.specs.Prelude.{decimal}
-use Rattle.minelib_writing.proofs.Digits.{ended}
+use Rattle.minelib_writing.proofs.numbers.Digits.{ended}
 use Rattle.minelib_writing.proofs.fields.put_whole_to.Goals as goal
 
 pub returns : goal.returns

@@ -1,6 +1,6 @@
 use Rattle.std.proofs.Common.{◌-◌, ◌≤◌, length, take}
 use Rattle.std.specs.List.{concat}
-use Rattle.devices.specs.Writes.{IsWrittenOn}
+use Rattle.devices.specs.sinks.Writes.{IsWrittenOn}
 use Rattle.minelib_writing.specs.inner.KeptParts.{HoldsFrom}
 use Rattle.minelib_writing.proofs.parts.write_parts.Given as goal
 

@@ -1,6 +1,6 @@
 use Rattle.std.proofs.Common.{rules, ◌∙◌, sym, arith, length, length-append}
 use Rattle.std.proofs.lemmas.List.Elements.{All-push}
-use Rattle.pit_parts.specs.BandsKept.{IsBand}
+use Rattle.pit_parts.specs.formulas.BandsKept.{IsBand}
 use Rattle.pit_model.proofs.BandSteps.{bands_fail, bands_more}
 use Rattle.pit_model.proofs.band_cells.read_bands.Goals as goal
 

@@ -1,5 +1,5 @@
 use Rattle.std.proofs.Common.{◌≡◌, ◌+◌, ◌-◌, ◌*◌, ◌/◌, suc, length, All}
-use Rattle.pit_parts.specs.BandsKept.{IsBand}
+use Rattle.pit_parts.specs.formulas.BandsKept.{IsBand}
 use Rattle.pit_model.specs.inner.ByPlace.{bands_in}
 use Rattle.pit_model.proofs.band_cells.read_bands.Given as goal
 

@@ -1,5 +1,5 @@
 use Rattle.std.proofs.Common.{◌-◌, ◌≡◌, ◌+◌, ◌≤◌, take, vec_len, IsTrue}
-use Rattle.devices.specs.Feed.{put_back}
+use Rattle.devices.specs.feeds.Feed.{put_back}
 use Rattle.devices.proofs.feeds.slurp.slurp.Given as goal
 
 -- The bytes in hand are those that the feed gave since the call, and none of its pulls failed.

@@ -1,5 +1,5 @@
 use Rattle.std.proofs.Common.{[], length}
-use Rattle.devices.specs.SinkSteps.{IsAppended}
+use Rattle.devices.specs.sinks.SinkSteps.{IsAppended}
 use Rattle.devices.proofs.sinks.slices.put_all.Given as goal
 
 -- The bytes are written on, where the rest of them counts as held in a buffer.

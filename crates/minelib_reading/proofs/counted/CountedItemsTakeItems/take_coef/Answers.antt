@@ -1,7 +1,7 @@
 use Rattle.std.proofs.Common.{◌+◌, ap, sym, ◌∙◌}
 use Rattle.std.proofs.lemmas.List.{length_push}
 use Rattle.minelib_reading.specs.inner.CountedItems.{counted_coefs}
-use Rattle.minelib_reading.proofs.CountedFacts.{last_added, next_place}
+use Rattle.minelib_reading.proofs.counts.CountedFacts.{last_added, next_place}
 use Rattle.minelib_reading.proofs.counted.CountedItemsTakeItems.take_coef.Goals as goal
 
 pub invariant_of-self : goal.invariant_of-self

@@ -2,7 +2,7 @@ use Rattle.std.specs.Prelude.{◌≡◌, ◌<◌, Ok, IfOk}
 use Rattle.std.proofs.Common.{sym, ◌∙◌, ap, subst}
 use Rattle.forms.specs.Words.{◌>>=◌}
 use Rattle.minelib_lines.specs.HeaderTable.{field_of}
-use Rattle.minelib_reading.proofs.KeyNumbers.{number_low}
+use Rattle.minelib_reading.proofs.keys.KeyNumbers.{number_low}
 use Rattle.minelib_reading.specs.inner.ModelParts.{millionths_in, number_in, number_limit, number_with}
 use Rattle.minelib_reading.proofs.model.header.number_in.Goals as goal
 

@@ -1,6 +1,6 @@
 use Rattle.std.proofs.Common.{sym}
 use Rattle.text_lines.specs.TextLines.{fields_of}
-use Rattle.minelib_reading.proofs.CoefLineFacts.{coef_counted, coef_kind}
+use Rattle.minelib_reading.proofs.lines.CoefLineFacts.{coef_counted, coef_kind}
 use Rattle.minelib_reading.proofs.model.items.coef_of_line.Goals as goal
 
 pub returns-in-Ok-clause-value : goal.returns-in-Ok-clause-value

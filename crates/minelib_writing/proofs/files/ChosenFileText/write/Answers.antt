@@ -2,7 +2,7 @@ use Rattle.std.proofs.Common.{rules}
 use Rattle.std.proofs.lemmas.List.{length-map}
 use Rattle.std.proofs.lemmas.List.Elements.{All-filter, All-map}
 use Rattle.mine_instance.specs.Greatest.{greatest}
-use Rattle.mine_instance.specs.OfCpit.{is_chosen, without_destination}
+use Rattle.mine_instance.specs.cpit.OfCpit.{is_chosen, without_destination}
 use Rattle.mine_instance.specs.Seen.{seen}
 use Rattle.pit_units.specs.Decimal.{IsInDecimalRange}
 use Rattle.minelib_lines.specs.Kept.{HasDecimals}

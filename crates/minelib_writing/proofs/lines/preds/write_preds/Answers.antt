@@ -2,7 +2,7 @@ use Rattle.std.proofs.Common.{◌≡◌, ℕ, List, take, rules, arith, subst}
 use Rattle.std.proofs.lemmas.List.{take_all}
 use Rattle.minelib_lines.specs.Lines.{lines_from, text_of}
 use Rattle.minelib_writing.specs.Written.{prec_fields}
-use Rattle.devices.specs.Writes.{IsWrittenOn}
+use Rattle.devices.specs.sinks.Writes.{IsWrittenOn}
 use Rattle.minelib_writing.proofs.LineFacts.{length-lines_from}
 use Rattle.minelib_writing.proofs.SectionsWritten.{more_cut, more_then}
 use Rattle.minelib_writing.proofs.lines.preds.write_preds.Goals as goal

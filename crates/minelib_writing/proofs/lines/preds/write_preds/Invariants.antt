@@ -1,7 +1,7 @@
 use Rattle.std.proofs.Common.{take}
 use Rattle.minelib_lines.specs.Lines.{lines_from, text_of}
 use Rattle.minelib_writing.specs.Written.{prec_fields}
-use Rattle.devices.specs.Writes.{IsWrittenOn}
+use Rattle.devices.specs.sinks.Writes.{IsWrittenOn}
 use Rattle.minelib_writing.proofs.lines.preds.write_preds.Given as goal
 
 -- The lines so far are written on.

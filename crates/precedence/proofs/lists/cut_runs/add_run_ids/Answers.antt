@@ -1,5 +1,5 @@
 use Rattle.std.proofs.Common.{◌+◌, ◌++◌, ◌∷◌, [], ◌∙◌, ap, sym, arith, append_assoc}
-use Rattle.precedence.proofs.RunsOfRows.{range_more}
+use Rattle.precedence.proofs.runs.RunsOfRows.{range_more}
 use Rattle.precedence.proofs.lists.cut_runs.add_run_ids.Goals as goal
 
 pub loop-k-preserved : goal.loop-k-preserved

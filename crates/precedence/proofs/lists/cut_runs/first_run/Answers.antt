@@ -1,7 +1,7 @@
 use Rattle.std.proofs.Common.{◌≡◌, ◌+◌, ◌<◌, ◌++◌, ◌∷◌, [], ◌∙◌, get_or, length, ap, sym, arith}
 use Rattle.std.specs.List.{range_with_len}
 use Rattle.std.proofs.lemmas.List.{take_more}
-use Rattle.precedence.proofs.RunsOfRows.{range_more}
+use Rattle.precedence.proofs.runs.RunsOfRows.{range_more}
 use Rattle.precedence.proofs.lists.cut_runs.first_run.Goals as goal
 
 pub loop-len-init : goal.loop-len-init

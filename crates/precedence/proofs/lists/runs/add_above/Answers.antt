@@ -1,7 +1,7 @@
 use Rattle.std.proofs.Common.{◌≤◌, length, ap, arith, append_assoc, append-nil}
 use Rattle.std.proofs.lemmas.List.{drop_all, length-map}
 use Rattle.precedence.specs.declared.cones.cone_rows.Row.{Row}
-use Rattle.precedence.proofs.RunsOfRows.{adds_run, no_rows, pasts_rise}
+use Rattle.precedence.proofs.runs.RunsOfRows.{adds_run, no_rows, pasts_rise}
 use Rattle.precedence.proofs.lists.runs.add_above.Goals as goal
 
 pub next_row-i-requires-clause-rising : goal.next_row-i-requires-clause-rising

@@ -1,6 +1,6 @@
 use Rattle.std.proofs.Common.{rules}
 use Rattle.text_lines.specs.TextLines.{fields_of}
-use Rattle.minelib_reading.proofs.ModelShapes.{section_takes}
+use Rattle.minelib_reading.proofs.models.ModelShapes.{section_takes}
 use Rattle.minelib_reading.proofs.model.draft.ModelDraft.admit_section.Goals as goal
 
 pub returns-then-count_fields-ne0 : goal.returns-then-count_fields-ne0

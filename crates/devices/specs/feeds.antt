@@ -1,0 +1,4 @@
+pub mod Feed
+pub mod FileFeedView
+pub mod MemFeedView
+pub mod ReadFeedView

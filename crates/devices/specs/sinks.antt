@@ -1,0 +1,6 @@
+pub mod FileSinkView
+pub mod MemSinkView
+pub mod SectionSinkView
+pub mod SinkState
+pub mod SinkSteps
+pub mod Writes

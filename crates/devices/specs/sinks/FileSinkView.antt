@@ -1,0 +1,21 @@
+-- What a sink over a file tells.
+use Rattle.std.specs.Prelude.{ℕ, List, [], Bool, false, Option, None}
+use Rattle.devices.specs.sinks.SinkState.{SinkState}
+
+pub record FileSinkView : Type 0 where
+  -- the path of its file
+  pub path : List ℕ
+  -- whether its file was created
+  pub begun : Bool
+  -- the bytes that the file holds, where the file tells them
+  pub held : Option (List ℕ)
+  -- how many calls it refused so far
+  pub failures : ℕ
+
+-- a sink for the file at this path that was not begun
+abbrev pub unbegun : List ℕ → FileSinkView
+unbegun path = record { path = path; begun = false; held = None; failures = 0 }
+
+-- what it tells as a sink: the bytes of its text are told by no file of a system
+abbrev pub file_told : FileSinkView → SinkState
+file_told s = record { begun = s.begun; before = []; taken = None; failures = s.failures }

@@ -1,0 +1,29 @@
+-- What a sink tells before and after one step of a writer, which may hold back bytes in a buffer.
+use Rattle.std.specs.Prelude.{◌≡◌, ◌+◌, ℕ, List}
+use Rattle.devices.specs.Device.{added, IsFront}
+use Rattle.devices.specs.declared.sinks.sink.SinkFault.{SinkFault}
+use Rattle.pit_units.specs.declared.or_memory.OrMemory.{OrMemory}
+use Rattle.pit_units.specs.declared.or_memory.OrMemory.TheVariants.{Fault, OutOfMemory}
+use Rattle.devices.specs.sinks.SinkState.{SinkState}
+
+-- as much begun as it was, behind the same bytes
+pub record IsBegunAsBefore (old new : SinkState) : Type 0 where
+  pub begun : new.begun ≡ old.begun
+  pub before : new.before ≡ old.before
+
+-- the text was written on: what was taken and what the buffer holds go on with it, and the sink refused no call
+pub record IsAppended (text before after : List ℕ) (old new : SinkState) : Type 0 where
+  pub taken : added after new.taken ≡ added text (added before old.taken)
+  pub works : new.failures ≡ old.failures
+  pub still : IsBegunAsBefore old new
+
+-- the sink refused so many calls, and holds the front of what was taken, what the buffer held and the text
+pub record IsAppendCut (more : ℕ) (text before : List ℕ) (old new : SinkState) : Type 0 where
+  pub front : IsFront new.taken (added text (added before old.taken))
+  pub fails : new.failures ≡ old.failures + more
+  pub still : IsBegunAsBefore old new
+
+-- how many calls a sink refused, by why its text was not written
+abbrev pub refusals : OrMemory SinkFault → ℕ
+refusals (Fault fault) = 1
+refusals OutOfMemory = 0

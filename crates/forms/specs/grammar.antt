@@ -1,0 +1,4 @@
+pub mod Grammar
+pub mod GrammarStates
+pub mod Shape
+pub mod ShapeStates

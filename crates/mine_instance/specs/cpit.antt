@@ -1,0 +1,4 @@
+pub mod Cpit
+pub mod CpitKept
+pub mod CpitOrder
+pub mod OfCpit

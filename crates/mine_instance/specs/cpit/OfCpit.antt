@@ -1,0 +1,31 @@
+-- The CPIT of an instance: each block goes to the first destination where it is worth most.
+use Rattle.std.specs.Prelude.{ℕ, ◌==◌, Bool, List, [], ℤ, map, filter, slice_index_or}
+use Rattle.mine_instance.specs.Greatest.{first_greatest, greatest}
+use Rattle.mine_instance.specs.declared.coefs.coef.Coef.{Coef}
+use Rattle.mine_instance.specs.declared.cpit.CpitCoef.{CpitCoef}
+use Rattle.mine_instance.specs.Instance.{Instance}
+use Rattle.mine_instance.specs.cpit.Cpit.{CpitParts}
+
+-- the destination of a block
+abbrev pub destination_of : List (List ℤ) → ℕ → ℕ
+destination_of values block = first_greatest (slice_index_or values block [])
+
+-- the coefficient is at its block's destination
+abbrev pub is_chosen : List (List ℤ) → Coef → Bool
+is_chosen values c = c.d == destination_of values c.b
+
+-- a coefficient without its destination
+abbrev pub without_destination : Coef → CpitCoef
+without_destination c = record { b = c.b; r = c.r; v = c.v }
+
+-- the CPIT of an instance: each block's greatest value, and the coefficients at its destination
+abbrev pub cpit : Instance → CpitParts
+cpit i = record {
+  name = i.name;
+  rate = i.rate;
+  periods = i.periods;
+  resources = i.resources;
+  values = map greatest i.values;
+  coefs = map without_destination (filter (is_chosen i.values) i.coefs);
+  limits = i.limits;
+}

@@ -1,0 +1,4 @@
+pub mod CountedFacts
+pub mod CountedLater
+pub mod FedAnswers
+pub mod MarkFacts

@@ -1,0 +1,5 @@
+pub mod HeaderFacts
+pub mod HeaderLines
+pub mod KeyLines
+pub mod KeyNumbers
+pub mod Keyless

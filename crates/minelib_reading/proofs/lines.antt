@@ -1,0 +1,11 @@
+pub mod BlockLineFacts
+pub mod CoefLineFacts
+pub mod FormFields
+pub mod ItemLines
+pub mod LimitLineFacts
+pub mod LineKindsFacts
+pub mod LinesThen
+pub mod PrecLineFacts
+pub mod PrecTests
+pub mod ShapeSteps
+pub mod ValuesLineFacts

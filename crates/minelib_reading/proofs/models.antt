@@ -1,0 +1,7 @@
+pub mod Finished
+pub mod ModelFacts
+pub mod ModelShapes
+pub mod ModelSteps
+pub mod Places
+pub mod ValidModel
+pub mod ValidRead

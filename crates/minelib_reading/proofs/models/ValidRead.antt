@@ -1,0 +1,95 @@
+-- What is read is valid.
+use Rattle.std.specs.Prelude.{◌≡◌, ℕ, ◌+◌, slice_index_or, ◌<◌, ◌≤◌, List, [], ◌∷◌, length, Ok}
+use Rattle.std.proofs.Common.{refl, sym, ◌∙◌, subst, arith}
+use Rattle.std.proofs.lemmas.List.{get_or-map, length-map}
+use Rattle.mine_instance.specs.cpit.Cpit.{CpitParts}
+use Rattle.mine_instance.specs.cpit.CpitKept.{AreCpitCoefs, IsCpit}
+use Rattle.mine_instance.specs.Valid.{ArePredsOf, IsValid}
+use Rattle.mine_instance.specs.Instance.{Instance}
+use Rattle.minelib_reading.specs.BlockLines.{block_form, blocks_in}
+use Rattle.minelib_reading.specs.Denotes.{Denotes, cpit_read, cpit_denoted, DenotesCpit}
+use Rattle.minelib_reading.specs.ModelLines.{ModelDraftView, model_in}
+use Rattle.minelib_reading.specs.PrecLines.{preds_form}
+use Rattle.minelib_reading.specs.ModelStates.{stated_by}
+use Rattle.minelib_reading.specs.spelled.SpelledTexts.{SpellBlocks, SpellCpit}
+use Rattle.minelib_reading.specs.StatedModel.{alone, model_of, model_of_cpit}
+use Rattle.minelib_lines.specs.LineValues.{at_only_destination, block_values, preds_values}
+use Rattle.pit_parts.specs.declared.block.Block.{Block}
+use Rattle.forms.proofs.FormFacts.{spelled_fit}
+use Rattle.forms.specs.Words.{Spell}
+use Rattle.text_lines.specs.TextLines.{fields_of, lines_in}
+use Rattle.minelib_lines.specs.declared.problem.Problem.{Problem}
+use Rattle.minelib_lines.specs.declared.problem.Problem.TheVariants as problem
+use Rattle.minelib_reading.proofs.lines.FormFields.{whole_low}
+use Rattle.minelib_reading.proofs.lines.ItemLines.{each_item}
+use Rattle.minelib_reading.proofs.spelled.SpelledDenotes.{blocks_lines, cpit_spelled, denoted_spelled, model_spelled}
+use Rattle.minelib_reading.proofs.models.ValidModel.{IsModel, spelled_model}
+use Rattle.minelib_reading.proofs.spelled.SpelledRead.{blocks_spelled}
+
+pub model_is_valid : (problem : Problem) (n : ℕ) (text : List ℕ) (d : ModelDraftView) → model_in problem n text ≡ Ok d
+    → IsModel problem n (stated_by d)
+model_is_valid problem n text d e = spelled_model problem n (lines_in text) (stated_by d) (model_spelled problem n text d e)
+
+-- there are at most 64,000,000 blocks, since the last has an identifier
+few_spelled : (text : List ℕ) (blocks : List Block) → SpellBlocks text blocks → length blocks ≤ 64000000
+few_spelled text [] are = omega arith
+few_spelled text (b ∷ blocks) are =
+    let last = each_item (λ id line b. Spell block_form (fields_of line) (block_values id b)) (λ id _. id < 64000000)
+    (λ id line b s. whole_low 64000000 id (spelled_fit block_form (fields_of line) (block_values id b) refl s).0)
+    0 (lines_in text) (b ∷ blocks) are (length blocks) b (omega arith) in
+    omega (arith, last)
+
+pub few_blocks : (text : List ℕ) (blocks : List Block) → blocks_in text ≡ Ok blocks → length blocks ≤ 64000000
+few_blocks text blocks e = few_spelled text blocks (blocks_lines text blocks (blocks_spelled text blocks e))
+
+-- the instance that three texts denote is valid
+pub read_valid : (blocks prec pcpsp : List ℕ) (i : Instance) → Denotes blocks prec pcpsp i → IsValid i
+read_valid blocks prec pcpsp i e =
+    let are = denoted_spelled blocks prec pcpsp i e in
+    let n = length i.blocks in
+    let model = spelled_model problem.Pcpsp n (lines_in pcpsp) (model_of i) are.of_model in
+    record {
+      lengths = record { few = few_spelled blocks i.blocks are.of_blocks; preds = are.of_preds.0; values = model.count };
+      preds = λ id within.
+          let place : 0 + id ≡ id = omega arith in
+          subst (λ own. ArePredsOf own n (slice_index_or i.preds id [])) place (each_item
+          (λ own line ids. Spell (preds_form n (fields_of line)) (fields_of line) (preds_values own ids) × ArePredsOf own n ids)
+          (λ own ids. ArePredsOf own n ids) (λ own line ids s. s.1) 0 (lines_in prec) i.preds are.of_preds.1 id [] within);
+      horizon = model.horizon;
+      destinations = model.destinations;
+      coefs = model.coefs;
+      limits = model.limits;
+    }
+
+-- a constrained pit limit problem that a text spells keeps what every one keeps, and has one value a block
+spelled_cpit_valid : (n : ℕ) (text : List ℕ) (c : CpitParts) → n ≤ 64000000 → SpellCpit n text c → IsCpit c × (length c.values ≡ n)
+spelled_cpit_valid n text c few are =
+    let m = spelled_model problem.Cpit n (lines_in text) (model_of_cpit c) are in
+    let count : length c.values ≡ n = sym (length-map c.values alone) ∙ m.count in (
+      record {
+        few = omega (arith, count);
+        horizon = m.horizon;
+        coefs = subst (λ n. AreCpitCoefs n c.resources c.coefs) (sym count) (record {
+          in_range = λ k d within.
+              let range = m.coefs.in_range k (at_only_destination d) (rw (length-map c.coefs at_only_destination) within) in
+              let own = rw (get_or-map at_only_destination c.coefs k d (at_only_destination d) within) at range in
+              (own.0, own.2);
+          rising = λ i j d less within.
+              let rises = m.coefs.rising i j (at_only_destination d) less (rw (length-map c.coefs at_only_destination) within) in
+              rw (
+                get_or-map at_only_destination c.coefs i d (at_only_destination d) (omega (arith, less, within)),
+                get_or-map at_only_destination c.coefs j d (at_only_destination d) within,
+              ) at rises;
+        });
+        limits = m.limits;
+      },
+      count,
+    )
+
+pub read_cpit_valid : (n : ℕ) (text : List ℕ) (c : CpitParts) → n ≤ 64000000 → DenotesCpit n text c → IsCpit c × (length c.values ≡ n)
+read_cpit_valid n text c few e = spelled_cpit_valid n text c few (cpit_spelled n text c e)
+
+pub cpit_is_valid : (n : ℕ) (text : List ℕ) (d : ModelDraftView) → n ≤ 64000000 → model_in problem.Cpit n text ≡ Ok d
+    → IsCpit (cpit_read d) × (length (cpit_read d).values ≡ n)
+unfolding cpit_denoted
+cpit_is_valid n text d few e = read_cpit_valid n text (cpit_read d) few (rw e refl)

@@ -1,0 +1,4 @@
+pub mod SpelledDenotes
+pub mod SpelledModelBack
+pub mod SpelledModelRead
+pub mod SpelledRead

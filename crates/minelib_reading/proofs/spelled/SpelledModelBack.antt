@@ -1,0 +1,281 @@
+-- Lines that spell a model state it.
+use Rattle.std.specs.Prelude.{◌≡◌, ◌≢◌, ℕ, suc, ◌+◌, ◌==◌, true, false, not, List, [], ◌∷◌, ◌++◌, length, ℤ, pos, Some, None, is_some, unwrap_or, AllPairs, codes, slice_index_or}
+use Rattle.std.specs.List.{Contains}
+use Rattle.std.specs.Str.{bytes_eq}
+use Rattle.std.proofs.Common.{refl, sym, ◌∙◌, ap, subst, arith, inl, inr, eq-eqb}
+use Rattle.std.proofs.lemmas.Bool.{cases_Bool}
+use Rattle.forms.proofs.NumberFields.{quotient}
+use Rattle.forms.specs.Words.{Field, Value, whole, whole_stated, word_of, AllState, check, failing, States, Spell}
+use Rattle.pit_parts.specs.PlanKept.{stands_before}
+use Rattle.pit_parts.specs.declared.limit.Limit.{Limit}
+use Rattle.mine_instance.specs.Order.{coef_before}
+use Rattle.mine_instance.specs.declared.coefs.coef.Coef.{Coef}
+use Rattle.text_lines.specs.TextLines.{Line, fields_of}
+use Rattle.text_lines.specs.declared.text_fault.TextKind.TheVariants.{Count, Twice, Key, Missing}
+use Rattle.minelib_lines.specs.HeaderTable.{has_key, key_value, key_word, type_text}
+use Rattle.minelib_lines.specs.LineValues.{StatedHeader, coef_values, limit_values, values_values}
+use Rattle.minelib_lines.specs.declared.problem.Problem.{Problem}
+use Rattle.minelib_lines.specs.declared.problem.Problem.TheVariants.{Pcpsp, Cpit}
+use Rattle.minelib_reading.specs.HeaderNumbers.{count_in, is_complete, is_given, number_of, with_key, number_said}
+use Rattle.minelib_reading.specs.ItemForms.{coef_form, limit_form, values_form}
+use Rattle.minelib_reading.specs.ModelLines.{ModelDraftView, blank_header, blank_model, header_line, is_behind, is_counted, is_heading, is_next, is_ready, item_line, last_of, model_grammar, model_line, name_with, section_line}
+use Rattle.minelib_reading.specs.ModelStates.{StateModel, header_stated, stated_by}
+use Rattle.minelib_reading.specs.spelled.SpelledKeys.{IsKeyLine, section_text}
+use Rattle.minelib_reading.specs.spelled.SpelledLines.{AreLines}
+use Rattle.minelib_reading.specs.spelled.SpelledModel.{AreHeaderLines, AreModelLines, IsHeaderLine, IsSingle, SpellCoef, SpellLimit, SpellValues}
+use Rattle.minelib_reading.specs.StatedModel.{StatedModel}
+use Rattle.minelib_reading.specs.declared.model.key.Header.{Header}
+use Rattle.minelib_lines.specs.declared.header_key.HeaderKey.{HeaderKey}
+use Rattle.minelib_lines.specs.declared.header_key.HeaderKey.TheVariants as key
+use Rattle.minelib_reading.specs.declared.model.key.Section.{Section}
+use Rattle.minelib_reading.specs.declared.model.key.Section.TheVariants.{Heading, Objective, Coefs, Limits}
+use Rattle.minelib_reading.proofs.lines.CoefLineFacts.{coef_plain}
+use Rattle.minelib_reading.proofs.lines.FormFields.{ArePlain, from_zero, spelled_keyless}
+use Rattle.minelib_reading.proofs.keys.HeaderFacts.{all_given, contains_cases, each_with, first_given, with_same}
+use Rattle.minelib_reading.proofs.lines.ItemLines.{items_state}
+use Rattle.minelib_reading.proofs.models.ValidModel.{in_both, key_fits}
+use Rattle.minelib_reading.proofs.keys.KeyLines.{cut_line, header_found, header_plain, section_found, section_plain}
+use Rattle.minelib_reading.proofs.lines.LimitLineFacts.{bound_plain}
+use Rattle.minelib_reading.proofs.models.ModelSteps.{coef_back, limit_back, values_back}
+use Rattle.minelib_reading.proofs.lines.LinesThen.{StateAny, draft, heading, line_then, lines_then}
+use Rattle.minelib_reading.proofs.models.Places.{behind_last}
+use Rattle.minelib_reading.proofs.lines.ShapeSteps.{met}
+use Rattle.minelib_reading.proofs.lines.ValuesLineFacts.{many_plain}
+
+-- the number that a header keeps of what it states by a key
+abbrev pub told : Problem → ℕ → StatedHeader → HeaderKey → ℕ
+told problem n m k = number_said k (key_value (type_text problem) n m k)
+
+pub name_told : (problem : Problem) (n : ℕ) (m : StatedHeader) (k : HeaderKey) (name : List ℕ)
+    → name_with k (word_of (key_value (type_text problem) n m k)) name ≡ name_with k m.name name
+name_told problem n m key.Name name = refl
+name_told problem n m k name = refl
+
+pub counted : (problem : Problem) (n : ℕ) (m : StatedHeader) (k : HeaderKey) → failing (is_counted k n (key_value (type_text problem) n m k)) ≡ None
+counted problem n m key.Blocks = met Count (whole_stated (whole n) == n) [] (rw (quotient n) (eq-eqb n n refl)) refl
+counted problem n m k = refl
+
+-- a key's line adds what the header states by it
+pub key_states : (d : ModelDraftView) (m : StatedHeader) (k : HeaderKey) (line : List ℕ) → is_heading d.section ≡ true
+    → is_given k d.header ≡ false → IsHeaderLine d.problem d.blocks m line k
+    → States (model_line d line) (record d { header = with_key d.header k (told d.problem d.blocks m k); name = name_with k m.name d.name })
+unfolding header_line
+key_states d m k line in_heading new l =
+    let c = cut_line (key_word k) line (l.value ∷ []) (header_plain k) l.is_key in
+    let here : model_line d line ≡ header_line d k (l.value ∷ []) =
+    rw (c.colon, c.key_is, header_found d.problem k l.of_problem, c.fields_are) refl in
+    let name = sym (name_told d.problem d.blocks m k d.name) in
+    subst (λ shape. States shape (record d { header = with_key d.header k (told d.problem d.blocks m k); name = name_with k m.name d.name })) (sym here)
+    (record {
+      first = met Key (is_heading d.section) (check Twice (not (is_given k d.header))) in_heading
+          (met Twice (not (is_given k d.header)) [] (ap not new) refl);
+      values = key_value (type_text d.problem) d.blocks m k ∷ [];
+      spelled = (l.says, tt);
+      last = counted d.problem d.blocks m k;
+      is = λ i. record d { header = with_key d.header k (told d.problem d.blocks m k); name = name i };
+    })
+
+-- the line that begins a section
+pub section_states : (d : ModelDraftView) (section : Section) (line : List ℕ) → IsKeyLine (section_text section) line []
+    → is_next d.section section ≡ true → is_ready d d.section ≡ true → States (model_line d line) (record d { section = section })
+unfolding section_line
+section_states d section line l follows ready =
+    let c = cut_line (section_text section) line [] (section_plain section) l in
+    let here : model_line d line ≡ section_line d section [] =
+    rw (c.colon, c.key_is, section_found d.problem d.section section follows, c.fields_are) refl in
+    subst (λ shape. States shape (record d { section = section })) (sym here) (record {
+      first = met Key (is_next d.section section) [] follows refl;
+      values = [];
+      spelled = tt;
+      last = met Missing (is_ready d d.section) [] ready refl;
+      is = refl;
+    })
+
+-- the line of an item, whose fields spell a form without a colon
+item_states : (d next : ModelDraftView) (line : List ℕ) (form : List Field) (values : List Value) → ArePlain form
+    → Spell form (fields_of line) values → States (item_line d d.section (fields_of line)) next → States (model_line d line) next
+item_states d next line form values plain spelled states =
+    let none = spelled_keyless form line values plain spelled in
+    let here : model_line d line ≡ item_line d d.section (fields_of line) = rw none refl in
+    subst (λ shape. States shape next) (sym here) states
+
+pub values_states : (d : ModelDraftView) (vs : List ℤ) (line : List ℕ)
+    → SpellValues d.blocks (header_stated d.name d.header) (length d.values) (fields_of line) vs
+    → States (model_line (record d { section = Objective }) line) (record d { section = Objective; values = d.values ++ vs ∷ [] })
+values_states d vs line spelled =
+    let destinations = count_in d.header key.Destinations in
+    let at : ModelDraftView = record d { section = Objective } in
+    item_states at _ line (values_form d.blocks destinations) (values_values (length d.values) vs) (many_plain destinations) spelled
+    (values_back at _ (fields_of line) (vs, refl, spelled))
+
+coef_states : (d : ModelDraftView) (c : Coef) (line : List ℕ)
+    → SpellCoef d.problem d.blocks (header_stated d.name d.header) (fields_of line) c
+    → is_behind coef_before (last_of d.coefs) c ≡ true
+    → States (model_line (record d { section = Coefs }) line) (record d { section = Coefs; coefs = d.coefs ++ c ∷ [] })
+coef_states d c line spelled behind =
+    let destinations = count_in d.header key.Destinations in
+    let resources = count_in d.header key.Resources in
+    let at : ModelDraftView = record d { section = Coefs } in
+    item_states at _ line (coef_form d.problem d.blocks destinations resources) (coef_values d.problem c)
+    (coef_plain d.problem d.blocks destinations resources) spelled.0 (coef_back at _ (fields_of line) (c, refl, spelled, behind))
+
+limit_states : (d : ModelDraftView) (l : Limit) (line : List ℕ) → SpellLimit (header_stated d.name d.header) (fields_of line) l
+    → is_behind stands_before (last_of d.limits) l ≡ true
+    → States (model_line (record d { section = Limits }) line) (record d { section = Limits; limits = d.limits ++ l ∷ [] })
+limit_states d l line spelled behind =
+    let at : ModelDraftView = record d { section = Limits } in
+    item_states at _ line (limit_form (count_in d.header key.Resources) (count_in d.header key.Periods) (fields_of line)) (limit_values l)
+    (bound_plain (bytes_eq (slice_index_or (fields_of line) 2 []) (codes "I"))) spelled.0
+    (limit_back at _ (fields_of line) (l, refl, spelled, behind))
+
+-- the NAME is the value of its key
+abbrev IsNameOf : HeaderKey → List ℕ → List ℕ → Type 0
+IsNameOf key.Name value name = name ≡ value
+IsNameOf k value name = Unit {0}
+
+name_stands : (k : HeaderKey) (value name : List ℕ) → IsNameOf k value (name_with k value name)
+name_stands key.Name value name = refl
+name_stands k value name = tt
+
+name_kept : (k j : HeaderKey) (value name : List ℕ) → IsNameOf j value name → IsNameOf j value (name_with k value name)
+name_kept key.Name key.Name value name was = refl
+name_kept key.Name j value name was = was
+name_kept k j value name was = was
+
+-- a NAME and a header have what the model states by a key
+abbrev Has : Problem → ℕ → StatedHeader → HeaderKey → List ℕ → Header → Type 0
+Has problem n m k name h = (number_of h k ≡ Some (told problem n m k)) × IsNameOf k m.name name
+
+-- behind the lines of these keys
+record Walked (problem : Problem) (n : ℕ) (m : StatedHeader) (keys : List HeaderKey) (lines : List Line) (name : List ℕ)
+    (h : Header) : Type 0 where
+  pub last_name : List ℕ
+  pub last : Header
+  pub states : StateAny (heading problem n name h) lines (heading problem n last_name last)
+  pub kept : (k : HeaderKey) → Has problem n m k name h → Has problem n m k last_name last
+  pub all : (k : HeaderKey) → Contains keys k → Has problem n m k last_name last
+
+walk : (problem : Problem) (n : ℕ) (m : StatedHeader) (i : ℕ) (lines : List Line) (keys : List HeaderKey) (name : List ℕ) (h : Header)
+    → AreLines (λ _ line k. IsHeaderLine problem n m line k) i lines keys → AllPairs (λ k j. k ≢ j) keys
+    → ((k : HeaderKey) → Contains keys k → has_key problem k ≡ true → is_given k h ≡ false) → Walked problem n m keys lines name h
+walk problem n m i [] [] name h are once fresh =
+    record { last_name = name; last = h; states = λ number. refl; kept = λ k was. was; all = λ k c. absurd (omega (arith, c.1)) }
+walk problem n m i (line ∷ lines) (k ∷ keys) name h are once fresh =
+    let number = told problem n m k in
+    let next_name = name_with k m.name name in
+    let next = with_key h k number in
+    let new = fresh k (0, omega arith, refl) are.0.of_problem in
+    let differs : (j : HeaderKey) → Contains keys j → k ≢ j =
+    λ j c. subst (λ x. k ≢ x) c.2 (once 0 (suc c.0) j (omega arith) (omega (arith, c.1))) in
+    let more = walk problem n m (i + 1) lines keys next_name next are.1
+    (λ a b d less inside. once (suc a) (suc b) d (omega (arith, less)) (omega (arith, inside)))
+    (each_with (λ j found. Contains keys j → has_key problem j ≡ true → is_some found ≡ false) h k number
+    (λ c has. absurd (differs k c refl)) (λ j _ c has. fresh j (suc c.0, omega (arith, c.1), c.2) has)) in
+    record {
+      last_name = more.last_name;
+      last = more.last;
+      states = line_then (heading problem n name h) (heading problem n next_name next) (heading problem n more.last_name more.last) line lines
+          (key_states (heading problem n name h) m k line.text refl new are.0) more.states;
+      kept = λ j was. more.kept j (
+        each_with (λ j found. number_of h j ≡ Some (told problem n m j) → found ≡ Some (told problem n m j)) h k number (λ _. refl) (λ j _ same. same) j was.0,
+        name_kept k j m.name name was.1,
+      );
+      all = λ j c. elim (contains_cases k keys j c.0 c.1 c.2) [
+        | inl same ↦ subst (λ j. Has problem n m j more.last_name more.last) same (more.kept k (with_same h k number, name_stands k m.name name))
+        | inr there ↦ more.all j there
+      ];
+    }
+walk problem n m i lines keys name h are once fresh = absurd are
+
+-- what has no key stands before the first
+without : (problem : Problem) (n : ℕ) (m : StatedHeader) (k : HeaderKey) → has_key problem k ≡ false → IsSingle problem m.destinations
+    → Has problem n m k [] (blank_header problem)
+unfolding with_key
+without Pcpsp n m k e single = absurd cc
+without Cpit n m key.Destinations e single = (ap Some (sym (quotient m.destinations ∙ single)), tt)
+without Cpit n m key.General e single = (refl, tt)
+without Cpit n m k e single = absurd cc
+
+-- behind the header's lines it stands whole
+record HasHeader (problem : Problem) (n : ℕ) (m : StatedHeader) (lines : List Line) : Type 0 where
+  pub name : List ℕ
+  pub h : Header
+  pub states : StateAny (blank_model problem n) lines (heading problem n name h)
+  pub complete : is_complete h ≡ true
+  pub stated : header_stated name h ≡ m
+
+header_back : (problem : Problem) (n : ℕ) (m : StatedHeader) (lines : List Line) → IsSingle problem m.destinations
+    → AreHeaderLines problem n lines m → HasHeader problem n m lines
+header_back problem n m lines single are =
+    let w = walk problem n m 0 lines are.keys [] (blank_header problem) are.spelled are.once
+    (λ k _ has. first_given problem k ∙ ap not has) in
+    let each : (k : HeaderKey) → Has problem n m k w.last_name w.last =
+    λ k. elim (cases_Bool (has_key problem k)) [
+      | inl has ↦ w.all k (are.all k has)
+      | inr none ↦ w.kept k (without problem n m k none single)
+    ] in
+    let count : (k : HeaderKey) → count_in w.last k ≡ told problem n m k = λ k. ap (λ number. unwrap_or number 0) (each k).0 in
+    let rate = from_zero m.rate (key_fits problem n lines m are key.Rate (in_both problem key.Rate refl)).0 in
+    record {
+      name = w.last_name;
+      h = w.last;
+      states = w.states;
+      complete = all_given w.last (λ k. ap is_some (each k).0);
+      stated = λ i. record {
+        name = (each key.Name).1 i;
+        periods = (count key.Periods ∙ quotient m.periods) i;
+        destinations = (count key.Destinations ∙ quotient m.destinations) i;
+        resources = (count key.Resources ∙ quotient m.resources) i;
+        rate = (ap pos (count key.Rate) ∙ rate) i;
+      };
+    }
+
+-- a model with the header that was read
+abbrev with_header : StatedModel → StatedHeader → StatedModel
+with_header m header = record { header = header; values = m.values; coefs = m.coefs; limits = m.limits }
+
+-- lines that spell a model state a draft of it
+abbrev StatedAs : Problem → ℕ → List Line → StatedModel → Type 0
+StatedAs problem n lines m = (d : ModelDraftView) × StateModel problem n lines d × (stated_by d ≡ m)
+
+sections_back : (problem : Problem) (n : ℕ) (m : StatedModel) (lines : List Line) (name : List ℕ) (h : Header) → is_complete h ≡ true
+    → (are : AreModelLines problem n lines (with_header m (header_stated name h)))
+    → StateAny (blank_model problem n) are.heading (heading problem n name h)
+    → StatedAs problem n lines (with_header m (header_stated name h))
+sections_back problem n m lines name h complete are header =
+    let at = draft problem n name h in
+    let values = items_state model_grammar (λ block line vs. SpellValues n (header_stated name h) block (fields_of line) vs)
+    (λ done. at Objective done [] []) m.values
+    (λ _ done x rest line cut s. values_states (at Objective done [] []) x line.text s) 0 [] m.values are.values refl refl are.spell_values in
+    let coefs = items_state model_grammar (λ _ line c. SpellCoef problem n (header_stated name h) (fields_of line) c)
+    (λ done. at Coefs m.values done []) m.coefs
+    (λ _ done x rest line cut s. coef_states (at Coefs m.values done []) x line.text s
+    (behind_last coef_before m.coefs done x rest cut are.rising_coefs)) 0 [] m.coefs are.coefs refl refl are.spell_coefs in
+    let limits = items_state model_grammar (λ _ line l. SpellLimit (header_stated name h) (fields_of line) l)
+    (λ done. at Limits m.values m.coefs done) m.limits
+    (λ _ done x rest line cut s. limit_states (at Limits m.values m.coefs done) x line.text s
+    (behind_last stands_before m.limits done x rest cut are.rising_limits)) 0 [] m.limits are.limits refl refl are.spell_limits in
+    let objective = section_states (at Heading [] [] []) Objective are.objective.text are.begin_values refl complete in
+    let coefficients = section_states (at Objective m.values [] []) Coefs are.coefficients.text are.begin_coefs refl
+    (eq-eqb (length m.values) n are.all_values) in
+    let resource_limits = section_states (at Coefs m.values m.coefs []) Limits are.resource_limits.text are.begin_limits refl refl in
+    let last = at Limits m.values m.coefs m.limits in
+    let behind_coefs = line_then _ _ last are.resource_limits are.limits resource_limits limits in
+    let behind_values = line_then _ _ last are.coefficients _ coefficients (lines_then _ _ last are.coefs _ coefs behind_coefs) in
+    let behind_header = line_then _ _ last are.objective _ objective (lines_then _ _ last are.values _ values behind_values) in
+    let all = lines_then _ _ last are.heading _ header behind_header 1 in (
+      last,
+      (
+        subst (λ lines. AllState model_grammar 1 (blank_model problem n) lines last) (sym are.cut) all,
+        rw (complete, eq-eqb (length m.values) n are.all_values) refl,
+      ),
+      refl,
+    )
+
+pub spelled_stated : (problem : Problem) (n : ℕ) (lines : List Line) (m : StatedModel) → AreModelLines problem n lines m
+    → StatedAs problem n lines m
+spelled_stated problem n lines m are =
+    let h = header_back problem n m.header are.heading are.destinations are.spell_header in
+    subst (λ header. (are : AreModelLines problem n lines (with_header m header))
+    → StateAny (blank_model problem n) are.heading (heading problem n h.name h.h) → StatedAs problem n lines (with_header m header))
+    h.stated (sections_back problem n m lines h.name h.h h.complete) are h.states

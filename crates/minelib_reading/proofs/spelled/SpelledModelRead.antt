@@ -1,0 +1,282 @@
+-- The lines that state a model spell what it states.
+use Rattle.std.specs.Prelude.{◌≡◌, ℕ, suc, ◌+◌, ◌≤◌, ◌==◌, ◌&&◌, true, List, [], ◌∷◌, ◌++◌, length, ℤ, AllPairs, IsTrue}
+use Rattle.std.proofs.Common.{refl, sym, ◌∙◌, ap, subst, arith, append_assoc, append-nil, length-append}
+use Rattle.std.proofs.lemmas.Bool.{and_parts, eqb-true}
+use Rattle.forms.proofs.FormFacts.{spelled_fit}
+use Rattle.forms.specs.Words.{AllState, Says, States}
+use Rattle.pit_parts.specs.PlanKept.{RiseStrictly, stands_before}
+use Rattle.mine_instance.specs.Order.{coef_before}
+use Rattle.mine_instance.proofs.OrderLaws.{coef_before_is_transitive, stands_before_is_transitive}
+use Rattle.pit_parts.specs.declared.limit.Limit.{Limit}
+use Rattle.mine_instance.specs.declared.coefs.coef.Coef.{Coef}
+use Rattle.text_lines.specs.TextLines.{Line, fields_of}
+use Rattle.minelib_lines.specs.declared.problem.Problem.{Problem}
+use Rattle.minelib_reading.specs.HeaderNumbers.{count_in, is_complete}
+use Rattle.minelib_reading.specs.ModelLines.{ModelDraftView, blank_model, coef_line, header_line, is_heading, is_limits, is_ready, limit_line, model_grammar, model_line, section_line, values_line}
+use Rattle.minelib_reading.specs.ModelStates.{StateModel, header_stated, stated_by}
+use Rattle.minelib_lines.specs.HeaderTable.{field_of, has_key, key_value, key_word, type_text}
+use Rattle.minelib_lines.specs.LineValues.{values_values}
+use Rattle.minelib_reading.specs.ItemForms.{values_form}
+use Rattle.minelib_reading.specs.spelled.SpelledKeys.{IsKeyLine, section_text}
+use Rattle.minelib_reading.specs.spelled.SpelledLines.{AreLines}
+use Rattle.minelib_reading.specs.spelled.SpelledModel.{AreModelLines, SpellCoef, SpellLimit, SpellValues}
+use Rattle.minelib_lines.specs.declared.header_key.HeaderKey.{HeaderKey}
+use Rattle.minelib_lines.specs.declared.header_key.HeaderKey.TheVariants as key
+use Rattle.minelib_reading.specs.declared.model.key.Section.{Section}
+use Rattle.minelib_reading.specs.declared.model.key.Section.TheVariants.{Heading, Objective, Coefs, Limits}
+use Rattle.minelib_reading.proofs.keys.HeaderLines.{Heads, WholeHeader, heads_more, heads_none, heads_whole}
+use Rattle.minelib_reading.proofs.lines.ItemLines.{line_more}
+use Rattle.minelib_reading.proofs.keys.KeyLines.{next_by}
+use Rattle.minelib_reading.proofs.models.ModelShapes.{each_line}
+use Rattle.minelib_reading.proofs.models.ModelSteps.{coef_step, key_step, limit_step, no_stray, section_step, values_step}
+use Rattle.minelib_reading.proofs.models.Places.{rises_behind}
+use Rattle.minelib_reading.proofs.lines.ValuesLineFacts.{many_fine}
+use Rattle.minelib_reading.proofs.lines.FormFields.{whole_low}
+
+-- the lines of a section so far: those before it, the line that begins it, and one for each item, which keep something together
+pub record Part {A : Type 0} (Before : List Line → Type 0) (section : Section) (Spells : ℕ → List ℕ → A → Type 0)
+    (Keeps : List A → Type 0) (items : List A) (done : List Line) : Type 0 where
+  pub before : List Line
+  pub earlier : Before before
+  pub first : Line
+  pub lines : List Line
+  pub cut : done ≡ before ++ first ∷ lines
+  pub begins : IsKeyLine (section_text section) first.text []
+  pub spelled : AreLines Spells 0 lines items
+  pub kept : Keeps items
+
+-- how a line spells a block's values, a coefficient and a limit
+abbrev SpellsValues : ModelDraftView → ℕ → List ℕ → List ℤ → Type 0
+SpellsValues d block line vs = SpellValues d.blocks (header_stated d.name d.header) block (fields_of line) vs
+
+abbrev SpellsCoef : ModelDraftView → ℕ → List ℕ → Coef → Type 0
+SpellsCoef d n line c = SpellCoef d.problem d.blocks (header_stated d.name d.header) (fields_of line) c
+
+abbrev SpellsLimit : ModelDraftView → ℕ → List ℕ → Limit → Type 0
+SpellsLimit d n line l = SpellLimit (header_stated d.name d.header) (fields_of line) l
+
+-- there are no more values than blocks; coefficients rise
+abbrev AreFew : ModelDraftView → List (List ℤ) → Type 0
+AreFew d values = length values ≤ d.blocks
+
+abbrev CoefsRise : List Coef → Type 0
+CoefsRise coefs = AllPairs (λ c e. IsTrue (coef_before c e)) coefs
+
+-- the lines so far, in the header and in each section
+abbrev InHeading : ModelDraftView → List Line → Type 0
+InHeading d done = Heads d.problem d.blocks d.name d.header done
+
+abbrev InValues : ModelDraftView → List Line → Type 0
+InValues d done = Part (WholeHeader d.problem d.blocks d.name d.header) Objective (SpellsValues d) (AreFew d) d.values done
+
+abbrev InCoefs : ModelDraftView → List Line → Type 0
+InCoefs d done = Part (InValues d) Coefs (SpellsCoef d) CoefsRise d.coefs done
+
+abbrev InLimits : ModelDraftView → List Line → Type 0
+InLimits d done = Part (InCoefs d) Limits (SpellsLimit d) RiseStrictly d.limits done
+
+-- and no item of a later section
+abbrev pub At : Section → ModelDraftView → List Line → Type 0
+At Heading d done = InHeading d done × (d.values ≡ []) × (d.coefs ≡ []) × (d.limits ≡ [])
+At Objective d done = InValues d done × (d.coefs ≡ []) × (d.limits ≡ [])
+At Coefs d done = InCoefs d done × (length d.values ≡ d.blocks) × (d.limits ≡ [])
+At Limits d done = InLimits d done × (length d.values ≡ d.blocks)
+
+-- of a file of n blocks
+pub record Now (problem : Problem) (n : ℕ) (d : ModelDraftView) (done : List Line) : Type 0 where
+  pub of_problem : d.problem ≡ problem
+  pub of_blocks : d.blocks ≡ n
+  pub at : At d.section d done
+
+part_first : {A : Type 0} (Before : List Line → Type 0) (section : Section) (Spells : ℕ → List ℕ → A → Type 0) (Keeps : List A → Type 0)
+    (items : List A) (done : List Line) (line : Line) → items ≡ [] → Before done → IsKeyLine (section_text section) line.text [] → Keeps []
+    → Part Before section Spells Keeps items (done ++ line ∷ [])
+part_first Before section Spells Keeps items done line none earlier begins kept = record {
+  before = done;
+  earlier = earlier;
+  first = line;
+  lines = [];
+  cut = refl;
+  begins = begins;
+  spelled = subst (AreLines Spells 0 []) (sym none) tt;
+  kept = subst Keeps (sym none) kept;
+}
+
+part_more : {A : Type 0} (Before : List Line → Type 0) (section : Section) (Spells : ℕ → List ℕ → A → Type 0) (Keeps : List A → Type 0)
+    (items : List A) (done : List Line) (line : Line) (item : A) → Spells (length items) line.text item → Keeps (items ++ item ∷ [])
+    → Part Before section Spells Keeps items done → Part Before section Spells Keeps (items ++ item ∷ []) (done ++ line ∷ [])
+part_more Before section Spells Keeps items done line item here kept part =
+    let count : length items ≡ 0 + length items = omega arith in
+    record {
+      before = part.before;
+      earlier = part.earlier;
+      first = part.first;
+      lines = part.lines ++ line ∷ [];
+      cut = ap (λ l. l ++ line ∷ []) part.cut ∙ append_assoc part.before (part.first ∷ part.lines) (line ∷ []);
+      begins = part.begins;
+      spelled = line_more Spells 0 part.lines items line item part.spelled (subst (λ n. Spells n line.text item) count here);
+      kept = kept;
+    }
+
+in_heading : (section : Section) → is_heading section ≡ true → section ≡ Heading
+in_heading Heading e = refl
+in_heading section e = absurd cc
+
+in_limits : (section : Section) → is_limits section ≡ true → section ≡ Limits
+in_limits Limits e = refl
+in_limits section e = absurd cc
+
+-- a line that states something
+stepped : (problem : Problem) (n : ℕ) (done : List Line) (d next : ModelDraftView) (line : Line) → States (model_line d line.text) next
+    → Now problem n d done → Now problem n next (done ++ line ∷ [])
+stepped problem n done d next line states was =
+    each_line (λ shape. States shape next → Now problem n next (done ++ line ∷ [])) d line.text
+    (λ s. absurd (no_stray d next s)) keyed begun valued spent limited states
+  where
+    -- it leaves the section as it is
+    within : (after : ModelDraftView) (section : Section) → next ≡ after → d.section ≡ section → after.section ≡ section
+        → after.problem ≡ d.problem → after.blocks ≡ d.blocks → (At section d done → At section after (done ++ line ∷ []))
+        → Now problem n next (done ++ line ∷ [])
+    within after section is here same p k step = subst (λ d. Now problem n d (done ++ line ∷ [])) (sym is) (record {
+      of_problem = p ∙ was.of_problem;
+      of_blocks = k ∙ was.of_blocks;
+      at = subst (λ section. At section after (done ++ line ∷ [])) (sym same) (step (subst (λ section. At section d done) here was.at));
+    })
+
+    keyed : (k : HeaderKey) (fields : List (List ℕ)) → IsKeyLine (key_word k) line.text fields → has_key d.problem k ≡ true
+        → States (header_line d k fields) next → Now problem n next (done ++ line ∷ [])
+    keyed k fields is_key has states =
+        let s = key_step d next k fields states in
+        let here = in_heading d.section s.heading in
+        let says = subst (λ (e : ModelDraftView). Says (field_of d.problem k) s.value
+        (key_value (type_text d.problem) d.blocks (header_stated e.name e.header) k)) s.is s.says in
+        within _ Heading s.is here here refl refl (λ heading. (
+          heads_more d.problem d.blocks k s.value d.name d.header s.number done line s.new (record {
+            value = s.value;
+            is_key = subst (IsKeyLine (key_word k) line.text) s.one is_key;
+            of_problem = has;
+            says = says;
+          }) heading.0,
+          heading.1,
+          heading.2,
+          heading.3,
+        ))
+
+    begun : (section : Section) (fields : List (List ℕ)) → IsKeyLine (section_text section) line.text fields
+        → States (section_line d section fields) next → Now problem n next (done ++ line ∷ [])
+    begun section fields is_key states =
+        let s = section_step d next section fields states in
+        subst (λ d. Now problem n d (done ++ line ∷ [])) (sym s.is) (record {
+          of_problem = was.of_problem;
+          of_blocks = was.of_blocks;
+          at = next_by (λ now later. IsKeyLine (section_text later) line.text [] → is_ready d now ≡ true → At now d done
+              → At later (record d { section = later }) (done ++ line ∷ []))
+              (λ begins ready was. (
+                part_first (WholeHeader d.problem d.blocks d.name d.header) Objective (SpellsValues d) (AreFew d) d.values done line was.1
+                    (heads_whole d.problem d.blocks d.name d.header done ready was.0) begins (omega arith),
+                was.2,
+                was.3,
+              ))
+              (λ begins ready was. (
+                part_first (InValues d) Coefs (SpellsCoef d) CoefsRise d.coefs done line was.1 was.0 begins
+                    (λ i j c less high. absurd (omega arith)),
+                eqb-true (length d.values) d.blocks ready,
+                was.2,
+              ))
+              (λ begins ready was. (
+                part_first (InCoefs d) Limits (SpellsLimit d) RiseStrictly d.limits done line was.2 was.0 begins
+                    (λ i j l less high. absurd (omega arith)),
+                was.1,
+              ))
+              d.section section s.follows (subst (IsKeyLine (section_text section) line.text) s.none is_key) s.ready was.at;
+        })
+
+    valued : d.section ≡ Objective → States (values_line d (fields_of line.text)) next → Now problem n next (done ++ line ∷ [])
+    valued here states =
+        let s = values_step d next (fields_of line.text) states in
+        let destinations = count_in d.header key.Destinations in
+        let fit = spelled_fit (values_form d.blocks destinations) (fields_of line.text) (values_values (length d.values) s.0)
+        (many_fine destinations) s.2 in
+        let place = whole_low d.blocks (length d.values) fit.0 in
+        within _ Objective s.1 here here refl refl (λ before. (
+          part_more (WholeHeader d.problem d.blocks d.name d.header) Objective (SpellsValues d) (AreFew d) d.values done line s.0 s.2
+              (omega (arith, place, length-append d.values (s.0 ∷ []))) before.0,
+          before.1,
+          before.2,
+        ))
+
+    spent : d.section ≡ Coefs → States (coef_line d (fields_of line.text)) next → Now problem n next (done ++ line ∷ [])
+    spent here states =
+        let s = coef_step d next (fields_of line.text) states in
+        within _ Coefs s.1 here here refl refl (λ before. (
+          part_more (InValues d) Coefs (SpellsCoef d) CoefsRise d.coefs done line s.0 s.2
+              (rises_behind coef_before coef_before_is_transitive d.coefs s.0 before.0.kept s.3) before.0,
+          before.1,
+          before.2,
+        ))
+
+    limited : d.section ≡ Limits → States (limit_line d (fields_of line.text)) next → Now problem n next (done ++ line ∷ [])
+    limited here states =
+        let s = limit_step d next (fields_of line.text) states in
+        within _ Limits s.1 here here refl refl (λ before. (
+          part_more (InCoefs d) Limits (SpellsLimit d) RiseStrictly d.limits done line s.0 s.2
+              (rises_behind stands_before stands_before_is_transitive d.limits s.0 before.0.kept s.3) before.0,
+          before.1,
+        ))
+
+-- lines behind others
+all_now : (problem : Problem) (n number : ℕ) (done : List Line) (d : ModelDraftView) (lines : List Line) (last : ModelDraftView)
+    → Now problem n d done → AllState model_grammar number d lines last → Now problem n last (done ++ lines)
+all_now problem n number done d [] last was all =
+    subst (λ d. Now problem n d (done ++ [])) (sym all) (subst (Now problem n d) (sym (append-nil done)) was)
+all_now problem n number done d (line ∷ lines) last was (next, states, more) =
+    subst (Now problem n last) (append_assoc done (line ∷ []) lines)
+    (all_now problem n (suc number) (done ++ line ∷ []) next lines last (stepped problem n done d next line states was) more)
+
+pub lines_now : (problem : Problem) (n number : ℕ) (lines : List Line) (d : ModelDraftView)
+    → AllState model_grammar number (blank_model problem n) lines d → Now problem n d lines
+lines_now problem n number lines d all =
+    all_now problem n number [] (blank_model problem n) lines d
+    (record { of_problem = refl; of_blocks = refl; at = (heads_none problem n, refl, refl, refl) }) all
+
+-- all lines, cut into the header and the three sections
+whole : (d : ModelDraftView) (lines : List Line) → InLimits d lines → length d.values ≡ d.blocks
+    → AreModelLines d.problem d.blocks lines (stated_by d)
+whole d lines l count =
+    let c = l.earlier in
+    let v = c.earlier in
+    let joined : l.before ≡ v.before ++ (v.first ∷ v.lines ++ (c.first ∷ c.lines)) =
+    c.cut ∙ ap (λ x. x ++ c.first ∷ c.lines) v.cut ∙ append_assoc v.before (v.first ∷ v.lines) (c.first ∷ c.lines) in
+    record {
+      heading = v.before;
+      objective = v.first;
+      values = v.lines;
+      coefficients = c.first;
+      coefs = c.lines;
+      resource_limits = l.first;
+      limits = l.lines;
+      cut = l.cut ∙ ap (λ x. x ++ l.first ∷ l.lines) joined
+          ∙ append_assoc v.before (v.first ∷ v.lines ++ (c.first ∷ c.lines)) (l.first ∷ l.lines)
+          ∙ ap (λ x. v.before ++ v.first ∷ x) (append_assoc v.lines (c.first ∷ c.lines) (l.first ∷ l.lines));
+      destinations = v.earlier.single;
+      spell_header = v.earlier.spelled;
+      begin_values = v.begins;
+      spell_values = v.spelled;
+      all_values = count;
+      begin_coefs = c.begins;
+      spell_coefs = c.spelled;
+      rising_coefs = c.kept;
+      begin_limits = l.begins;
+      spell_limits = l.spelled;
+      rising_limits = l.kept;
+    }
+
+-- lines that state a model spell what it states
+pub stated_spelled : (problem : Problem) (n : ℕ) (lines : List Line) (d : ModelDraftView) → StateModel problem n lines d
+    → AreModelLines problem n lines (stated_by d)
+stated_spelled problem n lines d (all, is) =
+    let ends = (and_parts (is_complete d.header && (length d.values == d.blocks)) (is_limits d.section) is).1 in
+    let now = lines_now problem n 1 lines d all in
+    let limits = subst (λ section. At section d lines) (in_limits d.section ends) now.at in
+    subst (λ k. AreModelLines problem k lines (stated_by d)) now.of_blocks
+    (subst (λ p. AreModelLines p d.blocks lines (stated_by d)) now.of_problem (whole d lines limits.0 limits.1))

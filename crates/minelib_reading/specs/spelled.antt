@@ -1,0 +1,4 @@
+pub mod SpelledKeys
+pub mod SpelledLines
+pub mod SpelledModel
+pub mod SpelledTexts

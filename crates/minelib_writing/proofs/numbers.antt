@@ -1,0 +1,3 @@
+pub mod CentsFacts
+pub mod Digits
+pub mod OneDigit

@@ -1,0 +1,5 @@
+pub mod Bands
+pub mod BandsKept
+pub mod Formula
+pub mod FormulaCopy
+pub mod Worth

@@ -1,0 +1,3 @@
+pub mod RunLists
+pub mod RunsOfRows
+pub mod Starts
