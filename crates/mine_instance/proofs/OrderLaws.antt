@@ -1,6 +1,6 @@
 -- The orders of coefficients, limits and numbers are transitive.
 use Rattle.std.specs.Prelude.{IsTrue}
-use Rattle.std.proofs.Common.{ℕ, ◌<◌, arith}
+use Rattle.std.proofs.Common.{ℕ, arith, nat_lt}
 use Rattle.std.proofs.lemmas.Bool.Decides.{nat_tests}
 use Rattle.pit_parts.specs.PlanKept.{stands_before}
 use Rattle.pit_parts.specs.declared.limit.Limit.{Limit}
@@ -13,5 +13,5 @@ coef_before_is_transitive x y z h k = grind (arith, nat_tests)
 pub stands_before_is_transitive : (x y z : Limit) → IsTrue (stands_before x y) → IsTrue (stands_before y z) → IsTrue (stands_before x z)
 stands_before_is_transitive x y z h k = grind (arith, nat_tests)
 
-pub less_is_transitive : (x y z : ℕ) → x < y → y < z → x < z
-less_is_transitive x y z h k = omega arith
+pub less_is_transitive : (x y z : ℕ) → IsTrue (nat_lt x y) → IsTrue (nat_lt y z) → IsTrue (nat_lt x z)
+less_is_transitive x y z h k = grind (arith, nat_tests)

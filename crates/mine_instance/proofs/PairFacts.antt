@@ -1,10 +1,11 @@
 -- What holds of the pairs of a list as far as one place, and one place further.
-use Rattle.std.proofs.Common.{◌≡◌, ◌≢◌, ℕ, ◌+◌, ◌-◌, ◌<◌, ◌≤◌, Bool, true, false, List, [], ◌∷◌, ◌++◌, Some, All, AllPairs, length, map, take, get_or, slice_get, suc, sym, ◌∙◌, subst, arith, inl, inr, get_or-take, length-take-le}
-use Rattle.std.proofs.lemmas.Bool.{cases_lt}
+use Rattle.std.proofs.Common.{◌≡◌, ◌≢◌, ◌↔◌, ℕ, zero, refl, ◌+◌, ◌<◌, Bool, true, false, List, [], ◌∷◌, ◌++◌, All, AllPairs, length, map, nat_lt, take, get_or, suc, sym, ◌∙◌, subst, arith, inl, inr, get_or-take, length-take-le}
+use Rattle.std.specs.Bool.{IsTrue}
+use Rattle.std.specs.List.{AllAdjacentBelow, IsAllAdjacentAnswer}
+use Rattle.std.proofs.lemmas.Bool.{cases_lt, false≢true, ltb-true}
 use Rattle.std.proofs.lemmas.List.{get_or-map, get_or_default, length-map}
 use Rattle.std.proofs.lemmas.List.Elements.{All-append, All-head, All-tail}
 use Rattle.std.proofs.lemmas.List.Kept.{AllPairs-cons}
-use Rattle.std.proofs.lemmas.Option.{get_or_from_slice_get}
 use Rattle.mine_instance.specs.Valid.{ArePreds, ArePredsOf}
 
 -- one place further, where its element stands in the relation to all before it
@@ -21,21 +22,29 @@ pairs_more R xs n before new i j d below high = elim (cases_lt j n) [
       )
 ]
 
-module _ {T : Type 0} (R : T → T → Type 0) (xs : List T) (n : ℕ) (x y : T) (from : 1 ≤ n)
-    (x_is : slice_get xs (n - 1) ≡ Some x) (y_is : slice_get xs n ≡ Some y) where
-  pub rises_more : ((x y z : T) → R x y → R y z → R x z) → R x y
-      → ((i j : ℕ) (d : T) → i < j → j < n → R (get_or xs i d) (get_or xs j d))
-      → (i j : ℕ) (d : T) → i < j → j < n + 1 → R (get_or xs i d) (get_or xs j d)
-  rises_more transitive next before = pairs_more R xs n before up_to
-    where
-      up_to : (i : ℕ) (d : T) → i < n → R (get_or xs i d) (get_or xs n d)
-      up_to i d h =
-          let pair : R (get_or xs (n - 1) d) (get_or xs n d) =
-          rw (get_or_from_slice_get xs (n - 1) x d x_is, get_or_from_slice_get xs n y d y_is) next in
-          elim (cases_lt i (n - 1)) [
-            | inl k ↦ transitive (get_or xs i d) (get_or xs (n - 1) d) (get_or xs n d) (before i (n - 1) d k (omega arith)) pair
-            | inr k ↦ (let P : ℕ → Type 0 = λ m. R (get_or xs m d) (get_or xs n d) in subst P (omega arith) pair)
-          ]
+-- where an order is transitive, a list whose neighbours rise rises
+rise_apart : {T : Type 0} (R : T → T → Type 0) (xs : List T) → ((x y z : T) → R x y → R y z → R x z)
+    → AllAdjacentBelow R xs (length xs) → (j i : ℕ) (d : T) → i < j → j < length xs → R (get_or xs i d) (get_or xs j d)
+rise_apart R xs transitive next zero i d low high = absurd (omega arith)
+rise_apart R xs transitive next (suc m) i d low high =
+    let more : m + 1 ≡ suc m = omega arith in
+    let step : R (get_or xs m d) (get_or xs (suc m) d) = subst (λ k. R (get_or xs m d) (get_or xs k d)) more (next m d (omega arith)) in
+    elim (cases_lt i m) [
+      | inl h ↦ transitive _ _ _ (rise_apart R xs transitive next m i d h (omega arith)) step
+      | inr h ↦ (let same : m ≡ i = omega arith in subst (λ k. R (get_or xs k d) (get_or xs (suc m) d)) same step)
+    ]
+
+-- so a test of neighbours tells whether it rises
+pub rises_told : {T : Type 0} (before : T → T → Bool) (xs : List T) (r : Bool)
+    → ((x y z : T) → IsTrue (before x y) → IsTrue (before y z) → IsTrue (before x z))
+    → IsAllAdjacentAnswer (λ x y t. t ≡ before x y) xs r → IsTrue r ↔ AllPairs (λ x y. IsTrue (before x y)) xs
+rises_told before xs true transitive told = (
+  λ always i j d low high. rise_apart (λ x y. IsTrue (before x y)) xs transitive (λ k e below. sym (told k e below)) j i d low high,
+  λ all. refl,
+)
+rises_told before [] false transitive told = absurd (omega (arith, told.1))
+rises_told before (x ∷ xs) false transitive told =
+    (λ never. absurd (false≢true never), λ all. told.2 x ∙ all told.0 (told.0 + 1) x (omega arith) told.1)
 
 -- one list that is refused
 pub one_refused : (n id : ℕ) (preds : List (List ℕ)) (ids : List ℕ) (r : Bool) → id < length preds → ids ≡ get_or preds id []
@@ -60,6 +69,10 @@ distinct_more ids n x within is new before = pairs_more (λ id other. id ≢ oth
 -- numbers that rise differ
 pub rising_differ : (ids : List ℕ) → AllPairs (λ n m. n < m) ids → AllPairs (λ id other. id ≢ other) ids
 rising_differ ids rising i j d h k same = let less : get_or ids i d < get_or ids j d = rising i j d h k in omega arith
+
+-- also where a test tells that they rise
+pub told_differ : (ids : List ℕ) → AllPairs (λ n m. IsTrue (nat_lt n m)) ids → AllPairs (λ id other. id ≢ other) ids
+told_differ ids rising = rising_differ ids (λ i j d low high. ltb-true _ _ (rising i j d low high))
 
 -- pairs of two lists, one after the other
 pub pairs_append : {X : Type 0} (R : X → X → Type 0) (xs ys : List X) → AllPairs R xs → AllPairs R ys → All (λ x. All (R x) ys) xs

@@ -8,10 +8,9 @@ use pit_parts::listed::Listed;
 pub type Limits = Listed<Limit>;
 
 impl Ordered for Limit {
-    ghost use Rattle.std.specs.Prelude.{IsTrue};
     ghost use Rattle.pit_parts.specs.PlanKept.{stands_before};
 
-    ghost before = { λ l m. IsTrue (stands_before l m) };
+    ghost before = { stands_before };
 
     fn is_before(&self, other: &Limit) -> bool {
         self.stands_before(other)

@@ -1,36 +1,31 @@
 //! Lists that rise strictly.
 
-ghost use Rattle.std.specs.Prelude.{◌↔◌, IsTrue, AllPairs};
+ghost use Rattle.std.specs.Prelude.{◌≡◌, ◌↔◌, Bool, IsTrue, AllPairs};
 
 /// Items with an order.
 pub trait Ordered {
-    ghost before: { Self → Self → Type 0 };
+    ghost before: { Self → Self → Bool };
 
     fn is_before(&self, other: &Self) -> bool
-        ensures { IsTrue result ↔ before self.now other.now };
+        ensures { result ≡ before self.now other.now };
 
     /// Does nothing. Its contract says that the order is transitive.
     fn is_transitive()
-        ensures { (x y z : Self) → before x y → before y z → before x z };
+        ensures { (x y z : Self) → IsTrue (before x y) → IsTrue (before y z) → IsTrue (before x z) };
 }
 
 /// Whether each item stands before all that come after it.
 pub fn rises<T: Ordered>(items: &[T]) -> bool
-    ensures { IsTrue result ↔ AllPairs T.before items.now }
+    ensures { IsTrue result ↔ AllPairs (λ item later. IsTrue (T.before item later)) items.now }
 {
     T::is_transitive();
-    for index in 1..items.len() {
-        if !items[index - 1].is_before(&items[index]) {
-            return false;
-        }
-    }
-    true
+    items.is_sorted_by(|item, next| item.is_before(next))
 }
 
 impl Ordered for u32 {
-    ghost use Rattle.std.specs.Prelude.{◌<◌};
+    ghost use Rattle.std.specs.Prelude.{nat_lt};
 
-    ghost before = { λ n m. n < m };
+    ghost before = { nat_lt };
 
     fn is_before(&self, other: &u32) -> bool {
         *self < *other

@@ -34,10 +34,9 @@ impl Coef {
 }
 
 impl Ordered for Coef {
-    ghost use Rattle.std.specs.Prelude.{IsTrue};
     ghost use Rattle.mine_instance.specs.Order.{coef_before};
 
-    ghost before = { λ c e. IsTrue (coef_before c e) };
+    ghost before = { coef_before };
 
     fn is_before(&self, other: &Coef) -> bool {
         self.comes_before(other)
