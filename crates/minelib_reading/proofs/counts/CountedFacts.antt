@@ -1,12 +1,13 @@
--- Coefficients that rise are no more than their places.
-use Rattle.std.proofs.Common.{◌≡◌, ℕ, ◌+◌, ◌-◌, ◌<◌, ◌≤◌, true, List, [], ◌∷◌, ◌++◌, length, Option, Some, None, refl, sym, ap, ◌∙◌, arith}
+-- Coefficients that rise are no more than their places; rows of values, and one more.
+use Rattle.std.proofs.Common.{◌≡◌, ℕ, ◌+◌, ◌-◌, ◌<◌, ◌≤◌, true, List, [], ◌∷◌, ◌++◌, length, Option, Some, None, refl, sym, ap, ◌∙◌, arith, ℤ}
 use Rattle.std.proofs.lemmas.Bool.Decides.{nat_tests}
-use Rattle.std.proofs.lemmas.List.{length_push}
+use Rattle.std.proofs.lemmas.List.{length-map, length_push, map-append}
 use Rattle.std.specs.Prelude.{slice_get}
+use Rattle.std.specs.Global.{Vec}
 use Rattle.mine_instance.specs.Order.{coef_before}
 use Rattle.mine_instance.specs.declared.coefs.coef.Coef.{Coef}
 use Rattle.minelib_reading.specs.ModelLines.{is_behind, last_of}
-use Rattle.minelib_reading.specs.inner.CountedItems.{last_d, last_r, most_up_to}
+use Rattle.minelib_reading.specs.inner.CountedItems.{last_d, last_r, most_up_to, values_in_rows}
 
 pub next_place : (last : Option Coef) (n : ℕ) (c : Coef) → last_d last < 256 → last_r last < 256 → n ≤ most_up_to last → is_behind coef_before last c ≡ true
     → n + 1 ≤ most_up_to (Some c)
@@ -21,3 +22,9 @@ pub last_added : (coefs : List Coef) (c : Coef) → Some c ≡ last_of (coefs ++
 last_added coefs c =
     let place : length (coefs ++ c ∷ []) - 1 ≡ length coefs = rw (length_push coefs c) (omega arith) in
     sym (ap (slice_get (coefs ++ c ∷ [])) place ∙ added coefs c)
+
+pub one_row_more : (rows : List (Vec ℤ)) (row : Vec ℤ) → values_in_rows (rows ++ row ∷ []) ≡ values_in_rows rows ++ row.items ∷ []
+one_row_more rows row = map-append (λ (r : Vec ℤ). r.items) rows (row ∷ [])
+
+pub rows_counted : (rows : List (Vec ℤ)) → length (values_in_rows rows) ≡ length rows
+rows_counted rows = length-map rows (λ (r : Vec ℤ). r.items)

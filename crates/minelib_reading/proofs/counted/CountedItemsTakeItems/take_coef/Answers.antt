@@ -1,6 +1,5 @@
 use Rattle.std.proofs.Common.{◌+◌, ap, sym, ◌∙◌}
 use Rattle.std.proofs.lemmas.List.{length_push}
-use Rattle.minelib_reading.specs.inner.CountedItems.{counted_coefs}
 use Rattle.minelib_reading.proofs.counts.CountedFacts.{last_added, next_place}
 use Rattle.minelib_reading.proofs.counted.CountedItemsTakeItems.take_coef.Goals as goal
 
@@ -10,8 +9,8 @@ invariant_of-self c =
     record {
       blocks_are = s.blocks_are;
       few = s.few;
-      coefs_are = rw (c.of.ensures, c.of-2.ensures) (ap (λ n. n + 1) s.coefs_are ∙ sym (length_push (counted_coefs s.past_coefs) c.args.coef));
-      last_is = rw (c.of.ensures, c.of-2.ensures) (last_added (counted_coefs s.past_coefs) c.args.coef);
+      coefs_are = rw c.with.ensures (ap (λ n. n + 1) s.coefs_are ∙ sym (length_push s.past_coefs c.args.coef));
+      last_is = rw c.with.ensures (last_added s.past_coefs c.args.coef);
       destination = c.requires.destination;
       resource = c.requires.resource;
       low = next_place s.last s.coefs c.args.coef s.destination s.resource s.low (rw s.last_is c.requires.next);
