@@ -3,13 +3,13 @@ use Rattle.std.proofs.Common.{◌≡◌, ℕ, zero, suc, Bool, true, false, List
 use Rattle.std.specs.Prelude.{slice_get}
 use Rattle.pit_compile.specs.ZoneFiles.{AreGiven, IsVerdict}
 use Rattle.pit_compile.specs.Compiling.{IsNotCompiled}
-use Rattle.pit_compile.specs.Settings.{IsSettingsFault, Suits}
+use Rattle.pit_compile.specs.Settings.{IsSettingsFault}
 use Rattle.pit_compile.specs.Verdict.{IsRefusedBy}
 use Rattle.pit_compile.specs.declared.refusal.Refusal.{Refusal}
 use Rattle.pit_compile.specs.declared.refusal.Refusal.TheVariants.{Settings, NoThread, FeedFailed, TooLong, Row, Same, SinkFailed, OutOfMemory}
 use Rattle.pit_parts.specs.declared.settings.Settings as set
 use Rattle.pit_compile.specs.declared.settings.SettingsFault.{SettingsFault}
-use Rattle.pit_compile.specs.declared.settings.SettingsFault.TheVariants.{Files, Valuers, Capacity, Destinations}
+use Rattle.pit_compile.specs.declared.settings.SettingsFault.TheVariants.{Files}
 use Rattle.pit_parts.specs.Plan.{PlanParts}
 use Rattle.pit_parts.specs.declared.formulas.formula.Formula.{Formula}
 use Rattle.pit_commands.specs.Printed.{pipe_settings, PipeRefused}

@@ -12,7 +12,6 @@ use Rattle.run_threads.specs.MostBytes.{most_bytes}
 use Rattle.rows.specs.Valued.{row_by}
 use Rattle.rows.specs.declared.item.Valued.{Valued}
 use Rattle.zone_csv.specs.Zone.{blocks_of, fault_of}
-use Rattle.zone_csv.specs.declared.row_fault.RowFault.{RowFault}
 use Rattle.pit_compile.specs.declared.refusal.Refusal.{Refusal}
 use Rattle.pit_compile.specs.declared.refusal.Refusal.TheVariants.{TooLong, Row}
 

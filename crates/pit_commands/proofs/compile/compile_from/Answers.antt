@@ -1,4 +1,3 @@
-use Rattle.std.proofs.Common.{inl, inr, refl}
 use Rattle.pit_commands.proofs.compile.compile_from.Goals as goal
 
 pub returns-clause-done : goal.returns-clause-done

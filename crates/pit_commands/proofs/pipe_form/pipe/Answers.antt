@@ -1,5 +1,5 @@
 use Rattle.std.proofs.lemmas.Result.{err_from_is_err_and}
-use Rattle.std.proofs.Common.{◌≡◌, ◌++◌, ◌∙◌, Err, length, subst, sym, ap, rules}
+use Rattle.std.proofs.Common.{◌≡◌, ◌++◌, ◌∙◌, Err, subst, sym, ap, rules}
 use Rattle.pit_compile.specs.ZoneFiles.{HasPassed, instance_from}
 use Rattle.pit_compile.specs.Settings.{IsSettingsFault}
 use Rattle.pit_compile.specs.Verdict.{IsAccepted}

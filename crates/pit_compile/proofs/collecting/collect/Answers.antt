@@ -1,4 +1,4 @@
-use Rattle.std.proofs.Common.{rules, ◌≡◌, ◌∙◌, arith, sym, ap, length, IfOk}
+use Rattle.std.proofs.Common.{◌∙◌, arith, sym, ap, length}
 use Rattle.std.proofs.lemmas.List.{length-map}
 use Rattle.pit_compile.proofs.Collected.{FoundIsHeld, to-order, collected}
 use Rattle.pit_compile.proofs.collecting.collect.Goals as goal

@@ -1,4 +1,4 @@
-use Rattle.std.proofs.Common.{◌≡◌, ◌<◌, ◌∙◌, length, sym, arith, rules}
+use Rattle.std.proofs.Common.{◌≡◌, ◌∙◌, sym, arith, rules}
 use Rattle.std.specs.Prelude.{decimal}
 use Rattle.minelib_writing.specs.inner.IdTextFields.{ids_in}
 use Rattle.minelib_writing.proofs.SpacedFacts.{digits_are, digits_within}

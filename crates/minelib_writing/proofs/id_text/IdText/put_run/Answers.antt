@@ -1,4 +1,4 @@
-use Rattle.std.proofs.Common.{◌≡◌, ◌+◌, ◌-◌, ◌<◌, ◌∙◌, length, ap, sym, arith, rules}
+use Rattle.std.proofs.Common.{◌≡◌, ◌+◌, ◌-◌, ◌∙◌, ap, sym, arith, rules}
 use Rattle.std.specs.List.{range_with_len}
 use Rattle.precedence.specs.IdRuns.{ids_of_run}
 use Rattle.minelib_writing.specs.inner.IdTextFields.{ids_in}
