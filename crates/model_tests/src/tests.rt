@@ -2,18 +2,16 @@ use pit_parts::block::Block;
 use pit_units::Dec;
 use rows::{Valued, Worths};
 
-mod coefs;
 mod collecting;
 mod cones;
 mod decimals;
 mod feeds;
-mod instance;
+mod instances;
 mod numbering;
 mod plans;
 mod signals;
 mod stored_rows;
 mod texts;
-mod validity;
 mod worths;
 mod zone_reading;
 

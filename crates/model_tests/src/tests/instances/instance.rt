@@ -6,7 +6,7 @@ ghost use Rattle.mine_instance.specs.Valid.{IsValid};
 ghost use Rattle.precedence.specs.Cone.{HasZones};
 ghost use Rattle.rows.specs.Valued.{worths_by};
 
-use super::are_millionths;
+use crate::tests::are_millionths;
 use mine_instance::coefs::coef::Coef;
 use mine_instance::cpit::{Cpit, CpitCoef};
 use mine_instance::instance::Instance;

@@ -1,6 +1,6 @@
 //! Instances made by hand, of which only those that keep all ranges, lengths and orders are valid.
 
-use super::texts::{LIMITED, instance_of};
+use crate::tests::texts::{LIMITED, instance_of};
 use mine_instance::blocks::Blocks;
 use mine_instance::coefs::coef::{Coef, Coefs};
 use mine_instance::instance::Instance;
