@@ -2,7 +2,6 @@
 
 use crate::worths::Worths;
 use pit_parts::block::Block;
-use pit_parts::listed::Listed;
 
 /// A row of a zone file with its worths.
 #[derive(Clone, Copy, Debug, PartialEq, Eq)]
@@ -23,6 +22,3 @@ pub enum Item {
     /// The end mark of a file, with the number of rows that it sent.
     End { file: u8, rows: u32 },
 }
-
-/// What one valuer hands on: the rows and end marks that it took, in order.
-pub type Items = Listed<Item>;

@@ -3,6 +3,7 @@
 
 mod head;
 mod item;
+mod items;
 mod keeps;
 mod long_lists;
 mod mark;
@@ -13,7 +14,8 @@ mod rows;
 mod spot;
 mod worths;
 
-pub use item::{Item, Items, Valued};
+pub use item::{Item, Valued};
+pub use items::Items;
 pub use keeps::Keeps;
 pub use mark::Mark;
 pub use packed::items::PackedItems;

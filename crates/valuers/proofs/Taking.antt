@@ -2,8 +2,9 @@
 use Rattle.std.proofs.Common.{◌≡◌, ◌++◌, List, [], ◌∷◌, length, take, drop, refl, arith, ap, sym, ◌∙◌, append_assoc, length-append, length-take}
 use Rattle.std.proofs.Math.Seq.{take-append_seam, take-length}
 use Rattle.std.proofs.lemmas.Bool.{true≢false}
+use Rattle.std.proofs.lemmas.List.Elements.{All-append}
 use Rattle.std.proofs.lemmas.List.{drop-append-le, take-append-le}
-use Rattle.std.specs.Prelude.{Result, Ok, Err, OnOk, OnErr, IsFalse}
+use Rattle.std.specs.Prelude.{All, Result, Ok, Err, OnOk, OnErr, IsFalse}
 use Rattle.std.specs.Result.{is_err}
 use Rattle.lane.specs.declared.message.Taken.{Taken}
 use Rattle.lane.specs.declared.message.Taken.TheVariants.{Row, End, Stop, Quit}
@@ -62,3 +63,9 @@ module _ {E : Type 0} (old new more all : List Item) (is : all ≡ old ++ more) 
   pub front_where_pushed : (r : Result (Unit {0}) E) → OnOk r (new ≡ old ++ more) → OnErr r (new ≡ old) → new ≡ take (length new) all
   front_where_pushed (Ok done) pushed kept = rw (pushed ∙ sym is) (sym (take-length all))
   front_where_pushed (Err fault) pushed kept = rw (kept, is) (sym (take-append_seam old more))
+
+-- what holds of the items before and of what was appended holds of all
+pub all_stay : {E : Type 0} (P : Item → Type 0) (old new more : List Item) (r : Result (Unit {0}) E) → OnOk r (new ≡ old ++ more)
+    → OnErr r (new ≡ old) → OnOk r (All P more) → All P old → All P new
+all_stay P old new more (Ok done) pushed kept are so_far = rw pushed (All-append P old more so_far are)
+all_stay P old new more (Err fault) pushed kept are so_far = rw kept so_far

@@ -1,6 +1,6 @@
 -- What the destinations of a plan answer for a block, and what a valuer makes of the messages that it takes.
-use Rattle.std.specs.Prelude.{List, [], ◌∷◌, ℤ}
-use Rattle.std.specs.List.{AllZip}
+use Rattle.std.specs.Prelude.{ℕ, List, [], ◌∷◌, ℤ}
+use Rattle.std.specs.List.{All, AllZip}
 use Rattle.std.specs.declared.alloc.Global.{Global}
 use Rattle.std.specs.declared.dyn_box.DynBox.{DynBox}
 use Rattle.pit_parts.specs.Destinations.{valuer_of}
@@ -18,6 +18,20 @@ use Rattle.rows.specs.declared.item.Valued.{Valued}
 abbrev pub AreAnswered : {I : _} {F : _} {g : _}
     → (DynBox I Global F → Block → ℤ → Type 0) → List (Destination I F g) → Block → List ℤ → Type 0
 AreAnswered Answers destinations b worths = AllZip (λ d worth. Answers (valuer_of d) b worth) destinations worths
+
+-- the item is an end mark, or its row is so
+abbrev pub OfRow : (Valued → Type 0) → Item → Type 0
+OfRow IsSo (item.Row row) = IsSo row
+OfRow IsSo (item.End file rows) = Unit {0}
+
+-- the worths of each row are what the closures of the destinations answered for its block
+abbrev pub WereAsked : {I : _} {F : _} {g : _}
+    → (DynBox I Global F → Block → ℤ → Type 0) → List (Destination I F g) → List Item → Type 0
+WereAsked Answers destinations items = All (OfRow (λ row. AreAnswered Answers destinations row.block row.worths)) items
+
+-- each row passed, by its file and its place
+abbrev pub WerePassed : (ℕ → ℕ → Type 0) → List Item → Type 0
+WerePassed Passed items = All (OfRow (λ row. Passed row.file row.place)) items
 
 -- the rows and end marks of these messages, in order, each row with its worths
 abbrev pub items_by : List Formula → List Taken → List Item

@@ -3,14 +3,15 @@
 ghost use Rattle.std.specs.Prelude.{◌≡◌, ◌≤◌, ◌++◌, true, [], ◌∷◌, length, take, drop, OnOk, OnErr, IsFalse, IsTrue};
 ghost use Rattle.lane.specs.MessageKinds.{is_done};
 ghost use Rattle.pit_parts.specs.Destinations.{formulas_of};
-ghost use Rattle.rows.specs.PackingView.{FillAList, IsFullFor};
-ghost use Rattle.valuers.specs.Valuing.{items_by};
+ghost use Rattle.rows.specs.PackingView.{IsFull, IsFullFor};
+ghost use Rattle.valuers.specs.Valuing.{items_by, WereAsked, WerePassed};
 ghost use Rattle.pit_parts.specs.declared.ranges.TheConstants.{MAX_DESTINATIONS};
 
 use crate::gate::Gate;
 use crate::valuing::worths_of;
 use lane::{TakeEnd, Taken};
-use pit_parts::formulas::destination::Destination;
+use pit_parts::block::Block;
+use pit_parts::formulas::destination::{Destination, Valuer};
 use rows::{Item, Items, Keeps, PackedItems, Packing, Valued};
 use std::alloc::{AllocError, Global};
 use std::sync::Wait;
@@ -53,12 +54,17 @@ pub fn value_all<R: Wait, G: Gate>(
 
     // What is kept of it, and that memory is refused only where the list is full.
     ensures items { IsFalse result.memory
-        → result.items ≡ items_by (formulas_of destinations.now)
+        → result.items.items ≡ items_by (formulas_of destinations.now)
         (drop (length take_end.took) result.taker.took) }
-    ensures front { result.items
-        ≡ take (length result.items)
+    ensures front { result.items.items
+        ≡ take (length result.items.items)
         (items_by (formulas_of destinations.now) (drop (length take_end.took) result.taker.took)) }
-    ensures full { IsTrue result.memory → FillAList result.items }
+    ensures full { IsTrue result.memory → IsFull result.items }
+
+    // For each row the gate was called, and the closures were asked.
+    ensures passed { WerePassed (G.passed_row gate.now valuer) result.items.items }
+    ensures asked { WereAsked ⟦<Valuer as Fn(Block) -> i128>⟧.post destinations.now
+        result.items.items }
 {
     let items = Vec::new(alloc);
     let (taker, items, memory) = take_all(rt, take_end, valuer, destinations, gate, items);
@@ -99,6 +105,11 @@ pub fn value_packed<R: Wait, G: Gate>(
         ≡ take (length result.items.items)
         (items_by (formulas_of destinations.now) (drop (length take_end.took) result.taker.took)) }
     ensures full { IsTrue result.memory → IsFullFor (length destinations.now) result.items }
+
+    // For each row the gate was called, and the closures were asked.
+    ensures passed { WerePassed (G.passed_row gate.now valuer) result.items.items }
+    ensures asked { WereAsked ⟦<Valuer as Fn(Block) -> i128>⟧.post destinations.now
+        result.items.items }
 {
     let items = Packing::new(alloc, destinations.len());
     let (taker, items, memory) = take_all(rt, take_end, valuer, destinations, gate, items);
@@ -152,6 +163,11 @@ fn take_all<R: Wait, G: Gate, K: Keeps>(
         (items_by (formulas_of destinations.now) (drop (length take_end.took) result.0.took)) }
     ensures width { K.is_for result.1 (length destinations.now) }
     ensures full { IsTrue result.2 → K.is_full result.1 (length destinations.now) }
+
+    // For each row the gate was called, and the closures were asked.
+    ensures passed { WerePassed (G.passed_row gate.now valuer) (K.held result.1) }
+    ensures asked { WereAsked ⟦<Valuer as Fn(Block) -> i128>⟧.post destinations.now
+        (K.held result.1) }
 {
     let mut memory = false;
     for _ in rt.forever() {
@@ -184,6 +200,12 @@ fn push_item<R: Wait, G: Gate, K: Keeps>(
     ensures kept { OnErr result (K.held items.new ≡ K.held items.old) }
     ensures width { K.is_for items.new (length destinations.now) }
     ensures full { OnErr result (K.is_full items.new (length destinations.now)) }
+
+    // For a row the gate was called, and the closures were asked.
+    ensures passed { OnOk result (WerePassed (G.passed_row gate.now valuer)
+        (items_by (formulas_of destinations.now) (message ∷ []))) }
+    ensures asked { OnOk result (WereAsked ⟦<Valuer as Fn(Block) -> i128>⟧.post destinations.now
+        (items_by (formulas_of destinations.now) (message ∷ []))) }
 {
     match message {
         Taken::Row { file, place, block } => {

@@ -1,7 +1,7 @@
 use Rattle.std.proofs.Common.{rules, ◌++◌, [], ◌∷◌, ◌≡◌, drop, length}
 use Rattle.pit_parts.specs.Destinations.{formulas_of}
-use Rattle.valuers.specs.Valuing.{items_by}
-use Rattle.valuers.proofs.Taking.{took_more, front_stays, items_more, all_where_pushed, front_where_pushed}
+use Rattle.valuers.specs.Valuing.{items_by, AreAnswered, OfRow}
+use Rattle.valuers.proofs.Taking.{took_more, front_stays, items_more, all_where_pushed, front_where_pushed, all_stay}
 use Rattle.valuers.proofs.valuer.take_all.Goals as goal
 
 pub loop-preserved-then-not-memory : goal.loop-preserved-then-not-memory
@@ -24,6 +24,11 @@ loop-preserved-then-not-memory g c =
           c.push_item.result c.push_item.ensures.pushed c.push_item.ensures.kept;
       width = c.push_item.ensures.width;
       full = search rules;
+      passed = all_stay (OfRow (λ row. g.G.Gate.passed_row c.args.gate.now c.args.valuer row.file row.place)) _ _ _
+          c.push_item.result c.push_item.ensures.pushed c.push_item.ensures.kept c.push_item.ensures.passed was.passed;
+      asked = all_stay (OfRow (λ row. AreAnswered (λ v b r. (goal.Fn-dyn g).post (v.vtable, v.value) (b, record {}) r)
+          c.args.destinations.now row.block row.worths)) _ _ _
+          c.push_item.result c.push_item.ensures.pushed c.push_item.ensures.kept c.push_item.ensures.asked was.asked;
     }
 
 pub loop-preserved : goal.loop-preserved
@@ -39,4 +44,6 @@ loop-preserved g c =
           c.take-message.result was.took (g.K.Keeps.held c.loop.items) was.front);
       width = was.width;
       full = was.full;
+      passed = was.passed;
+      asked = was.asked;
     }
