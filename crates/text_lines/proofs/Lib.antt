@@ -7,3 +7,4 @@ pub mod PieceFacts
 pub mod PlainText
 pub mod ReadSteps
 pub mod GivenFacts
+pub mod LineEnds

@@ -5,7 +5,7 @@ ghost use Rattle.devices.specs.declared.feeds.slurp.SlurpFault.TheVariants as Sl
 ghost use Rattle.devices.specs.declared.feeds.slurp.TheConstants.{GREATEST_LIMIT};
 ghost use Rattle.text_lines.specs.Reading.{Leaves, read_lines};
 ghost use Rattle.text_lines.specs.TextLines.{lines_of, numbered_lines};
-ghost use Rattle.text_lines.specs.inner.Waiting.{AreWholeLines, Gave, GaveAll, Held, IsLastReading, TakesEnded, front_end, front_lines, none_held, unmarked};
+ghost use Rattle.text_lines.specs.inner.Waiting.{AreWholeLines, Gave, GaveAll, Held, IsLastReading, NoLineEnd, TakesEnded, front_end, front_lines, none_held, unmarked};
 
 use crate::cut_lines::without_mark;
 use crate::line_by_line::{Admit, read_on};
@@ -19,7 +19,7 @@ use std::alloc::Global;
 use std::marker::Model;
 
 /// Bytes that a feed gave and of which no line was taken, and the number of their first line. They grow with the longest
-/// line, and not with the text.
+/// line, and not with the text: `take_ended` leaves no line end in what is held.
 #[derive(Drop)]
 pub struct Waiting {
     number: u64,
@@ -134,7 +134,8 @@ impl Waiting {
         Err(SlurpFault::TooLong)
     }
 
-    /// Takes the lines that have ended, none of them before the place `from`, and lets go of their bytes.
+    /// Takes the lines that have ended, none of them before the place `from`, and lets go of their bytes: what is held then is of one
+    /// line.
     pub fn take_ended<S: Admit>(
         &mut self,
         state: &mut S,
@@ -142,7 +143,9 @@ impl Waiting {
     ) -> Result<(), OrMemory<LineFault>>
         requires within { from ≤ length self.old.held }
         requires few { self.old.number + length self.old.held < 2 ^ 64 }
-        ensures { TakesEnded S.admit_line state.old state.new self.old self.new result }
+        requires front { NoLineEnd (take from self.old.held) }
+        ensures takes { TakesEnded S.admit_line state.old state.new self.old self.new result }
+        ensures held { OnOk result (NoLineEnd self.new.held) }
     {
         let whole = lines_end(self.held(), from);
         if whole == 0 {
@@ -220,9 +223,11 @@ fn read_piece<S: Admit>(
 
 // The place behind the last byte that ends a line, of those from a place on, or 0 where none does.
 fn lines_end(bytes: &[u8], from: usize) -> usize
-    requires { from ≤ length bytes.now }
+    requires within { from ≤ length bytes.now }
+    requires front { NoLineEnd (take from bytes.now) }
     ensures within { result ≤ length bytes.now }
     ensures whole { 0 < result → AreWholeLines (take result bytes.now) }
+    ensures behind { NoLineEnd (drop result bytes.now) }
 {
     match memrchr(b'\n', &bytes[from..]) {
         Some(place) => from + place + 1,

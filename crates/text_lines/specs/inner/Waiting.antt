@@ -1,5 +1,5 @@
 -- The lines of a text of which a feed gave a front.
-use Rattle.std.specs.Prelude.{◌≡◌, ℕ, ◌+◌, ◌<◌, ◌≤◌, Bool, true, false, List, [], ◌∷◌, ◌++◌, length, take, Option, IfSome, Result, Ok, Err}
+use Rattle.std.specs.Prelude.{◌≡◌, ◌≢◌, All, ℕ, ◌+◌, ◌<◌, ◌≤◌, Bool, true, false, List, [], ◌∷◌, ◌++◌, length, take, Option, IfSome, Result, Ok, Err}
 use Rattle.pit_units.specs.declared.or_memory.OrMemory.{OrMemory}
 use Rattle.pit_units.specs.declared.or_memory.OrMemory.TheVariants.{Fault, OutOfMemory}
 use Rattle.devices.specs.feeds.Feed.{put_back}
@@ -44,6 +44,10 @@ front_end w count = w.number + length (lines_of (unmarked w.begun (take count w.
 pub record AreWholeLines (piece : List ℕ) : Type 0 where
   pub front : List ℕ
   pub ends : piece ≡ front ++ 10 ∷ []
+
+-- no byte of these ends a line
+abbrev pub NoLineEnd : List ℕ → Type 0
+NoLineEnd bytes = All (λ b. b ≢ 10) bytes
 
 -- a feed gave so many bytes
 pub record Gave (n : ℕ) (left_old left_new : Option (List ℕ)) : Type 0 where

@@ -1,10 +1,12 @@
-use Rattle.std.proofs.Common.{◌≡◌, ◌+◌, ◌-◌, ◌∙◌, arith}
+use Rattle.std.proofs.Common.{rules, ◌≡◌, ◌+◌, ◌-◌, ◌∙◌, arith}
 use Rattle.text_lines.proofs.FedSteps.{held_more, last_told, none_after, none_yet, read_faulty, took_more}
+use Rattle.text_lines.proofs.LineEnds.{front_held}
 use Rattle.text_lines.proofs.fed_lines.read_fed.Goals as goal
 
 pub loop-rest-init : goal.loop-rest-init
 loop-rest-init g c = record {
   so_far = rw c.new-waiting.ensures (none_yet g.S.Admit.admit_line c.args.state.now (c.args.limit + 1) (g.F.Feed.left c.args.feed.now));
+  unended = search rules;
   counts = omega arith;
   works = cc;
   sure = λ s. s;
@@ -31,7 +33,8 @@ loop-rest-preserved g c =
     (c.args.limit + 1) _ _ _ inv.so_far c.in_ok-count.ensures.held (omega (arith, c.in_ok-count.ensures.within)) in
     record {
       so_far = took_more admit c.args.state.now c.loop-rest.state c.take_ended.new.state c.pull.new.self c.take_ended.new.self
-          (c.loop-rest.rest - n) (c.args.limit + 1) _ _ so c.in-Ok.ensures;
+          (c.loop-rest.rest - n) (c.args.limit + 1) _ _ so c.in-Ok.ensures.takes;
+      unended = c.in-Ok.ensures.held;
       counts = omega (arith, inv.counts, c.in_ok-count.ensures.counts, c.in_ok-count.ensures.within);
       works = c.in_ok-count.ensures.works ∙ inv.works;
       sure = λ s. c.pull.ensures.stays_sure (inv.sure s);
@@ -44,4 +47,8 @@ returns-in-Err-Fault-clause-read g c =
     let so = held_more admit c.args.state.now c.loop-rest.state c.loop-rest.waiting c.pull.new.self c.loop-rest.rest (c.loop-rest.rest - n) n
     (c.args.limit + 1) _ _ _ c.loop-rest.invariant.so_far c.in_ok-count.ensures.held (omega (arith, c.in_ok-count.ensures.within)) in
     read_faulty admit c.args.state.now c.loop-rest.state c.take_ended.new.state c.pull.new.self (c.loop-rest.rest - n) c.args.limit _ _ _
-    c.in-Err-Fault.fault so (rw c.in-Err-Fault.field-0-is at c.in-Err-Fault.ensures) c.in_ok-pass-in-Err-Fault.ensures.all
+    c.in-Err-Fault.fault so (rw c.in-Err-Fault.field-0-is at c.in-Err-Fault.ensures.takes) c.in_ok-pass-in-Err-Fault.ensures.all
+
+pub take_ended-requires-clause-front : goal.take_ended-requires-clause-front
+take_ended-requires-clause-front g c =
+    front_held _ _ c.loop-rest.waiting c.pull.new.self _ _ c.loop-rest.invariant.unended c.in_ok-count.ensures.held c.len-before.ensures

@@ -3,8 +3,8 @@ use Rattle.text_lines.specs.inner.Waiting.{AreWholeLines}
 use Rattle.text_lines.proofs.FedSteps.{refused, took}
 use Rattle.text_lines.proofs.waiting.Waiting.take_ended.Goals as goal
 
-pub returns-in_err-next : goal.returns-in_err-next
-returns-in_err-next g c =
+pub returns-in_err-next-clause-takes : goal.returns-in_err-next-clause-takes
+returns-in_err-next-clause-takes g c =
     let count = c.lines_end-whole.result in
     let some : 0 < count = omega (arith, c.if-whole-eq0.false) in
     let whole : AreWholeLines (take count c.args.self.now.held) =
@@ -13,8 +13,8 @@ returns-in_err-next g c =
     rw same (refused g.S.Admit.admit_line c.args.state.now c.read_front.new.state c.args.self.now c.args.self.now count c.in_err-next.field-0.0 whole
     c.in_err-next.ensures.read)
 
-pub returns : goal.returns
-returns g c =
+pub returns-clause-takes : goal.returns-clause-takes
+returns-clause-takes g c =
     let count = c.lines_end-whole.result in
     let some : 0 < count = omega (arith, c.if-whole-eq0.false) in
     let whole : AreWholeLines (take count c.args.self.now.held) =
