@@ -8,3 +8,4 @@ pub mod RowFacts
 pub mod RunFacts
 pub mod SentRows
 pub mod SettingsFacts
+pub mod StartsFacts

@@ -1,3 +1,4 @@
+pub mod Behind
 pub mod ModelRows
 pub mod ReadAnswers
 pub mod Repeats

@@ -5,19 +5,22 @@ ghost use Rattle.mine_instance.specs.Valid.{IsValid};
 ghost use Rattle.pit_compile.specs.Compiling.{IsCompiled, IsNotCompiled};
 ghost use Rattle.pit_compile.specs.Settings.{IsSettingsFault};
 ghost use Rattle.pit_compile.specs.declared.settings.SettingsFault.{SettingsFault as ASettingsFault};
+ghost use Rattle.pit_compile.specs.Starts.{AreStartsOf};
+ghost use Rattle.pit_compile.specs.inner.Behind.{IsBehindThreads};
 ghost use Rattle.pit_compile.specs.inner.ReadAnswers.{refusal_in};
 ghost use Rattle.lane.specs.Whole.{IsWhole};
 ghost use Rattle.pit_parts.specs.Destinations.{formulas_of};
 ghost use Rattle.pit_parts.specs.PlanFormulas.{formulas_of_plan};
 ghost use Rattle.pit_parts.specs.declared.ranges.TheConstants.{MAX_VALUERS, MAX_ZONES};
 ghost use Rattle.run_threads.specs.Reading.{AreRead};
+ghost use Rattle.run_threads.specs.Starts.{none_spent, AreSettled, AreSpent};
 ghost use Rattle.valuers.specs.Valuing.{items_by};
 
 use crate::collecting::collect;
 use crate::instance_building::instance_of_rows;
 use crate::read_answers::require_read;
 use crate::refusal::Refusal;
-use crate::settings::{Budget, require_settings};
+use crate::settings::{Budget, Settings, require_settings};
 use devices::feeds::feed::Feed;
 use lane::Gathered;
 use mine_instance::instance::Instance;
@@ -25,7 +28,7 @@ use mine_instance::{FoundCoefs, FoundValues};
 use pit_parts::formulas::destination::Destination;
 use pit_parts::plan::Plan;
 use precedence::FoundPreds;
-use run_threads::{Allowance, HandedOver, hand_over};
+use run_threads::{Allowance, HandedOver, Starts, hand_over};
 use std::alloc::Global;
 use std::snapshot::Snapshot;
 use std::sync::Wait;
@@ -77,14 +80,65 @@ pub fn compile<R: Threads + Wait + Sync, F: Feed + Send + Drop, G: Gate + Sync>(
         (λ _. budget.settings.valuers + length feeds.items ≤ budget.starts) }
 {
     let Budget { settings, starts } = budget;
+    let mut starts = Starts::new(starts);
+    compile_with_starts(
+        rt,
+        alloc,
+        feeds,
+        plan,
+        destinations,
+        settings,
+        &mut starts,
+        gate,
+    )
+}
+
+/// The same as `compile`, with starts that the caller lends, and which tell what became of them: a thread is started for each valuer and
+/// each file, and joined, or else a start was refused, or none was tried. `NoThread` is answered only where a start was refused.
+pub fn compile_with_starts<R: Threads + Wait + Sync, F: Feed + Send + Drop, G: Gate + Sync>(
+    rt: &R,
+    alloc: Global,
+    feeds: Vec<F>,
+    plan: &Plan,
+    destinations: &[Destination],
+    settings: Settings,
+    starts: &mut Starts,
+    gate: &G,
+) -> Result<Compiled, Refusal>
+    requires unspent { starts.old ≡ none_spent starts.old.allowed }
+    ensures settings { (kind : ASettingsFault) → (result ≡ Err (Refusal.Settings kind))
+        ↔ IsSettingsFault plan.now (length feeds.items) (formulas_of destinations.now)
+        settings kind }
+    ensures done { IfOk result (IsCompiled plan.now (map F.left feeds.items) settings.valuers) }
+    ensures valid { IfOk result (λ compiled. IsValid compiled.instance) }
+    ensures refused { IfErr result
+        (IsNotCompiled plan.now (map F.left feeds.items) (map F.is_sure feeds.items)) }
+    ensures budget { IfOk result
+        (λ _. settings.valuers + length feeds.items ≤ starts.old.allowed) }
+
+    // What was started.
+    ensures started { IfOk result
+        (λ _. AreSpent (settings.valuers + length feeds.items) starts.new) }
+    ensures short { IfErr result
+        (AreStartsOf (settings.valuers + length feeds.items) starts.old starts.new) }
+    ensures settled { AreSettled starts.old starts.new }
+{
     require_settings(feeds.len(), plan, destinations, settings)?;
     let given = Snapshot::of(&feeds);
     let allowance = Allowance {
         valuers: settings.valuers as u8,
         capacity: settings.capacity,
-        starts,
     };
-    let handed = hand_over(rt, alloc, feeds, plan, destinations, allowance, gate)?;
+    let handed = hand_over(
+        rt,
+        alloc,
+        feeds,
+        plan,
+        destinations,
+        allowance,
+        starts,
+        gate,
+    )?;
     compiled_of(alloc, plan, given, handed)
 }
 
@@ -114,6 +168,7 @@ fn compiled_of<F: Feed>(
 
     // Why nothing is: never for the settings, and for the answer of a reader where one did not finish.
     ensures settings { (kind : ASettingsFault) → result ≢ Err (Refusal.Settings kind) }
+    ensures behind { IfErr result IsBehindThreads }
     ensures files { IfSome (refusal_in 0 handed.answers.items) (λ refusal. result ≡ Err refusal) }
     ensures refused { IfErr result
         (IsNotCompiled plan.now (map F.left _feeds.value.items)

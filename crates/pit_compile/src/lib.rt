@@ -12,6 +12,7 @@ pub mod settings;
 mod sink_writing;
 pub mod sinks;
 
-pub use compiling::{Compiled, compile};
-pub use running::{MOST_STARTS, run, run_limited};
+pub use compiling::{Compiled, compile, compile_with_starts};
+pub use run_threads::Starts;
+pub use running::{MOST_STARTS, run, run_limited, run_with_starts};
 pub use sink_writing::write_texts;

@@ -1,14 +1,16 @@
 //! The run: from zone files to the texts of the instance.
 
-ghost use Rattle.std.specs.Prelude.{map};
+ghost use Rattle.std.specs.Prelude.{◌≡◌, ◌+◌, length, map, IfErr, IfOk};
 ghost use Rattle.pit_compile.specs.Run.{Runs};
 ghost use Rattle.pit_compile.specs.Sinks.{all_told};
+ghost use Rattle.pit_compile.specs.Starts.{AreStartsOf};
 ghost use Rattle.pit_compile.specs.declared.running.TheConstants.{MOST_STARTS};
 ghost use Rattle.pit_parts.specs.Destinations.{formulas_of};
+ghost use Rattle.run_threads.specs.Starts.{none_spent, AreSettled, AreSpent};
 
-use crate::compiling::{Compiled, compile};
+use crate::compiling::{Compiled, compile_with_starts};
 use crate::refusal::Refusal;
-use crate::settings::{Budget, Settings};
+use crate::settings::Settings;
 use crate::sink_writing::write_texts;
 use crate::sinks::Sinks;
 use devices::feeds::feed::Feed;
@@ -17,6 +19,7 @@ use lane::Gathered;
 use pit_parts::formulas::destination::Destination;
 use pit_parts::plan::Plan;
 use pit_parts::ranges::{MAX_VALUERS, MAX_ZONES};
+use run_threads::Starts;
 use std::alloc::Global;
 use std::sync::Wait;
 use std::thread::Threads;
@@ -79,13 +82,52 @@ pub fn run_limited<R: Threads + Wait + Sync, F: Feed + Send + Drop, G: Gate + Sy
         Runs plan.now (formulas_of destinations.now) settings (map F.left feeds.items)
         (map F.is_sure feeds.items) starts (told sinks.old) (told sinks.new) result }
 {
-    let Compiled { gathered, instance } = compile(
+    let mut starts = Starts::new(starts);
+    run_with_starts(
         rt,
         alloc,
         feeds,
         plan,
         destinations,
-        Budget { settings, starts },
+        settings,
+        &mut starts,
+        gate,
+        sinks,
+    )
+}
+
+/// The same as `run_limited`, with starts that the caller lends, and which tell what became of them, as of `compile_with_starts`.
+pub fn run_with_starts<R: Threads + Wait + Sync, F: Feed + Send + Drop, G: Gate + Sync, S: Sink>(
+    rt: &R,
+    alloc: Global,
+    feeds: Vec<F>,
+    plan: &Plan,
+    destinations: &[Destination],
+    settings: Settings,
+    starts: &mut Starts,
+    gate: &G,
+    sinks: &mut Sinks<S>,
+) -> Result<Gathered, Refusal>
+    requires unspent { starts.old ≡ none_spent starts.old.allowed }
+    ensures runs { let told = all_told S.state in
+        Runs plan.now (formulas_of destinations.now) settings (map F.left feeds.items)
+        (map F.is_sure feeds.items) starts.old.allowed (told sinks.old) (told sinks.new) result }
+
+    // What was started.
+    ensures started { IfOk result
+        (λ _. AreSpent (settings.valuers + length feeds.items) starts.new) }
+    ensures short { IfErr result
+        (AreStartsOf (settings.valuers + length feeds.items) starts.old starts.new) }
+    ensures settled { AreSettled starts.old starts.new }
+{
+    let Compiled { gathered, instance } = compile_with_starts(
+        rt,
+        alloc,
+        feeds,
+        plan,
+        destinations,
+        settings,
+        starts,
         gate,
     )?;
     write_texts(alloc, &instance, sinks)?;

@@ -1,3 +1,4 @@
 pub mod MostBytes
 pub mod Reading
+pub mod Starts
 pub mod inner

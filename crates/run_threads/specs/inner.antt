@@ -2,3 +2,4 @@ pub mod HandingOver
 pub mod Promises
 pub mod Ready
 pub mod Sending
+pub mod Started

@@ -8,6 +8,7 @@ ghost use Rattle.run_threads.specs.inner.Sending.{IsUnread, HasPut};
 ghost use Rattle.zone_csv.specs.Zone.{blocks_of, fault_of};
 
 use crate::read_fault::ReadFault;
+use crate::starts::OnThread;
 use devices::feeds::feed::Feed;
 use devices::feeds::slurp::{SlurpFault, slurp};
 use lane::{EndedPut, PutEnd, Taken};
@@ -31,10 +32,11 @@ pub struct FileRead {
 
 /// Reads the zone file that `feed` gives, whole, and puts a row for each of its blocks into the lane, in their order.
 /// After the last row, or after a fault, it always puts the file's end mark. It tells `gate` before the first pull.
-/// `file` is the number of the file, and of its zone in `plan`, from 0.
+/// `file` is the number of the file, and of its zone in `plan`, from 0. It runs on a thread of its own.
 ///
 /// The answer tells why the file was not read to its end. Where it is `Row`, the blocks before the faulty row were put.
 pub fn read_file<R: Wait, F: Feed + Drop, G: Gate>(
+    _thread: &OnThread,
     rt: &R,
     alloc: Global,
     mut feed: F,
@@ -47,6 +49,7 @@ pub fn read_file<R: Wait, F: Feed + Drop, G: Gate>(
     ensures end { (result.ended.lane ≡ put_end.lane) × (result.ended.file ≡ file) }
     ensures read { IsRead plan.now.grid file (F.left feed) (F.is_sure feed)
         result.answer result.ended.sent }
+    ensures passed { G.passed_reader gate.now file }
 {
     let answer = put_file(rt, alloc, &mut feed, plan, file, &mut put_end, gate);
     FileRead {
@@ -69,6 +72,7 @@ fn put_file<R: Wait, F: Feed, G: Gate>(
     ensures end { (put_end.new.lane ≡ put_end.old.lane) × (put_end.new.file ≡ file) }
     ensures read { IsRead plan.now.grid file (F.left feed.old) (F.is_sure feed.old) result
         (put_end.new.sent ++ Taken.End file (length put_end.new.sent) ∷ []) }
+    ensures passed { G.passed_reader gate.now file }
 {
     gate.reader(rt, file);
     let text = slurped(alloc, feed)?;

@@ -1,22 +1,24 @@
 //! The threads of a run, from the first start to the last join.
 
-ghost use Rattle.std.specs.Prelude.{◌≡◌, ◌+◌, ◌≤◌, length, map, vec_len, IfOk, IsFalse};
+ghost use Rattle.std.specs.Prelude.{◌≡◌, ◌+◌, ◌≤◌, length, map, true, vec_len, IfErr, IfOk, IsFalse};
 ghost use Rattle.lane.specs.Whole.{IsWhole};
 ghost use Rattle.pit_parts.specs.Destinations.{AreOfPlan};
 ghost use Rattle.pit_parts.specs.PlanFormulas.{formulas_of_plan};
 ghost use Rattle.run_threads.specs.inner.HandingOver.{IsHandedOver};
 ghost use Rattle.run_threads.specs.Reading.{AreRead};
+ghost use Rattle.run_threads.specs.Starts.{none_spent, AreSettled, AreShort, AreSpent};
 ghost use Rattle.pit_units.specs.declared.or_memory.OrMemory.TheVariants.{Fault};
 ghost use Rattle.valuers.specs.Valuing.{items_by};
 ghost use Rattle.pit_parts.specs.declared.ranges.TheConstants.{MAX_CAPACITY, MAX_VALUERS};
 
 use crate::in_scope::giving_up::GaveUp;
-use crate::in_scope::hand_over_in;
+use crate::in_scope::{Settled, hand_over_in};
 use crate::opened::open_lane;
 use crate::read_fault::ReadFault;
 use crate::ready::Ready;
 use crate::result_room::room_for;
 use crate::shared::Shared;
+use crate::starts::{Starter, Starts};
 use devices::feeds::feed::Feed;
 use lane::Gathered;
 use pit_parts::formulas::destination::Destination;
@@ -30,15 +32,13 @@ use std::thread::Threads;
 use thiserror::Error;
 use valuers::Gate;
 
-/// How many valuers a run has, how long its lane is, and how many threads it may start.
+/// How many valuers a run has, and how long its lane is.
 #[derive(Clone, Copy)]
 pub struct Allowance {
     /// The number of valuers, 1 to 64.
     pub valuers: u8,
     /// For how many messages the queue of the lane has room, 1 to 4,096.
     pub capacity: usize,
-    /// The number of thread starts: one more counts as refused.
-    pub starts: u32,
 }
 
 /// What the threads of a run hand over.
@@ -69,7 +69,7 @@ impl From<GaveUp> for OrMemory<NoThread> {
 
 /// Reads each file in a thread of its own, into a lane from which the valuers, each in a thread of its own, take and
 /// value the rows. The valuers start first. No thread is cancelled: every reader runs to the end of its file or to its
-/// first fault. The feeds are used up.
+/// first fault. The feeds are used up, and one of the starts for each thread.
 ///
 /// # Errors
 ///
@@ -82,12 +82,14 @@ pub fn hand_over<R: Threads + Wait + Sync, F: Feed + Send + Drop, G: Gate + Sync
     plan: &Plan,
     destinations: &[Destination],
     allowance: Allowance,
+    starts: &mut Starts,
     gate: &G,
 ) -> Result<HandedOver, OrMemory<NoThread>>
     requires files { length feeds.items ≡ length plan.now.cones }
     requires valuers { (1 ≤ allowance.valuers) × (allowance.valuers ≤ MAX_VALUERS) }
     requires capacity { (1 ≤ allowance.capacity) × (allowance.capacity ≤ MAX_CAPACITY) }
     requires destinations { AreOfPlan destinations.now plan.now }
+    requires unspent { starts.old ≡ none_spent starts.old.allowed }
 
     // What was read, and what the valuers made of it.
     ensures whole { IfOk result (λ handed. IsWhole handed.gathered) }
@@ -100,7 +102,13 @@ pub fn hand_over<R: Threads + Wait + Sync, F: Feed + Send + Drop, G: Gate + Sync
     // How many threads there were.
     ensures takers { IfOk result (λ handed. length handed.gathered.took ≡ allowance.valuers) }
     ensures budget { IfOk result (λ _.
-        allowance.valuers + length feeds.items ≤ allowance.starts) }
+        allowance.valuers + length feeds.items ≤ starts.old.allowed) }
+
+    // What was started: a thread for each valuer and each file, or else a start was refused, or none was tried. Each is joined.
+    ensures started { IfOk result (λ _.
+        AreSpent (allowance.valuers + length feeds.items) starts.new) }
+    ensures short { IfErr result (AreShort starts.old starts.new) }
+    ensures settled { AreSettled starts.old starts.new }
 {
     let lane = open_lane(
         alloc,
@@ -116,22 +124,30 @@ pub fn hand_over<R: Threads + Wait + Sync, F: Feed + Send + Drop, G: Gate + Sync
             destinations,
             gate,
         },
-        starts: allowance.starts,
         room: room_for(alloc, lane.puts.len(), lane.takes.len())?,
         valuers: Vec::with_capacity(alloc, lane.takes.len())?,
         readers: Vec::with_capacity(alloc, lane.puts.len())?,
         feeds,
         lane,
     };
-    thread::scope(
+    let lent = starts.lend();
+    let Settled {
+        handed,
+        starts: left,
+    } = thread::scope(
         thread::scope_env(),
         rt,
-        move |scope| -> Result<HandedOver, OrMemory<NoThread>>
-            ensures handed { IfOk result (IsHandedOver ready.entry.shared.plan.now
+        move |scope| -> Settled
+            requires unspent { lent ≡ none_spent lent.allowed }
+            ensures handed { IfOk result.handed (IsHandedOver ready.entry.shared.plan.now
                 (map F.left ready.entry.feeds.items) (map F.is_sure ready.entry.feeds.items)
                 ready.entry.lane.closer.takers) }
-            ensures budget { IfOk result (λ _.
-                ready.entry.lane.closer.takers + vec_len ready.entry.feeds ≤ ready.entry.starts) }
-        { Ok(hand_over_in(scope, ready)?) },
-    )
+            ensures started { IfOk result.handed (λ _. AreSpent
+                (ready.entry.lane.closer.takers + vec_len ready.entry.feeds) result.starts) }
+            ensures refused { IfErr result.handed (λ _. result.starts.refused ≡ true) }
+            ensures settled { AreSettled lent result.starts }
+        { hand_over_in(Starter::new(scope, rt, lent), ready) },
+    );
+    *starts = left;
+    Ok(handed?)
 }

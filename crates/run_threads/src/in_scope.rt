@@ -1,6 +1,7 @@
 //! The threads of a run within a scope, from the first start to the last join.
 
-ghost use Rattle.std.specs.Prelude.{◌≡◌, ◌+◌, ◌≤◌, map, vec_len, IfErr, IfOk};
+ghost use Rattle.std.specs.Prelude.{◌≡◌, ◌+◌, map, true, vec_len, IfErr, IfOk};
+ghost use Rattle.run_threads.specs.Starts.{none_spent, AreSettled, AreSpent};
 ghost use Rattle.run_threads.specs.inner.HandingOver.{IsHandedOver};
 
 use crate::handing_over::HandedOver;
@@ -9,9 +10,10 @@ use crate::in_scope::settling::{give_up, settle};
 use crate::in_scope::starting::{start_readers, start_valuers};
 use crate::opened::Opened;
 use crate::ready::Ready;
+use crate::starts::{Starter, Starts};
 use devices::feeds::feed::Feed;
 use std::sync::Wait;
-use std::thread::{Scope, Threads};
+use std::thread::Threads;
 use valuers::Gate;
 
 pub mod giving_up;
@@ -19,21 +21,34 @@ pub mod joining;
 pub mod settling;
 pub mod starting;
 
+/// What the threads of a scope hand over, all of them joined, and what is left of the starts.
+#[derive(Drop)]
+pub struct Settled {
+    pub handed: Result<HandedOver, GaveUp>,
+    pub starts: Starts,
+}
+
 /// Starts the valuers and then the readers of a run, and settles. After a refused start it ends what was started.
-pub fn hand_over_in<'s, E, R: Threads + Wait + Sync, F: Feed + Send + Drop + 's, G: Gate + Sync>(
-    scope: &Scope<'s, E>,
+pub fn hand_over_in<'s, E, T: Threads, R: Wait + Sync, F: Feed + Send + Drop + 's, G: Gate + Sync>(
+    mut starter: Starter<'s, E, T>,
     ready: Ready<'s, R, F, G>,
-) -> Result<HandedOver, GaveUp>
-    ensures handed { IfOk result (IsHandedOver ready.entry.shared.plan.now
+) -> Settled
+    requires unspent { starter ≡ none_spent starter.allowed }
+    ensures handed { IfOk result.handed (IsHandedOver ready.entry.shared.plan.now
         (map F.left ready.entry.feeds.items) (map F.is_sure ready.entry.feeds.items)
         ready.entry.lane.closer.takers) }
-    ensures budget { IfOk result (λ _.
-        ready.entry.lane.closer.takers + vec_len ready.entry.feeds ≤ ready.entry.starts) }
-    ensures quits { IfErr result (λ gave_up. gave_up.quits ≡ gave_up.valuers.count) }
+
+    // The starts: one for each valuer and each file, or one was refused. Each thread is joined.
+    ensures started { IfOk result.handed (λ _.
+        AreSpent (ready.entry.lane.closer.takers + vec_len ready.entry.feeds) result.starts) }
+    ensures refused { IfErr result.handed (λ _. result.starts.refused ≡ true) }
+    ensures settled { AreSettled starter.entry result.starts }
+
+    // Where one was refused, the valuers are ended by a Quit each.
+    ensures quits { IfErr result.handed (λ gave_up. gave_up.quits ≡ gave_up.valuers) }
 {
     let Ready {
         shared,
-        starts,
         feeds,
         lane,
         valuers,
@@ -45,21 +60,39 @@ pub fn hand_over_in<'s, E, R: Threads + Wait + Sync, F: Feed + Send + Drop + 's,
         puts,
         takes,
     } = lane;
-    let valuers = start_valuers(&shared, scope, takes, starts, valuers);
+    let valuers = start_valuers(&shared, &mut starter, takes, valuers);
     if valuers.refused {
-        return Err(give_up(shared.rt, closer, readers, valuers.handles));
+        let gave_up = give_up(&mut starter, shared.rt, closer, readers, valuers.handles);
+        return Settled {
+            handed: Err(gave_up),
+            starts: starter.end(),
+        };
     }
-    let left = starts - valuers.handles.len() as u32;
-    let readers = start_readers(&shared, scope, feeds, puts, left, readers);
+    let readers = start_readers(&shared, &mut starter, feeds, puts, readers);
     if readers.refused {
-        return Err(give_up(shared.rt, closer, readers.handles, valuers.handles));
+        let gave_up = give_up(
+            &mut starter,
+            shared.rt,
+            closer,
+            readers.handles,
+            valuers.handles,
+        );
+        return Settled {
+            handed: Err(gave_up),
+            starts: starter.end(),
+        };
     }
-    Ok(settle(
+    let handed = settle(
+        &mut starter,
         shared.rt,
         closer,
         readers.handles,
         valuers.handles,
         room,
         shared.plan,
-    ))
+    );
+    Settled {
+        handed: Ok(handed),
+        starts: starter.end(),
+    }
 }

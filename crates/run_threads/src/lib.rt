@@ -10,6 +10,8 @@ mod read_fault;
 mod ready;
 mod result_room;
 mod shared;
+mod starts;
 
 pub use handing_over::{Allowance, HandedOver, NoThread, hand_over};
 pub use read_fault::ReadFault;
+pub use starts::Starts;

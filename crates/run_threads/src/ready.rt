@@ -13,8 +13,6 @@ use devices::feeds::feed::Feed;
 #[derive(Drop)]
 pub struct Ready<'s, R, F: Feed, G> {
     pub shared: Shared<'s, R, G>,
-    /// How many threads may be started: one more counts as refused.
-    pub starts: u32,
     pub feeds: Vec<F>,
     pub lane: Opened,
     pub valuers: Vec<ValuerHandle>,

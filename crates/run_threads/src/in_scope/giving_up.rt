@@ -1,39 +1,42 @@
 //! The end of a run's threads where one was refused. What each step needs is made by the step before it alone: Quits are sent behind the
 //! readers, and valuers are joined behind their Quits.
 
-ghost use Rattle.std.specs.Prelude.{◌≡◌, ◌≤◌, vec_len};
+ghost use Rattle.std.specs.Prelude.{◌≡◌, ◌+◌, ◌≤◌, vec_len};
+ghost use Rattle.run_threads.specs.inner.Started.{after_joins};
 
 use crate::promises::ValuerHandle;
+use crate::starts::{JoinedBehind, Starter};
 use lane::{Closer, GivenUp};
 use std::sync::Wait;
 use std::thread::{Promise, PromisedHandle, Threads};
 
-/// Threads that were joined, by their number. What they gave back is dropped.
+/// Threads that were joined. What they gave back is dropped.
 #[derive(Drop)]
 pub struct Joined {
-    count: usize,
+    _count: usize,
 }
 
-/// The readers that were joined, the Quits that were then sent, and the valuers that were joined behind these.
+/// The Quits that were sent behind the readers, and how many valuers were joined behind these.
 #[derive(Drop)]
 pub struct GaveUp {
-    readers: Joined,
-    quits: GivenUp,
-    valuers: Joined,
+    pub quits: GivenUp,
+    pub valuers: usize,
 }
 
-/// Joins each thread.
-pub fn join_each<R: Threads, T: Drop, P: Promise<T>>(
-    rt: &R,
-    handles: Vec<PromisedHandle<T, P>>,
+/// Joins each thread, behind what it may be joined behind.
+pub fn join_each<'s, E, T: Threads, A: Drop, P: Promise<A> + JoinedBehind<B>, B>(
+    starter: &mut Starter<'s, E, T>,
+    handles: Vec<PromisedHandle<A, P>>,
+    behind: &B,
 ) -> Joined
-    ensures { result.count ≡ vec_len handles }
+    requires running { starter.old.joined + vec_len handles ≤ starter.old.spent }
+    ensures counted { starter.new ≡ after_joins (vec_len handles) starter.old }
 {
-    let count = handles.len();
+    let _count = handles.len();
     for handle in handles {
-        drop(handle.join(rt));
+        drop(starter.join(handle, behind));
     }
-    Joined { count }
+    Joined { _count }
 }
 
 /// Sends a Quit for each of so many valuers.
@@ -45,20 +48,21 @@ pub fn quit_each<R: Wait>(rt: &R, closer: Closer, _readers: &Joined, valuers: us
 }
 
 /// Joins the valuers, for each of which a Quit was sent.
-pub fn join_behind<R: Threads>(
-    rt: &R,
-    readers: Joined,
+pub fn join_behind<'s, E, T: Threads>(
+    starter: &mut Starter<'s, E, T>,
     quits: GivenUp,
     valuers: Vec<ValuerHandle>,
 ) -> GaveUp
-    requires { vec_len valuers ≤ quits }
-    ensures readers { result.readers ≡ readers }
+    requires quits { vec_len valuers ≤ quits }
+    requires running { starter.old.joined + vec_len valuers ≤ starter.old.spent }
     ensures quits { result.quits ≡ quits }
-    ensures valuers { result.valuers.count ≡ vec_len valuers }
+    ensures valuers { result.valuers ≡ vec_len valuers }
+    ensures counted { starter.new ≡ after_joins (vec_len valuers) starter.old }
 {
+    let count = valuers.len();
+    let _joined = join_each(starter, valuers, &quits);
     GaveUp {
-        readers,
         quits,
-        valuers: join_each(rt, valuers),
+        valuers: count,
     }
 }

@@ -1,28 +1,33 @@
 //! Joining threads, and parting what they give back.
 
-ghost use Rattle.std.specs.Prelude.{◌≡◌, ◌≤◌, [], map, vec_len, vec_capacity};
+ghost use Rattle.std.specs.Prelude.{◌≡◌, ◌+◌, ◌≤◌, [], map, vec_len, vec_capacity};
 ghost use Rattle.std.specs.List.{AllZip, list_any};
+ghost use Rattle.run_threads.specs.inner.Started.{after_joins};
 
 use crate::file_reading::FileRead;
 use crate::read_fault::ReadFault;
+use crate::starts::{JoinedBehind, Starter};
 use lane::{EndedPut, TakeEnd};
 use rows::PackedItems;
 use std::thread::{Promise, PromisedHandle, Threads};
 use valuers::ValuerResult;
 
-/// Joins each thread, and gives what they gave back, in their order.
-pub fn join_all<R: Threads, T: Drop, P: Promise<T>>(
-    rt: &R,
-    handles: Vec<PromisedHandle<T, P>>,
-    mut results: Vec<T>,
-) -> Vec<T>
+/// Joins each thread, behind what it may be joined behind, and gives what they gave back, in their order.
+pub fn join_all<'s, E, T: Threads, A: Drop, P: Promise<A> + JoinedBehind<B>, B>(
+    starter: &mut Starter<'s, E, T>,
+    handles: Vec<PromisedHandle<A, P>>,
+    mut results: Vec<A>,
+    behind: &B,
+) -> Vec<A>
     requires empty { results.items ≡ [] }
     requires room { vec_len handles ≤ vec_capacity results }
+    requires running { starter.old.joined + vec_len handles ≤ starter.old.spent }
     ensures kept { AllZip (λ h r. P.kept_by h.promise r) handles.items result.items }
     ensures count { vec_len result ≡ vec_len handles }
+    ensures counted { starter.new ≡ after_joins (vec_len handles) starter.old }
 {
     for handle in handles {
-        results.push(handle.join(rt)).unwrap();
+        results.push(starter.join(handle, behind)).unwrap();
     }
     results
 }

@@ -1,16 +1,18 @@
 //! The end of a run's threads: all joined, with what they hand over or without.
 
-ghost use Rattle.std.specs.Prelude.{◌≡◌, ◌≤◌, map, vec_len};
+ghost use Rattle.std.specs.Prelude.{◌≡◌, ◌+◌, ◌≤◌, map, vec_len};
 ghost use Rattle.std.specs.List.{All};
 ghost use Rattle.lane.specs.Ends.{first_puts, first_takes};
 ghost use Rattle.run_threads.specs.inner.HandingOver.{IsHandedOver};
 ghost use Rattle.run_threads.specs.inner.Ready.{IsRoomFor};
+ghost use Rattle.run_threads.specs.inner.Started.{after_joins};
 
 use crate::handing_over::HandedOver;
 use crate::in_scope::giving_up::{GaveUp, join_behind, join_each, quit_each};
 use crate::in_scope::joining::{join_all, split_reads, split_values};
 use crate::promises::{ReaderHandle, ValuerHandle};
 use crate::result_room::ResultRoom;
+use crate::starts::Starter;
 use devices::feeds::feed::Feed;
 use lane::Closer;
 use pit_parts::plan::Plan;
@@ -19,7 +21,8 @@ use std::thread::Threads;
 
 /// Joins the readers, stops the lane, joins the valuers, and gathers what they hand over. Of `_plan`, which is the plan of them all, only
 /// the contract speaks.
-pub fn settle<R: Threads + Wait, F: Feed>(
+pub fn settle<'s, E, T: Threads, R: Wait, F: Feed>(
+    starter: &mut Starter<'s, E, T>,
     rt: &R,
     closer: Closer,
     readers: Vec<ReaderHandle<F>>,
@@ -38,11 +41,15 @@ pub fn settle<R: Threads + Wait, F: Feed>(
     // There is room for what each of them answers.
     requires readers { vec_len readers ≡ closer.files }
     requires valuers { vec_len valuers ≡ closer.takers }
+    requires running { starter.old.joined + (vec_len readers + vec_len valuers)
+        ≤ starter.old.spent }
     requires room { IsRoomFor closer.files closer.takers room }
 
-    // What they hand over.
-    ensures { IsHandedOver _plan.now (map (λ h. F.left h.promise.feed.value) readers.items)
+    // What they hand over, and that each of them is joined.
+    ensures handed { IsHandedOver _plan.now (map (λ h. F.left h.promise.feed.value) readers.items)
         (map (λ h. F.is_sure h.promise.feed.value) readers.items) closer.takers result }
+    ensures counted { starter.new
+        ≡ after_joins (vec_len readers + vec_len valuers) starter.old }
 {
     let ResultRoom {
         reads,
@@ -52,10 +59,10 @@ pub fn settle<R: Threads + Wait, F: Feed>(
         takers,
         items,
     } = room;
-    let reads = join_all(rt, readers, reads);
+    let reads = join_all(starter, readers, reads, &closer);
     let (ended, answers) = split_reads(reads, ended, answers);
     let stopped = closer.stop(rt, ended);
-    let values = join_all(rt, valuers, values);
+    let values = join_all(starter, valuers, values, &stopped);
     let (takers, items, memory) = split_values(values, takers, items);
     let gathered = stopped.gather(rt, takers);
     HandedOver {
@@ -68,18 +75,22 @@ pub fn settle<R: Threads + Wait, F: Feed>(
 
 /// Ends the threads that were started, of a run that was refused one: the readers first, since each of them waits for the valuers to take
 /// what it puts, and then the valuers, each of which waits for a message.
-pub fn give_up<R: Threads + Wait, F: Feed>(
+pub fn give_up<'s, E, T: Threads, R: Wait, F: Feed>(
+    starter: &mut Starter<'s, E, T>,
     rt: &R,
     closer: Closer,
     readers: Vec<ReaderHandle<F>>,
     valuers: Vec<ValuerHandle>,
 ) -> GaveUp
-    requires { vec_len valuers ≤ closer.takers }
-    ensures readers { result.readers.count ≡ vec_len readers }
+    requires takers { vec_len valuers ≤ closer.takers }
+    requires running { starter.old.joined + (vec_len readers + vec_len valuers)
+        ≤ starter.old.spent }
     ensures quits { result.quits ≡ vec_len valuers }
-    ensures valuers { result.valuers.count ≡ vec_len valuers }
+    ensures valuers { result.valuers ≡ vec_len valuers }
+    ensures counted { starter.new
+        ≡ after_joins (vec_len readers + vec_len valuers) starter.old }
 {
-    let readers = join_each(rt, readers);
+    let readers = join_each(starter, readers, &closer);
     let quits = quit_each(rt, closer, &readers, valuers.len());
-    join_behind(rt, readers, quits, valuers)
+    join_behind(starter, quits, valuers)
 }

@@ -1,23 +1,23 @@
 //! Starting the threads of a run, until a start is refused.
 
-ghost use Rattle.std.specs.Prelude.{◌≡◌, ◌≤◌, [], length, map, vec_len, vec_capacity, IsFalse, IfSome};
+ghost use Rattle.std.specs.Prelude.{◌≡◌, ◌≤◌, ◌++◌, [], true, false, drop, is_some, length, map, vec_len, vec_capacity, IsFalse, IfSome};
 ghost use Rattle.std.specs.List.{All};
-ghost use Rattle.std.specs.Prelude.{◌++◌, true, drop};
 ghost use Rattle.lane.specs.MessageKinds.{is_done};
 ghost use Rattle.pit_parts.specs.Destinations.{formulas_of};
 ghost use Rattle.run_threads.specs.Reading.{IsRead};
 ghost use Rattle.run_threads.specs.inner.Promises.{AreUnsentFrom, IsUnsent};
+ghost use Rattle.run_threads.specs.inner.Started.{after_start, after_starts};
 ghost use Rattle.valuers.specs.Valuing.{items_by};
 ghost use Rattle.pit_parts.specs.declared.ranges.TheConstants.{MAX_DESTINATIONS, MAX_VALUERS, MAX_ZONES};
 
 use crate::file_reading::{FileRead, read_file};
 use crate::promises::{ReadBy, ReaderHandle, ValuedBy, ValuerHandle};
 use crate::shared::Shared;
+use crate::starts::{OnThread, Starter};
 use devices::feeds::feed::Feed;
 use lane::{PutEnd, TakeEnd};
 use std::snapshot::Snapshot;
 use std::sync::Wait;
-use std::thread::{Scope, Threads};
 use valuers::{Gate, PackedItems, ValuerResult, value_packed};
 
 /// The threads that were started, in order, and whether a further start was refused.
@@ -27,14 +27,15 @@ pub struct Started<H> {
     pub refused: bool,
 }
 
-/// Starts a valuer for each take end, until a start is refused. A start beyond `starts` of them is.
-pub fn start_valuers<'s, E, R: Threads + Wait + Sync, G: Gate + Sync>(
+/// Starts a valuer for each take end, until a start is refused.
+pub fn start_valuers<'s, E, T, R: Wait + Sync, G: Gate + Sync>(
     shared: &Shared<'s, R, G>,
-    scope: &Scope<'s, E>,
+    starter: &mut Starter<'s, E, T>,
     takes: Vec<TakeEnd>,
-    starts: u32,
     mut handles: Vec<ValuerHandle>,
 ) -> Started<ValuerHandle>
+    requires none_refused { starter.old.refused ≡ false }
+    requires within { starter.old.spent ≤ starter.old.allowed }
     requires takers { vec_len takes ≤ MAX_VALUERS }
     requires empty { handles.items ≡ [] }
     requires room { vec_len takes ≤ vec_capacity handles }
@@ -43,17 +44,13 @@ pub fn start_valuers<'s, E, R: Threads + Wait + Sync, G: Gate + Sync>(
     ensures plans { All (λ h. h.promise.plan.value ≡ shared.now.plan.now) result.handles.items }
     ensures count { vec_len result.handles ≤ vec_len takes }
     ensures whole { IsFalse result.refused → vec_len result.handles ≡ vec_len takes }
-    ensures budget { vec_len result.handles ≤ starts }
+    ensures counted { starter.new
+        ≡ after_starts (vec_len result.handles) result.refused starter.old }
+    ensures within { starter.new.spent ≤ starter.new.allowed }
 {
     let mut valuer = 0u8;
     for take in takes {
-        if u32::from(valuer) >= starts {
-            return Started {
-                handles,
-                refused: true,
-            };
-        }
-        let Some(handle) = start_valuer(shared, scope, take, valuer) else {
+        let Some(handle) = start_valuer(shared, starter, take, valuer) else {
             return Started {
                 handles,
                 refused: true,
@@ -68,15 +65,16 @@ pub fn start_valuers<'s, E, R: Threads + Wait + Sync, G: Gate + Sync>(
     }
 }
 
-/// Starts a reader for each file, until a start is refused. A start beyond `starts` of them is.
-pub fn start_readers<'s, E, R: Threads + Wait + Sync, F: Feed + Send + Drop + 's, G: Gate + Sync>(
+/// Starts a reader for each file, until a start is refused.
+pub fn start_readers<'s, E, T, R: Wait + Sync, F: Feed + Send + Drop + 's, G: Gate + Sync>(
     shared: &Shared<'s, R, G>,
-    scope: &Scope<'s, E>,
+    starter: &mut Starter<'s, E, T>,
     feeds: Vec<F>,
     ends: Vec<PutEnd>,
-    starts: u32,
     mut handles: Vec<ReaderHandle<F>>,
 ) -> Started<ReaderHandle<F>>
+    requires none_refused { starter.old.refused ≡ false }
+    requires within { starter.old.spent ≤ starter.old.allowed }
     requires files { length shared.now.plan.now.cones ≡ vec_len ends }
     requires few { vec_len ends ≤ MAX_ZONES }
     requires feeds { vec_len feeds ≡ vec_len ends }
@@ -94,7 +92,9 @@ pub fn start_readers<'s, E, R: Threads + Wait + Sync, F: Feed + Send + Drop + 's
     // How many there are.
     ensures count { vec_len result.handles ≤ vec_len ends }
     ensures whole { IsFalse result.refused → vec_len result.handles ≡ vec_len ends }
-    ensures budget { vec_len result.handles ≤ starts }
+    ensures counted { starter.new
+        ≡ after_starts (vec_len result.handles) result.refused starter.old }
+    ensures within { starter.new.spent ≤ starter.new.allowed }
 {
     let mut file = 0u8;
     let mut rest = feeds.into_iter();
@@ -102,13 +102,7 @@ pub fn start_readers<'s, E, R: Threads + Wait + Sync, F: Feed + Send + Drop + 's
         let Some(feed) = rest.next() else {
             unreachable!()
         };
-        if u32::from(file) >= starts {
-            return Started {
-                handles,
-                refused: true,
-            };
-        }
-        let Some(handle) = start_reader(shared, scope, feed, file, end) else {
+        let Some(handle) = start_reader(shared, starter, feed, file, end) else {
             return Started {
                 handles,
                 refused: true,
@@ -123,13 +117,16 @@ pub fn start_readers<'s, E, R: Threads + Wait + Sync, F: Feed + Send + Drop + 's
     }
 }
 
-fn start_valuer<'s, E, R: Threads + Wait + Sync, G: Gate + Sync>(
+fn start_valuer<'s, E, T, R: Wait + Sync, G: Gate + Sync>(
     shared: &Shared<'s, R, G>,
-    scope: &Scope<'s, E>,
+    starter: &mut Starter<'s, E, T>,
     end: TakeEnd,
     valuer: u8,
 ) -> Option<ValuerHandle>
-    ensures { IfSome result (λ h.
+    requires none_refused { starter.old.refused ≡ false }
+    ensures counted { starter.new ≡ after_start (is_some result) starter.old }
+    ensures within { starter.new.spent ≤ starter.new.allowed }
+    ensures promise { IfSome result (λ h.
         (h.promise.plan.value ≡ shared.now.plan.now) × (h.promise.end.value ≡ end)) }
 {
     let rt = shared.rt;
@@ -140,32 +137,33 @@ fn start_valuer<'s, E, R: Threads + Wait + Sync, G: Gate + Sync>(
         plan: Snapshot::of(shared.plan),
         end: Snapshot::of(&end),
     };
-    scope
-        .spawn_with(
-            promise,
-            move || -> ValuerResult<PackedItems>
-                requires some { 1 ≤ length destinations.now }
-                requires few { length destinations.now ≤ MAX_DESTINATIONS }
-                ensures taker { result.taker
-                    ≡ record end { took = end.took ++ drop (length end.took) result.taker.took } }
-                ensures done { is_done result.taker.took ≡ true }
-                ensures items { let took = drop (length end.took) result.taker.took in
-                    IsFalse result.memory
-                    → result.items ≡ items_by (formulas_of destinations.entry.now) took }
-            { value_packed(rt, alloc, end, valuer, destinations, gate).packed() },
-        )
-        .ok()
+    starter.spawn(
+        promise,
+        move |_thread: OnThread| -> ValuerResult<PackedItems>
+            requires some { 1 ≤ length destinations.now }
+            requires few { length destinations.now ≤ MAX_DESTINATIONS }
+            ensures taker { result.taker
+                ≡ record end { took = end.took ++ drop (length end.took) result.taker.took } }
+            ensures done { is_done result.taker.took ≡ true }
+            ensures items { let took = drop (length end.took) result.taker.took in
+                IsFalse result.memory
+                → result.items ≡ items_by (formulas_of destinations.entry.now) took }
+        { value_packed(rt, alloc, end, valuer, destinations, gate).packed() },
+    )
 }
 
-fn start_reader<'s, E, R: Threads + Wait + Sync, F: Feed + Send + Drop + 's, G: Gate + Sync>(
+fn start_reader<'s, E, T, R: Wait + Sync, F: Feed + Send + Drop + 's, G: Gate + Sync>(
     shared: &Shared<'s, R, G>,
-    scope: &Scope<'s, E>,
+    starter: &mut Starter<'s, E, T>,
     feed: F,
     file: u8,
     end: PutEnd,
 ) -> Option<ReaderHandle<F>>
-    requires { IsUnsent shared.now.plan.now file end }
-    ensures { IfSome result (λ h. (h.promise.feed.value ≡ feed)
+    requires none_refused { starter.old.refused ≡ false }
+    requires unsent { IsUnsent shared.now.plan.now file end }
+    ensures counted { starter.new ≡ after_start (is_some result) starter.old }
+    ensures within { starter.new.spent ≤ starter.new.allowed }
+    ensures promise { IfSome result (λ h. (h.promise.feed.value ≡ feed)
         × (h.promise.plan.value ≡ shared.now.plan.now) × (h.promise.end.value ≡ end)) }
 {
     let rt = shared.rt;
@@ -177,15 +175,13 @@ fn start_reader<'s, E, R: Threads + Wait + Sync, F: Feed + Send + Drop + 's, G: 
         plan: Snapshot::of(plan),
         end: Snapshot::of(&end),
     };
-    scope
-        .spawn_with(
-            promise,
-            move || -> FileRead
-                requires { IsUnsent plan.now file end }
-                ensures end { (result.ended.lane ≡ end.lane) × (result.ended.file ≡ file) }
-                ensures read { IsRead plan.entry.now.grid file (F.left feed) (F.is_sure feed)
-                    result.answer result.ended.sent }
-            { read_file(rt, alloc, feed, plan, file, end, gate) },
-        )
-        .ok()
+    starter.spawn(
+        promise,
+        move |thread: OnThread| -> FileRead
+            requires { IsUnsent plan.now file end }
+            ensures end { (result.ended.lane ≡ end.lane) × (result.ended.file ≡ file) }
+            ensures read { IsRead plan.entry.now.grid file (F.left feed) (F.is_sure feed)
+                result.answer result.ended.sent }
+        { read_file(&thread, rt, alloc, feed, plan, file, end, gate) },
+    )
 }

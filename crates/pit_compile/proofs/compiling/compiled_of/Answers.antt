@@ -14,6 +14,7 @@ use Rattle.pit_compile.specs.declared.settings.SettingsFault.{SettingsFault}
 use Rattle.pit_compile.proofs.Compiles.{Compiles, compiles, repeat_refused}
 use Rattle.pit_compile.proofs.Readers.{all_read, as_many, not_read}
 use Rattle.pit_compile.proofs.RowFacts.{AreZoneFiles, few_sents}
+use Rattle.pit_compile.proofs.StartsFacts.{read_behind, repeat_behind}
 use Rattle.pit_compile.proofs.compiling.compiled_of.Goals as goal
 use Rattle.pit_compile.proofs.compiling.compiled_of.Goals.{In_err-require_read, In_ok-rows}
 use Rattle.pit_compile.proofs.compiling.compiled_of.Given.{Over}
@@ -48,6 +49,16 @@ pub returns-in_err-require_read-clause-refused : goal.returns-in_err-require_rea
 returns-in_err-require_read-clause-refused g c =
     let p = err_from_is_err_and c.from_residual.result c.from_residual.ensures.1 in
     rw (p.1, p.2) (refused g (goal.at.returns-in_err-require_read-clause-refused g c).In_err-require_read).0
+
+pub returns-in_err-require_read-clause-behind : goal.returns-in_err-require_read-clause-behind
+returns-in_err-require_read-clause-behind g c =
+    let p = err_from_is_err_and c.from_residual.result c.from_residual.ensures.1 in
+    rw (p.1, p.2) (read_behind 0 c.as_slice.result.now c.in_err-require_read.field-0.0 c.in_err-require_read.ensures.refused)
+
+pub returns-in_err-instance-clause-behind : goal.returns-in_err-instance-clause-behind
+returns-in_err-instance-clause-behind g c =
+    let p = err_from_is_err_and c.from_residual-in_err-instance.result c.from_residual-in_err-instance.ensures.1 in
+    rw (p.1, p.2) (repeat_behind _ c.in_err-instance.field-0.0 c.in_err-instance.ensures.refused)
 
 pub collect-requires-clause-files : goal.collect-requires-clause-files
 collect-requires-clause-files g c =

@@ -16,4 +16,4 @@ returns-clause-handed g c =
     rw (
       sym (map_through (λ h. h.promise.feed.value) g.F.Feed.left handles feeds fed),
       sym (map_through (λ h. h.promise.feed.value) g.F.Feed.is_sure handles feeds fed),
-    ) c.settle.ensures
+    ) c.settle-handed.ensures.handed

@@ -11,10 +11,11 @@ loop-handle-preserved g c =
     let rest : into_iter_items c.loop-handle.handle-iterator ≡ c.in-Some.handle ∷ into_iter_items c.next.new.self = search rules in
     record {
       kept = rw grown (partly_more (λ h r. g.P.Promise.kept_by h.promise r) c.args.handles.items c.loop-handle.results.items
-          c.in-Some.handle (into_iter_items c.next.new.self) c.join.result (rw rest at was.kept) c.join.ensures);
+          c.in-Some.handle (into_iter_items c.next.new.self) c.join.result (rw rest at was.kept) c.join.ensures.kept);
       left = search rules;
       count = search rules;
       room = search rules;
+      counted = search rules;
     }
 
 pub returns-clause-kept : goal.returns-clause-kept

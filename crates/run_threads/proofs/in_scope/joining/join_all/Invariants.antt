@@ -2,6 +2,7 @@ use Rattle.std.proofs.Common.{◌≡◌, ◌+◌, ◌≤◌, length, vec_len}
 use Rattle.std.specs.Prelude.{vec_capacity}
 use Rattle.std.specs.Vec.Iter.{into_iter_items, into_iter_len}
 use Rattle.run_threads.specs.inner.Promises.{IsPartly}
+use Rattle.run_threads.specs.inner.Started.{after_joins}
 use Rattle.run_threads.proofs.in_scope.joining.join_all.Given as goal
 
 abbrev pub invariant-loop-handle : goal.invariant-loop-handle
@@ -11,4 +12,5 @@ invariant-loop-handle g l =
       left : into_iter_len l.handle-iterator ≡ length (into_iter_items l.handle-iterator);
       count : vec_len l.results + into_iter_len l.handle-iterator ≡ vec_len l.fn.handles;
       room : vec_len l.fn.handles ≤ vec_capacity l.results;
+      counted : l.starter ≡ after_joins (vec_len l.results) l.fn.starter;
     }

@@ -26,8 +26,8 @@ gather-gathered-requires-clause-done g c =
     (done_of (λ h. h.promise.plan.value) (λ h. h.promise.end.value) c.args._plan.now c.args.closer.lane c.args.closer.takers
     c.args.valuers.items c.join_all-values.result.items c.join_all-values.ensures.kept)
 
-pub returns : goal.returns
-returns g c =
+pub returns-clause-handed : goal.returns-clause-handed
+returns-clause-handed g c =
     let plan = c.args._plan.now in
     let lane = c.args.closer.lane in
     record {

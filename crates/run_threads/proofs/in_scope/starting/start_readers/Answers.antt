@@ -8,7 +8,7 @@ use Rattle.run_threads.proofs.in_scope.starting.start_readers.Goals as goal
 pub loop-end-preserved : goal.loop-end-preserved
 loop-end-preserved g c =
     let was = c.loop-end.invariant in
-    let kept = c.in-Some-start_reader.ensures in
+    let kept = c.in-Some-start_reader.ensures.promise in
     let grown : c.push.new.self.items ≡ c.loop-end.handles.items ++ c.in-Some-start_reader.handle ∷ [] = search rules in
     let ends : into_iter_items c.loop-end.end-iterator ≡ c.in-Some.end ∷ into_iter_items c.next.new.self = search rules in
     let feeds : into_iter_items c.loop-end.rest ≡ c.in-Some-next.feed ∷ into_iter_items c.next-in-loop-end.new.self = search rules in
@@ -27,5 +27,6 @@ loop-end-preserved g c =
       unsent = subst (λ n. AreUnsentFrom n (into_iter_items c.next.new.self)) more
           (unsent_rest (vec_len c.loop-end.handles) c.in-Some.end (into_iter_items c.loop-end.end-iterator)
           (into_iter_items c.next.new.self) ends was.unsent).2;
-      budget = search rules;
+      counted = search rules;
+      within = search rules;
     }

@@ -1,7 +1,8 @@
 use Rattle.std.proofs.Common.{◌≡◌, ◌+◌, ◌≤◌, ◌++◌, map, vec_len, All}
-use Rattle.std.specs.Prelude.{vec_capacity}
+use Rattle.std.specs.Prelude.{vec_capacity, false}
 use Rattle.std.specs.Vec.Iter.{into_iter_items, into_iter_len}
 use Rattle.run_threads.specs.inner.Promises.{AreUnsentFrom}
+use Rattle.run_threads.specs.inner.Started.{after_starts}
 use Rattle.run_threads.proofs.in_scope.starting.start_readers.Given as goal
 
 abbrev pub invariant-loop-end : goal.invariant-loop-end
@@ -15,5 +16,6 @@ invariant-loop-end g l =
       fed : into_iter_len l.rest ≡ into_iter_len l.end-iterator;
       room : vec_len l.fn.ends ≤ vec_capacity l.handles;
       unsent : AreUnsentFrom (vec_len l.handles) (into_iter_items l.end-iterator);
-      budget : vec_len l.handles ≤ l.starts;
+      counted : l.starter ≡ after_starts (vec_len l.handles) false l.fn.starter;
+      within : l.starter.spent ≤ l.starter.allowed;
     }

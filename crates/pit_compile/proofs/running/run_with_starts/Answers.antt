@@ -7,10 +7,10 @@ use Rattle.pit_compile.specs.Settings.{IsSettingsFault}
 use Rattle.pit_compile.specs.Sinks.{all_told, AreWritten}
 use Rattle.pit_compile.specs.declared.refusal.Refusal.TheVariants.{Settings}
 use Rattle.pit_compile.proofs.RunFacts.{cut_off, cut_is_not_settings, not_compiled}
-use Rattle.pit_compile.proofs.running.run_limited.Goals as goal
+use Rattle.pit_compile.proofs.running.run_with_starts.Goals as goal
 
-pub returns-in_err-gathered : goal.returns-in_err-gathered
-returns-in_err-gathered g c =
+pub returns-in_err-gathered-clause-runs : goal.returns-in_err-gathered-clause-runs
+returns-in_err-gathered-clause-runs g c =
     let p = err_from_is_err_and c.from_residual.result c.from_residual.ensures.1 in
     let plan = c.args.plan.now in
     let formulas = formulas_of c.args.destinations.now in
@@ -28,8 +28,8 @@ returns-in_err-gathered g c =
       budget = tt;
     })
 
-pub returns-in_err-write_texts : goal.returns-in_err-write_texts
-returns-in_err-write_texts g c =
+pub returns-in_err-write_texts-clause-runs : goal.returns-in_err-write_texts-clause-runs
+returns-in_err-write_texts-clause-runs g c =
     let p = err_from_is_err_and c.from_residual-in_err-write_texts.result c.from_residual-in_err-write_texts.ensures.1 in
     let plan = c.args.plan.now in
     let formulas = formulas_of c.args.destinations.now in
@@ -53,8 +53,8 @@ returns-in_err-write_texts g c =
       budget = tt;
     })
 
-pub returns : goal.returns
-returns g c =
+pub returns-clause-runs : goal.returns-clause-runs
+returns-clause-runs g c =
     let plan = c.args.plan.now in
     let formulas = formulas_of c.args.destinations.now in
     let old = all_told g.S.Sink.state c.args.sinks.now in
