@@ -2,6 +2,7 @@ pub mod BestFacts
 pub mod ChosenFacts
 pub mod CoefFacts
 pub mod FieldsWritten
+pub mod FrontGroup
 pub mod KeptFacts
 pub mod LineFacts
 pub mod PartsWritten

@@ -4,6 +4,7 @@ ghost use Rattle.std.specs.Prelude.{◌≡◌, ◌+◌, ◌<◌, ◌≤◌, ℕ,
 ghost use Rattle.std.specs.List.{concat};
 ghost use Rattle.minelib_lines.specs.Lines.{text_of};
 ghost use Rattle.minelib_writing.specs.inner.KeptParts.{HoldsFrom};
+ghost use Rattle.minelib_writing.specs.declared.parts.TheConstants.{MOST_AT_ONCE};
 ghost use Rattle.devices.specs.sinks.SinkSteps.{refusals, IsAppendCut};
 ghost use Rattle.devices.specs.sinks.Writes.{IsWrittenOn, WritesOn};
 
@@ -12,6 +13,9 @@ use devices::sinks::sink::Sink;
 use devices::sinks::slices::flush_full;
 use devices::sinks::write_fault::WriteFault;
 use std::alloc::{AllocError, Global};
+
+/// How many parts are appended at once at the most: a buffer that is not full has room for them.
+pub const MOST_AT_ONCE: usize = 512;
 
 /// Lines that are written part by part: the text of a part is no line, one, or more.
 pub trait Parted {
@@ -26,12 +30,13 @@ pub trait Parted {
     fn len(&self) -> usize
         ensures { result ≡ length (parts self.now) };
 
-    /// Appends the part at a place, or it and some of those behind it, and answers how many. Where memory is refused a front of their
+    /// Appends the part at a place, or it and some of those behind it, and answers how many, at most `MOST_AT_ONCE`. Where memory is refused a front of their
     /// text may be appended.
     fn append(&self, alloc: Global, index: usize, out: &mut Vec<u8>) -> Result<usize, AllocError>
         requires { index < length (parts self.now) }
         ensures some { IfOk result (λ n. 0 < n) }
         ensures within { IfOk result (λ n. index + n ≤ length (parts self.now)) }
+        ensures few { IfOk result (λ n. n ≤ MOST_AT_ONCE) }
         ensures appended { IfOk result (λ n.
             out.new.items ≡ out.old.items ++ concat (take n (drop index (parts self.now)))) }
         ensures kept { IfOk result (λ n. HoldsFrom (kept self.now) index (index + n)) };
@@ -73,6 +78,7 @@ fn write_some<S: Sink, L: Parted>(
     requires { index < length (L.parts parted.now) }
     ensures some { IfOk result (λ n. 0 < n) }
     ensures within { IfOk result (λ n. index + n ≤ length (L.parts parted.now)) }
+    ensures few { IfOk result (λ n. n ≤ MOST_AT_ONCE) }
     ensures written { IfOk result
         (λ n. IsWrittenOn (concat (take n (drop index (L.parts parted.now))))
         buffer.old.items buffer.new.items (S.state sink.old) (S.state sink.new)) }

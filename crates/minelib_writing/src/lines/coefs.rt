@@ -10,9 +10,9 @@ ghost use Rattle.minelib_writing.specs.inner.CoefParts.{coef_lines, coef_part, c
 
 use crate::fields::{put_decimal_to, put_whole_to};
 use crate::lines::Line;
-use crate::parts::Parted;
+use crate::parts::{MOST_AT_ONCE, Parted};
 use itoa::write_digits;
-use mine_instance::coefs::group::CoefGroup;
+use mine_instance::coefs::group::{CoefGroup, Pairs};
 use mine_instance::coefs::list::CoefList;
 use mine_instance::cpit::CpitCoef;
 use mine_instance::values::list::ValueList;
@@ -27,9 +27,6 @@ const RESOURCE: usize = 12;
 
 // Where the tonnes stand, with the LF behind them.
 const TONNES: usize = 15;
-
-// How many coefficients are appended at once, but for what the last group has more: a buffer that is not full has room for them.
-const MOST: usize = 512;
 
 /// Which coefficients have a line, and its form.
 #[derive(Drop)]
@@ -64,18 +61,47 @@ impl<'a, C: CoefList, V: ValueList> Parted for CoefLines<'a, C, V> {
     }
 
     fn append(&self, alloc: Global, index: usize, out: &mut Vec<u8>) -> Result<usize, AllocError> {
-        let most = MOST.min(self.coefs.len() - index);
+        let most = MOST_AT_ONCE.min(self.coefs.len() - index);
         let mut tonnes = self.coefs.group(index).v;
         let mut room = new_room(alloc, tonnes)?;
         let mut count = 0;
         while count < most {
-            let group = self.coefs.group(index + count);
+            let group = group_within(self.coefs, index + count, most - count);
             next_tonnes(alloc, &mut room, tonnes, group.v)?;
             tonnes = group.v;
             put_group(out, &mut room, &group, &self.form)?;
             count += group.pairs.len();
         }
         Ok(count)
+    }
+}
+
+// Those from a place on that are told at once, but no more of them than so many.
+#[inline(always)]
+fn group_within<C: CoefList>(coefs: &C, from: usize, most: usize) -> CoefGroup<'_>
+    requires there { from < length (C.list coefs.now) }
+    requires some { 0 < most }
+    ensures some { 0 < length (pairs_of result.pairs) }
+    ensures within { from + length (pairs_of result.pairs) ≤ length (C.list coefs.now) }
+    ensures few { length (pairs_of result.pairs) ≤ most }
+    ensures value { coefs_in result
+        ≡ take (length (pairs_of result.pairs)) (drop from (C.list coefs.now)) }
+{
+    let CoefGroup { b, v, pairs } = coefs.group(from);
+    let pairs = front_of(pairs, most);
+    CoefGroup { b, v, pairs }
+}
+
+// The first of them, as many as may be.
+#[inline(always)]
+#[tactic(auto, using(std::proofs::lemmas::List::take_min, std::proofs::lemmas::List::take_all))]
+fn front_of(pairs: Pairs<'_>, most: usize) -> Pairs<'_>
+    requires { 0 < most }
+    ensures { pairs_of result ≡ take most (pairs_of pairs.entry) }
+{
+    match pairs {
+        Pairs::Covered(pairs) => Pairs::Covered(&pairs[..most.min(pairs.len())]),
+        Pairs::One(pair) => Pairs::One(pair),
     }
 }
 

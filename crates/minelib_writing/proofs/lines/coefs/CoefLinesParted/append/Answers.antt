@@ -12,9 +12,9 @@ use Rattle.minelib_writing.proofs.lines.coefs.CoefLinesParted.append.Goals as go
 pub put_group-requires-clause-fit : goal.put_group-requires-clause-fit
 put_group-requires-clause-fit g c =
     let all = g.C.CoefList.list c.args.self.now.coefs.now in
-    let group = c.group-group.result in
+    let group = c.group_within-group.result in
     of_group (FitsForm g.V.ValueList.list c.args.self.now.form) all (coefs_in group) (c.args.index + c.loop-count.count) (length (pairs_of group.pairs))
-    c.group-group.ensures.within c.group-group.ensures.value c.args.self.now.fit
+    c.group_within-group.ensures.within c.group_within-group.ensures.value c.args.self.now.fit
 
 pub loop-count-preserved : goal.loop-count-preserved
 loop-count-preserved g c =
@@ -22,18 +22,19 @@ loop-count-preserved g c =
     let form = c.args.self.now.form in
     let index = c.args.index in
     let count = c.loop-count.count in
-    let group = c.group-group.result in
+    let group = c.group_within-group.result in
     let n = length (pairs_of group.pairs) in
     let more : c.len-count.result ≡ n = c.len-count.ensures in
     let on : (index + count) + n ≡ index + (count + n) = omega arith in
-    let value = c.group-group.ensures.value in
+    let value = c.group_within-group.ensures.value in
     let known = known_of (λ v. IsInDecimalRange v) group.b group.v (pairs_of group.pairs) c.in_ok-next_tonnes.ensures.kept in
-    let part = kept_part (λ c. IsInDecimalRange c.v) all (index + count) n c.group-group.ensures.within
+    let part = kept_part (λ c. IsInDecimalRange c.v) all (index + count) n c.group_within-group.ensures.within
     (subst (All (λ c. IsInDecimalRange c.v)) value known) in
     let so_far = concat (take count (drop index (map (coef_part g.V.ValueList.list form) all))) in
     let next = flat_map (coef_part g.V.ValueList.list form) (coefs_in group) in
     rw more (record {
-      within = subst (λ k. k ≤ length all) on c.group-group.ensures.within;
+      few = omega (arith, c.group_within-group.ensures.few, c.loop-count-test.true);
+      within = subst (λ k. k ≤ length all) on c.group_within-group.ensures.within;
       room = c.in_ok-put_group.ensures.tonnes;
       known = c.in_ok-next_tonnes.ensures.kept;
       text =

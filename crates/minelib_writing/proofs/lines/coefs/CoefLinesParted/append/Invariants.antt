@@ -9,6 +9,7 @@ use Rattle.minelib_writing.proofs.lines.coefs.CoefLinesParted.append.Given as go
 -- The parts so far are appended, and in the room are the tonnes of the last of them, of which is known what their type keeps.
 abbrev pub invariant-loop-count : goal.invariant-loop-count
 invariant-loop-count g l = record {
+  few : l.count ≤ l.most;
   within : l.index + l.count ≤ length (g.C.CoefList.list l.self.coefs.now);
   room : drop 14 l.room.items ≡ 32 ∷ (shortest l.tonnes ++ 10 ∷ []);
   known : IsInDecimalRange l.tonnes;
