@@ -1,5 +1,5 @@
 -- Which starts a refused run spent.
-use Rattle.std.proofs.Common.{◌≡◌, ℕ, ◌+◌, List, [], ◌∷◌, Some, Result, Ok, Err, inl, inr, refl, subst}
+use Rattle.std.proofs.Common.{◌≡◌, ℕ, ◌+◌, List, [], ◌∷◌, Some, Result, Ok, Err, inl, inr, subst}
 use Rattle.std.specs.Prelude.{IfErr}
 use Rattle.mine_instance.specs.Instance.{Instance}
 use Rattle.devices.specs.sinks.SinkState.{SinkState}

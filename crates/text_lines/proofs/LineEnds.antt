@@ -1,10 +1,9 @@
 -- Where no byte ends a line: behind the last that does.
-use Rattle.std.proofs.Common.{◌≡◌, ◌≢◌, ℕ, ◌+◌, ◌<◌, ◌≤◌, ◌++◌, ◌∙◌, List, true, All, Option, Some, None, length, get_or, take, drop, ap, sym, subst, arith, length-drop}
-use Rattle.std.specs.Prelude.{slice_index, ◌==◌}
+use Rattle.std.proofs.Common.{◌≡◌, ◌≢◌, ℕ, ◌+◌, ◌<◌, ◌∙◌, List, true, Option, Some, None, length, get_or, take, drop, ap, sym, subst, arith, length-drop}
 use Rattle.std.proofs.lemmas.List.{get_or-drop, take-append-drop}
 use Rattle.std.proofs.lemmas.List.Elements.{All-append, All-from_get_or}
 use Rattle.std.proofs.Math.Seq.{take-append_seam}
-use Rattle.memchr.specs.Find.{IsLastByte, NoneAfter, Nowhere, Passes, is_byte}
+use Rattle.memchr.specs.Find.{IsLastByte, is_byte}
 use Rattle.text_lines.specs.inner.Waiting.{NoLineEnd, WaitingView, Held}
 
 -- a byte that the test does not pass ends no line

@@ -2,7 +2,6 @@ use Rattle.std.proofs.Common.{◌≡◌, subst, arith, length}
 use Rattle.pit_parts.specs.Destinations.{formulas_of}
 use Rattle.pit_compile.specs.Settings.{Suits}
 use Rattle.pit_compile.proofs.SettingsFacts.{none_where_suits}
-use Rattle.pit_compile.proofs.StartsFacts.{if_behind}
 use Rattle.pit_compile.proofs.compiling.compile_with_starts.Goals as goal
 
 pub returns-clause-settings : goal.returns-clause-settings
