@@ -3,4 +3,5 @@
 
 pub mod header_key;
 pub mod key_values;
+pub mod laws;
 pub mod problem;

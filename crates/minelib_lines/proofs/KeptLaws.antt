@@ -1,0 +1,82 @@
+-- The instance of a plan has decimals, since a plan's numbers, a block's tonnes and its worths are small; and so has its CPIT.
+use Rattle.std.proofs.Common.{◌≡◌, ℕ, zero, suc, ℤ, pos, negsuc, Bool, true, false, List, [], ◌∷◌, All, map, filter, get_or, refl, arith}
+use Rattle.std.specs.Prelude.{slice_index_or, if◌then◌else◌, ◌==◌}
+use Rattle.std.specs.List.{flat_map, enumerate_from}
+use Rattle.std.proofs.lemmas.Int.{ints}
+use Rattle.std.proofs.lemmas.List.Elements.{All-nil, All-append, All-filter, All-map, All-weaker, All-tail}
+use Rattle.pit_units.specs.Decimal.{IsInDecimalRange}
+use Rattle.pit_parts.specs.Name.{is_name}
+use Rattle.pit_parts.specs.Plan.{PlanParts}
+use Rattle.pit_parts.specs.PlanKept.{AreTonnes, IsPlan, IsTonnes}
+use Rattle.pit_parts.specs.formulas.Worth.{IsWorth}
+use Rattle.pit_parts.specs.declared.block.Block.{Block}
+use Rattle.pit_parts.specs.declared.limit.Bound.{Bound}
+use Rattle.pit_parts.specs.declared.limit.Bound.TheVariants.{AtMost, AtLeast, Between}
+use Rattle.pit_parts.proofs.WorthFacts.{worth_bound}
+use Rattle.mine_instance.specs.Greatest.{first_greatest, greatest}
+use Rattle.mine_instance.specs.Instance.{Instance}
+use Rattle.mine_instance.specs.OfModel.{block_coefs, by_identifier, coef_at, covered, in_hundreds, instance, values_of}
+use Rattle.mine_instance.specs.cpit.OfCpit.{cpit, is_chosen, without_destination}
+use Rattle.mine_instance.specs.declared.coefs.coef.Coef.{Coef}
+use Rattle.mine_instance.proofs.ModelFacts.{worths_fit}
+use Rattle.minelib_lines.specs.Kept.{HasDecimals, IsKept, IsKeptCpit}
+
+-- worths, as values
+value_fits : (cents : ℤ) → IsWorth cents → IsInDecimalRange (in_hundreds cents)
+value_fits (pos n) small = omega (arith, small)
+value_fits (negsuc n) small = omega (arith, ints, small)
+
+values_fit : (plan : PlanParts) → IsPlan plan → (b : Block) → All IsInDecimalRange (values_of plan b)
+values_fit plan is b =
+    All-map IsInDecimalRange in_hundreds _
+    (All-weaker IsWorth (λ cents. IsInDecimalRange (in_hundreds cents)) value_fits _ (worths_fit worth_bound plan b _ refl is.formulas))
+
+-- tonnes of blocks, as coefficients
+unless : (test : Bool) (coefs : List Coef) → All (λ c. IsInDecimalRange c.v) coefs
+    → All (λ c. IsInDecimalRange c.v) (if test then [] else coefs)
+unless true coefs fit = All-nil (λ (c : Coef). IsInDecimalRange c.v)
+unless false coefs fit = fit
+
+block_fits : (pairs : List (ℕ × ℕ)) (numbered : ℕ × Block) → All (λ c. IsInDecimalRange c.v) (block_coefs pairs numbered)
+block_fits pairs numbered =
+    unless (numbered.1.kg == 0) (map (coef_at numbered.0 numbered.1) pairs)
+    (All-map (λ (c : Coef). IsInDecimalRange c.v) (coef_at numbered.0 numbered.1) pairs (λ k d within. omega (arith, numbered.1.kg_in_range)))
+
+coefs_fit : (pairs : List (ℕ × ℕ)) (numbered : List (ℕ × Block)) → All (λ c. IsInDecimalRange c.v) (flat_map (block_coefs pairs) numbered)
+coefs_fit pairs [] = All-nil (λ (c : Coef). IsInDecimalRange c.v)
+coefs_fit pairs (b ∷ bs) =
+    All-append (λ (c : Coef). IsInDecimalRange c.v) (block_coefs pairs b) (flat_map (block_coefs pairs) bs) (block_fits pairs b) (coefs_fit pairs bs)
+
+-- the tonnes of limits
+tonnes_fit : (v : ℤ) → IsTonnes v → IsInDecimalRange v
+tonnes_fit (pos n) is = omega (arith, ints, is.1)
+tonnes_fit (negsuc n) is = absurd (omega (arith, ints, is.0))
+
+bound_fits : (b : Bound) → AreTonnes b → HasDecimals b
+bound_fits (AtMost v) is = tonnes_fit v is
+bound_fits (AtLeast v) is = tonnes_fit v is
+bound_fits (Between v w) is = (tonnes_fit v is.0, tonnes_fit w is.1)
+
+pub instance_kept : (plan : PlanParts) (listed : List Block) → is_name plan.name ≡ true → IsPlan plan → IsKept (instance plan listed)
+instance_kept plan listed named is = record {
+  name = named;
+  values = All-map (λ values. All IsInDecimalRange values) (values_of plan) (by_identifier listed) (λ k d within. values_fit plan is _);
+  coefs = coefs_fit (covered plan) (enumerate_from 0 (by_identifier listed));
+  limits = λ k d within. bound_fits (get_or plan.limits k d).bound (is.limits k d within).2.tonnes;
+}
+
+-- a number of a list, or 0
+number_fits : (numbers : List ℤ) (place : ℕ) → All IsInDecimalRange numbers → IsInDecimalRange (slice_index_or numbers place (pos 0))
+number_fits [] place fit = omega arith
+number_fits (n ∷ numbers) zero fit = fit 0 n (omega arith)
+number_fits (n ∷ numbers) (suc place) fit = number_fits numbers place (All-tail IsInDecimalRange n numbers fit)
+
+pub cpit_kept : (i : Instance) → IsKept i → IsKeptCpit (cpit i)
+cpit_kept i kept = record {
+  name = kept.name;
+  values = All-map IsInDecimalRange greatest i.values
+      (λ k d within. number_fits (get_or i.values k d) (first_greatest (get_or i.values k d)) (kept.values k d within));
+  coefs = All-map (λ e. IsInDecimalRange e.v) without_destination (filter (is_chosen i.values) i.coefs)
+      (All-filter (is_chosen i.values) (λ (c : Coef). IsInDecimalRange c.v) i.coefs kept.coefs);
+  limits = kept.limits;
+}
