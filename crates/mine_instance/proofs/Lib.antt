@@ -5,6 +5,7 @@ pub mod BuildFacts
 pub mod FoundFacts
 pub mod GreatestFacts
 pub mod GroupFacts
+pub mod HundredsFacts
 pub mod ModelFacts
 pub mod OrderLaws
 pub mod ValueFacts

@@ -2,6 +2,7 @@ pub mod BlockValues
 pub mod ByBlock
 pub mod Greatest
 pub mod Groups
+pub mod Hundreds
 pub mod Instance
 pub mod OfModel
 pub mod OneSlope

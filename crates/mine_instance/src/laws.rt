@@ -1,14 +1,18 @@
 //! What holds of instances, whatever the plan and the blocks: each contract is a law, and a call of it does nothing.
 
 ghost use Rattle.std.specs.Prelude.{◌≡◌, List, All};
+ghost use Rattle.std.specs.List.{AllZip};
 ghost use Rattle.pit_parts.specs.Plan.{PlanParts};
+ghost use Rattle.pit_parts.specs.PlanFormulas.{formulas_of_plan};
+ghost use Rattle.rows.specs.Valued.{worths_by};
 ghost use Rattle.pit_parts.specs.PlanKept.{IsCone};
 ghost use Rattle.pit_parts.specs.declared.block.Block.{Block};
 ghost use Rattle.precedence.specs.ConeLaws.{IsEven};
 ghost use Rattle.mine_instance.specs.cpit.CpitKept.{IsCpit};
 ghost use Rattle.mine_instance.specs.Instance.{Instance};
 ghost use Rattle.mine_instance.specs.cpit.OfCpit.{cpit};
-ghost use Rattle.mine_instance.specs.OfModel.{instance};
+ghost use Rattle.mine_instance.specs.Hundreds.{IsWorthCents};
+ghost use Rattle.mine_instance.specs.OfModel.{instance, values_of};
 ghost use Rattle.mine_instance.specs.OneSlope.{instance_by};
 ghost use Rattle.mine_instance.specs.Valid.{IsValid};
 
@@ -21,6 +25,13 @@ pub fn even_zones()
 {
     precedence::laws::even_zones();
 }
+
+/// A value of a block times a hundred cents is what the block is worth there: values are millionths of a hundred cents.
+#[tactic(auto, using(crate::proofs::HundredsFacts::values_are_worth))]
+pub fn values_are_hundreds_of_cents()
+    ensures { (plan : PlanParts) (b : Block)
+        → AllZip IsWorthCents (worths_by (formulas_of_plan plan) b) (values_of plan b) }
+{}
 
 /// The CPIT of a valid instance keeps what every CPIT keeps.
 #[tactic(auto, using(crate::proofs::CpitFacts::cpit_is_one))]
