@@ -10,10 +10,10 @@ use lane::{Closer, GivenUp};
 use std::sync::Wait;
 use std::thread::{Promise, PromisedHandle, Threads};
 
-/// Threads that were joined. What they gave back is dropped.
+/// That threads were joined. What they gave back is dropped.
 #[derive(Drop)]
 pub struct Joined {
-    _count: usize,
+    _joined: (),
 }
 
 /// The Quits that were sent behind the readers, and how many valuers were joined behind these.
@@ -32,11 +32,10 @@ pub fn join_each<'s, E, T: Threads, A: Drop, P: Promise<A> + JoinedBehind<B>, B>
     requires running { starter.old.joined + vec_len handles ≤ starter.old.spent }
     ensures counted { starter.new ≡ after_joins (vec_len handles) starter.old }
 {
-    let _count = handles.len();
     for handle in handles {
         drop(starter.join(handle, behind));
     }
-    Joined { _count }
+    Joined { _joined: () }
 }
 
 /// Sends a Quit for each of so many valuers.
