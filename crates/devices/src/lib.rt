@@ -4,5 +4,6 @@
 
 pub mod count;
 pub mod feeds;
+pub mod files;
 mod shown_bytes;
 pub mod sinks;

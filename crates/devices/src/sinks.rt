@@ -8,3 +8,4 @@ pub mod sink;
 pub mod slices;
 pub mod whole_text;
 pub mod write_fault;
+pub mod write_sink;

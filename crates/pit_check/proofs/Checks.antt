@@ -1,12 +1,12 @@
 -- Why a check tells no counts, in other words, and how that ends it.
-use Rattle.std.proofs.Common.{◌≡◌, ◌≢◌, ℕ, List, Option, Result, Some, None, inl, inr, refl, ap, ◌∙◌, sym, subst, Err, Ok, arith}
-use Rattle.devices.specs.declared.feeds.feed.FeedFault.{FeedFault}
+use Rattle.std.proofs.Common.{◌≡◌, ◌⊎◌, ◌++◌, ◌∷◌, ℕ, List, [], Option, Result, Some, None, inl, inr, refl, ap, ◌∙◌, sym, subst, Ok, arith}
+use Rattle.devices.specs.files.Opening.{Opening, Opened, Unopened}
 use Rattle.devices.specs.declared.feeds.slurp.TheConstants.{GREATEST_LIMIT}
 use Rattle.text_lines.specs.Fed.{FailsAsFed}
 use Rattle.text_lines.specs.declared.text_fault.TextFault.{TextFault}
 use Rattle.text_lines.specs.declared.text_fault.TextFile.{TextFile}
-use Rattle.pit_check.specs.Checked.{AreReadBefore, AreTexts, CannotOpen, HasFailed, HasText, HasTextIfThere, IsCheckStatus, IsFoundIn, IsRead, path_of}
-use Rattle.pit_check.specs.inner.CheckSteps.{CountsAll, CountsFile, IsFaultOf, IsFaultOrGone}
+use Rattle.pit_check.specs.Checked.{AreReadBefore, FailsIn, IsCheckStatus, IsFoundIn, IsMissing, path_of}
+use Rattle.pit_check.specs.inner.CheckSteps.{CountsAll, CountsFile}
 use Rattle.pit_check.specs.inner.CountSteps.{counted_on, no_counts}
 use Rattle.pit_check.proofs.CountedAll.{counted_all}
 use Rattle.minelib_reading.specs.FedCounts.{IsFedAnswer}
@@ -15,147 +15,132 @@ use Rattle.devices.specs.declared.feeds.slurp.SlurpFault.TheVariants as slurp
 use Rattle.text_lines.specs.declared.text_fault.TextFile.TheVariants.{Blocks, Prec, Pcpsp, Cpit}
 use Rattle.pit_check.specs.Counts.{Texts}
 use Rattle.pit_check.specs.declared.counts.Counts.{Counts}
+use Rattle.pit_compile.specs.declared.refusal.Refusal.TheVariants.{OutOfMemory}
 use Rattle.pit_edge.specs.FaultLine.{Ends}
-use Rattle.pit_edge.specs.Refused.{run_status, unread}
+use Rattle.pit_edge.specs.Refused.{status_of, unread}
 use Rattle.pit_edge.specs.declared.refused.Refused.{Refused}
-use Rattle.pit_edge.specs.declared.refused.Refused.TheVariants.{NotUtf8, FeedFailed, TooLong, Plan, Text, Run}
+use Rattle.pit_edge.specs.declared.refused.Refused.TheVariants.{Run}
 use Rattle.pit_edge.specs.declared.refused.source.Source.TheVariants as source
 
-module _ {F : Type 0} (opens : List ℕ → Result F FeedFault → Type 0) (left : F → Option (List ℕ)) (base : List ℕ) where
-  -- a file that was not read to its end
-  pub unread_file : (file : TextFile) (feed : F) (given given_now failures failures_now : ℕ) (fault : SlurpFault)
-      → opens (path_of base file) (Ok feed) → FailsAsFed (left feed) GREATEST_LIMIT given given_now failures failures_now fault
-      → IsFaultOf opens left base file (unread (source.Text file) fault)
-  unread_file file feed given given_now failures failures_now slurp.FeedFailed opened fails = (refl, (feed, opened))
-  unread_file file feed given given_now failures failures_now slurp.TooLong opened fails = (refl, (feed, opened, fails.long refl))
-  unread_file file feed given given_now failures failures_now slurp.OutOfMemory opened fails = refl
-
+module _ (base : List ℕ) where
   -- a file that was counted
-  pub counted_file : (file : TextFile) (feed : F) (so_far answer : Result Counts TextFault) → opens (path_of base file) (Ok feed)
-      → IsFedAnswer (counted_on file so_far) (left feed) GREATEST_LIMIT answer → CountsFile opens left base file so_far answer
-  counted_file file feed so_far answer opened fed = (fed.text, (feed, opened, fed.is_text.told, fed.is_text.short), fed.answers)
+  pub counted_file : (file : TextFile) (path : List ℕ) (left : Option (List ℕ)) (old new : List Opening) (so_far answer : Result Counts TextFault)
+      → path ≡ path_of base file → new ≡ old ++ Opened path left ∷ [] → IsFedAnswer (counted_on file so_far) left GREATEST_LIMIT answer
+      → CountsFile base file so_far old new answer
+  counted_file file path left old new so_far answer at opened fed = (
+    fed.text,
+    record {
+      left = left;
+      opened = subst (λ p. new ≡ old ++ Opened p left ∷ []) at opened;
+      told = fed.is_text.told;
+      short = fed.is_text.short;
+    },
+    fed.answers,
+  )
 
   -- the files that were counted one after the other are counted as a whole
-  module _ (blocks prec pcpsp : Result Counts TextFault) where
-    pub counted_three_files : CountsFile opens left base Blocks (Ok no_counts) blocks → CountsFile opens left base Prec blocks prec
-        → CountsFile opens left base Pcpsp prec pcpsp → (fault : FeedFault) → opens (path_of base Cpit) (Err fault)
-        → CountsAll opens left base pcpsp
-    counted_three_files b p m fault gone =
+  module _ (old m1 m2 m3 : List Opening) (blocks prec pcpsp : Result Counts TextFault) where
+    pub counted_three_files : (new : List Opening) → CountsFile base Blocks (Ok no_counts) old m1 blocks → CountsFile base Prec blocks m1 m2 prec
+        → CountsFile base Pcpsp prec m2 m3 pcpsp → new ≡ m3 ++ Unopened (path_of base Cpit) ∷ []
+        → CountsAll base old new pcpsp
+    counted_three_files new b p m gone =
         let texts : Texts = record { blocks = b.0; prec = p.0; pcpsp = m.0; cpit = None } in (
           texts,
-          record { blocks = b.1; prec = p.1; pcpsp = m.1; cpit = (fault, gone) },
+          record { after_blocks = m1; after_prec = m2; after_pcpsp = m3; blocks = b.1; prec = p.1; pcpsp = m.1; cpit = gone },
           sym (counted_all texts) ∙ sym (
               m.2 ∙ ap (λ r. counted_on Pcpsp r m.0) (p.2 ∙ ap (λ r. counted_on Prec r p.0) b.2)
               ),
         )
 
-    pub counted_four_files : (answer : Result Counts TextFault) → CountsFile opens left base Blocks (Ok no_counts) blocks
-        → CountsFile opens left base Prec blocks prec → CountsFile opens left base Pcpsp prec pcpsp
-        → CountsFile opens left base Cpit pcpsp answer → CountsAll opens left base answer
-    counted_four_files answer b p m c =
+    pub counted_four_files : (new : List Opening) (answer : Result Counts TextFault) → CountsFile base Blocks (Ok no_counts) old m1 blocks
+        → CountsFile base Prec blocks m1 m2 prec → CountsFile base Pcpsp prec m2 m3 pcpsp
+        → CountsFile base Cpit pcpsp m3 new answer → CountsAll base old new answer
+    counted_four_files new answer b p m c =
         let texts : Texts = record { blocks = b.0; prec = p.0; pcpsp = m.0; cpit = Some c.0 } in (
           texts,
-          record { blocks = b.1; prec = p.1; pcpsp = m.1; cpit = c.1 },
+          record { after_blocks = m1; after_prec = m2; after_pcpsp = m3; blocks = b.1; prec = p.1; pcpsp = m.1; cpit = c.1 },
           sym (counted_all texts) ∙ sym (
               c.2 ∙ ap (λ r. counted_on Cpit r c.0)
               (m.2 ∙ ap (λ r. counted_on Pcpsp r m.0) (p.2 ∙ ap (λ r. counted_on Prec r p.0) b.2))
               ),
         )
 
-  -- a fault of one file behind those that were read is one of all files
-  pub found_in_file : (file : TextFile) (why : Refused) → AreReadBefore opens left base file → IsFaultOf opens left base file why
-      → IsFoundIn opens left base why
-  unfolding IsFoundIn
-  found_in_file file NotUtf8 read h = h
-  found_in_file file (FeedFailed which) read h = (file, h.0, (read, inl h.1))
-  found_in_file file (TooLong which) read h = (file, h.0, read, h.1)
-  found_in_file file (Plan fault) read h = h
-  found_in_file file (Text fault) read h = absurd h
-  found_in_file file (Run refusal) read h = h
+  module _ {F : Type 0} (given failures : F → ℕ) where
+    -- a file that was not read to its end
+    pub unread_file : (file : TextFile) (path : List ℕ) (left : Option (List ℕ)) (old new : List Opening) (now : F)
+        (given_old failures_old : ℕ) (fault : SlurpFault) (why : Refused) → path ≡ path_of base file
+        → new ≡ old ++ Opened path left ∷ [] → given_old ≡ 0 → failures_old ≡ 0
+        → FailsAsFed left GREATEST_LIMIT given_old (given now) failures_old (failures now) fault → why ≡ unread (source.Text file) fault
+        → FailsIn base given failures file old new why ⊎ (why ≡ Run OutOfMemory)
+    unread_file file path left old new now given_old failures_old fault why at opened none works fails e = inl (
+      left,
+      subst (λ p. new ≡ old ++ Opened p left ∷ []) at opened,
+      (
+        now,
+        (
+          fault,
+          subst (λ f. FailsAsFed left GREATEST_LIMIT 0 (given now) f (failures now) fault) works
+              (subst (λ n. FailsAsFed left GREATEST_LIMIT n (given now) failures_old (failures now) fault) none fails),
+          e,
+        ),
+      ),
+    )
 
-  pub found_or_gone : (file : TextFile) (why : Refused) → file ≢ Cpit → AreReadBefore opens left base file
-      → IsFaultOrGone opens left base file why → IsFoundIn opens left base why
-  unfolding IsFoundIn
-  found_or_gone file why needed read (inl h) = found_in_file file why read h
-  found_or_gone file why needed read (inr h) =
-      subst (IsFoundIn opens left base) (sym h.0) (file, refl, (read, inr (needed, h.1)))
+    module _ (old new : List Opening) where
+      -- a fault of one file behind those that were read is one of all files
+      pub found_in_file : (file : TextFile) (mid : List Opening) (why : Refused) → AreReadBefore base file old mid
+          → FailsIn base given failures file mid new why ⊎ (why ≡ Run OutOfMemory) → IsFoundIn base given failures old new why
+      found_in_file file mid why read (inl h) = inl (file, record { mid = mid; before = read; fails = inl h })
+      found_in_file file mid why read (inr h) = inr (inr h)
 
-  pub found_in_texts : (fault : TextFault) → CountsAll opens left base (Err fault) → IsFoundIn opens left base (Text fault)
-  unfolding IsFoundIn
-  found_in_texts fault all = all
+      pub found_or_gone : (file : TextFile) (mid : List Opening) (why : Refused) → AreReadBefore base file old mid
+          → FailsIn base given failures file mid new why ⊎ (IsMissing base file mid new why ⊎ (why ≡ Run OutOfMemory))
+          → IsFoundIn base given failures old new why
+      found_or_gone file mid why read (inl h) = inl (file, record { mid = mid; before = read; fails = inl h })
+      found_or_gone file mid why read (inr (inl h)) = inl (file, record { mid = mid; before = read; fails = inr h })
+      found_or_gone file mid why read (inr (inr h)) = inr (inr h)
 
-  -- a check ends with the status of its refusal
-  pub status_listed : (why : Refused) (old new : List ℕ) (status : ℕ) → IsFoundIn opens left base why → Ends why old new status → IsCheckStatus status
-  unfolding IsFoundIn
-  status_listed NotUtf8 old new status h ends = absurd h
-  status_listed (FeedFailed which) old new status h (inl told, none) = inr (inr (inl told.0))
-  status_listed (TooLong which) old new status h (inl told, none) = inr (inl told.0)
-  status_listed (Plan fault) old new status h ends = absurd h
-  status_listed (Text fault) old new status h (inl told, none) = inr (inl told.0)
-  status_listed (Run refusal) old new status h (inl told, none) =
-      inr (inr (inr (told.0 ∙ ap run_status h)))
-  status_listed why old new status h (inr told, none) = inr (inr (inr told.0))
+      -- what a refusal of a check ends with
+      unread_listed : (file : TextFile) (fault : SlurpFault) → IsCheckStatus (status_of (unread (source.Text file) fault))
+      unread_listed file slurp.FeedFailed = inr (inr (inl refl))
+      unread_listed file slurp.TooLong = inr (inl refl)
+      unread_listed file slurp.OutOfMemory = inr (inr (inr refl))
 
-  -- where that is refused memory, no line stands
-  pub no_memory : (why : Refused) (old new : List ℕ) (status : ℕ) → IsFoundIn opens left base why → Ends why old new status → status ≡ 4 → new ≡ old
-  unfolding IsFoundIn
-  no_memory NotUtf8 old new status h ends four = absurd h
-  no_memory (FeedFailed which) old new status h (inl told, none) four = absurd (omega (arith, told.0, four))
-  no_memory (TooLong which) old new status h (inl told, none) four = absurd (omega (arith, told.0, four))
-  no_memory (Plan fault) old new status h ends four = absurd h
-  no_memory (Text fault) old new status h (inl told, none) four = absurd (omega (arith, told.0, four))
-  no_memory (Run refusal) old new status h (inl told, none) four = none (ap Run h)
-  no_memory why old new status h (inr told, none) four = told.1
+      fails_listed : (file : TextFile) (mid : List Opening) (why : Refused)
+          → FailsIn base given failures file mid new why ⊎ IsMissing base file mid new why → IsCheckStatus (status_of why)
+      fails_listed file mid why (inl h) = subst (λ w. IsCheckStatus (status_of w)) (sym h.2.1.2) (unread_listed file h.2.1.0)
+      fails_listed file mid why (inr h) = subst (λ w. IsCheckStatus (status_of w)) (sym h.2) (inr (inr (inl refl)))
 
--- what a check says of an opener it says of another that answers no more
-module _ {F : Type 0} (Opens Others : List ℕ → Result F FeedFault → Type 0) (left : F → Option (List ℕ)) (base : List ℕ)
-    (more : (path : List ℕ) (answer : Result F FeedFault) → Opens path answer → Others path answer) where
-  text_as : (file : TextFile) (text : List ℕ) → HasText Opens left base file text → HasText Others left base file text
-  text_as file text h = (h.0, more (path_of base file) (Ok h.0) h.1, h.2, h.3)
+      listed : (why : Refused) → IsFoundIn base given failures old new why → IsCheckStatus (status_of why)
+      listed why (inl h) = fails_listed h.0 h.1.mid why h.1.fails
+      listed why (inr (inl h)) = subst (λ w. IsCheckStatus (status_of w)) (sym h.1) (inr (inl refl))
+      listed why (inr (inr h)) = subst (λ w. IsCheckStatus (status_of w)) (sym h) (inr (inr (inr refl)))
 
-  gone_as : (file : TextFile) → CannotOpen Opens left base file → CannotOpen Others left base file
-  gone_as file h = (h.0, more (path_of base file) (Err h.0) h.1)
+      -- a check ends with the status of its refusal
+      pub status_listed : (why : Refused) (err_old err_new : List ℕ) (status : ℕ) → IsFoundIn base given failures old new why
+          → Ends why err_old err_new status → IsCheckStatus status
+      status_listed why err_old err_new status h (inl told, none) = subst IsCheckStatus (sym told.0) (listed why h)
+      status_listed why err_old err_new status h (inr told, none) = inr (inr (inr told.0))
 
-  cpit_as : (text : Option (List ℕ)) → HasTextIfThere Opens left base Cpit text → HasTextIfThere Others left base Cpit text
-  cpit_as (Some text) h = text_as Cpit text h
-  cpit_as None h = gone_as Cpit h
+      unread_memory : (file : TextFile) (fault : SlurpFault) → status_of (unread (source.Text file) fault) ≡ 4
+          → unread (source.Text file) fault ≡ Run OutOfMemory
+      unread_memory file slurp.FeedFailed four = absurd (omega (arith, four))
+      unread_memory file slurp.TooLong four = absurd (omega (arith, four))
+      unread_memory file slurp.OutOfMemory four = refl
 
-  texts_told : (texts : Texts) → AreTexts Opens left base texts → AreTexts Others left base texts
-  texts_told texts h = record {
-    blocks = text_as Blocks texts.blocks h.blocks;
-    prec = text_as Prec texts.prec h.prec;
-    pcpsp = text_as Pcpsp texts.pcpsp h.pcpsp;
-    cpit = cpit_as texts.cpit h.cpit;
-  }
+      fails_memory : (file : TextFile) (mid : List Opening) (why : Refused)
+          → FailsIn base given failures file mid new why ⊎ IsMissing base file mid new why → status_of why ≡ 4 → why ≡ Run OutOfMemory
+      fails_memory file mid why (inl h) four = h.2.1.2 ∙ unread_memory file h.2.1.0 (ap status_of (sym h.2.1.2) ∙ four)
+      fails_memory file mid why (inr h) four =
+          let three : 3 ≡ 4 = ap status_of (sym h.2) ∙ four in absurd (omega (arith, three))
 
-  read_as : (file : TextFile) → IsRead Opens left base file → IsRead Others left base file
-  read_as file h = (h.0, text_as file h.0 h.1)
+      memory : (why : Refused) → IsFoundIn base given failures old new why → status_of why ≡ 4 → why ≡ Run OutOfMemory
+      memory why (inl h) four = fails_memory h.0 h.1.mid why h.1.fails four
+      memory why (inr (inl h)) four = let one : 1 ≡ 4 = ap status_of (sym h.1) ∙ four in absurd (omega (arith, one))
+      memory why (inr (inr h)) four = h
 
-  before_as : (file : TextFile) → AreReadBefore Opens left base file → AreReadBefore Others left base file
-  before_as Blocks h = h
-  before_as Prec h = read_as Blocks h
-  before_as Pcpsp h = (read_as Blocks h.0, read_as Prec h.1)
-  before_as Cpit h = (read_as Blocks h.0, read_as Prec h.1, read_as Pcpsp h.2)
-
-  failed_as : (file : TextFile) → HasFailed Opens left base file → HasFailed Others left base file
-  failed_as file (before, inl h) = (before_as file before, inl (h.0, more (path_of base file) (Ok h.0) h.1))
-  failed_as file (before, inr h) = (before_as file before, inr (h.0, gone_as file h.1))
-
-  found_told : (why : Refused) → IsFoundIn Opens left base why → IsFoundIn Others left base why
-  unfolding IsFoundIn
-  found_told NotUtf8 h = h
-  found_told (FeedFailed which) h = (h.0, h.1, failed_as h.0 h.2)
-  found_told (TooLong which) h =
-      (h.0, h.1, before_as h.0 h.2, (h.3.0, more (path_of base h.0) (Ok h.3.0) h.3.1, h.3.2))
-  found_told (Plan fault) h = h
-  found_told (Text fault) h = (h.0, texts_told h.0 h.1, h.2)
-  found_told (Run refusal) h = h
-
-module _ {F : Type 0} (Opens Others : List ℕ → Result F FeedFault → Type 0) (left : F → Option (List ℕ)) (base : List ℕ) where
-  pub texts_as : (texts : Texts) → AreTexts Opens left base texts
-      → ((path : List ℕ) (answer : Result F FeedFault) → Opens path answer → Others path answer) → AreTexts Others left base texts
-  texts_as texts h more = texts_told Opens Others left base more texts h
-
-  pub found_as : (why : Refused) → IsFoundIn Opens left base why
-      → ((path : List ℕ) (answer : Result F FeedFault) → Opens path answer → Others path answer) → IsFoundIn Others left base why
-  found_as why h more = found_told Opens Others left base more why h
+      -- where that is refused memory, no line stands
+      pub no_memory : (why : Refused) (err_old err_new : List ℕ) (status : ℕ) → IsFoundIn base given failures old new why
+          → Ends why err_old err_new status → status ≡ 4 → err_new ≡ err_old
+      no_memory why err_old err_new status h (inl told, none) four = none (memory why h (sym told.0 ∙ four))
+      no_memory why err_old err_new status h (inr told, none) four = told.1

@@ -1,83 +1,88 @@
 -- What a check tells of the files of BASE, and why it tells no counts.
-use Rattle.std.specs.Prelude.{◌≡◌, ◌≢◌, ℕ, ◌<◌, ◌≤◌, ◌⊎◌, List, Option, Some, None, Result, Ok, Err, IfSome, length}
-use Rattle.devices.specs.declared.feeds.feed.FeedFault.{FeedFault}
+use Rattle.std.specs.Prelude.{◌≡◌, ◌≢◌, ℕ, ◌≤◌, ◌⊎◌, List, [], ◌∷◌, ◌++◌, Option, Some, None, Err, IfSome, length}
+use Rattle.devices.specs.files.Opening.{Opening, Opened, Unopened}
 use Rattle.devices.specs.declared.feeds.slurp.TheConstants.{GREATEST_LIMIT}
 use Rattle.text_lines.specs.FaultText.{file_ending}
+use Rattle.text_lines.specs.declared.text_fault.TextFault.{TextFault}
 use Rattle.text_lines.specs.declared.text_fault.TextFile.{TextFile}
 use Rattle.text_lines.specs.declared.text_fault.TextFile.TheVariants.{Blocks, Prec, Pcpsp, Cpit}
 use Rattle.pit_check.specs.Counts.{TellsCounts, Texts, counted}
 use Rattle.pit_compile.specs.declared.refusal.Refusal.TheVariants.{OutOfMemory}
-use Rattle.pit_edge.specs.OpenedFile.{OpensFile, file_left, path_to}
+use Rattle.pit_edge.specs.FilePath.{path_to}
+use Rattle.pit_edge.specs.Refused.{IsUnread}
 use Rattle.pit_edge.specs.declared.refused.Refused.{Refused}
-use Rattle.pit_edge.specs.declared.refused.Refused.TheVariants.{NotUtf8, FeedFailed, TooLong, Plan, Text, Run}
+use Rattle.pit_edge.specs.declared.refused.Refused.TheVariants.{FeedFailed, Run}
+use Rattle.pit_edge.specs.declared.refused.Refused.TheVariants as refusal
 use Rattle.pit_edge.specs.declared.refused.source.Source.TheVariants as source
 
 -- the path of this file of the instance
 abbrev pub path_of : List ℕ → TextFile → List ℕ
 path_of base file = path_to base (file_ending file)
 
--- `Opens` says what opening a path may answer, and `left` what a feed has left, where it tells that
-module _ {F : Type 0} (Opens : List ℕ → Result F FeedFault → Type 0) (left : F → Option (List ℕ)) (base : List ℕ) where
-  -- the file was opened
-  abbrev pub IsOpened : TextFile → Type 0
-  IsOpened file = (feed : F) × Opens (path_of base file) (Ok feed)
+module _ (base : List ℕ) where
+  -- of what was opened before and is now: this file was opened, no other, and this is its text
+  pub record HasText (file : TextFile) (text : List ℕ) (old new : List Opening) : Type 0 where
+    pub left : Option (List ℕ)
+    pub opened : new ≡ old ++ Opened (path_of base file) left ∷ []
+    pub told : IfSome left (λ bytes. text ≡ bytes)
+    pub short : length text ≤ GREATEST_LIMIT
 
-  -- the file cannot be opened
-  abbrev pub CannotOpen : TextFile → Type 0
-  CannotOpen file = (fault : FeedFault) × Opens (path_of base file) (Err fault)
+  -- the same, or there is no text and the file could not be opened
+  abbrev pub HasTextIfThere : TextFile → Option (List ℕ) → (old new : List Opening) → Type 0
+  HasTextIfThere file (Some text) old new = HasText file text old new
+  HasTextIfThere file None old new = new ≡ old ++ Unopened (path_of base file) ∷ []
 
-  -- the file was opened, and this is its text
-  abbrev pub HasText : TextFile → List ℕ → Type 0
-  HasText file text =
-      (feed : F) × Opens (path_of base file) (Ok feed) × IfSome (left feed) (λ bytes. text ≡ bytes) × (length text ≤ GREATEST_LIMIT)
+  -- the files were opened one after the other, no other, and these are their texts
+  pub record AreTexts (texts : Texts) (old new : List Opening) : Type 0 where
+    pub after_blocks : List Opening
+    pub after_prec : List Opening
+    pub after_pcpsp : List Opening
+    pub blocks : HasText Blocks texts.blocks old after_blocks
+    pub prec : HasText Prec texts.prec after_blocks after_prec
+    pub pcpsp : HasText Pcpsp texts.pcpsp after_prec after_pcpsp
+    pub cpit : HasTextIfThere Cpit texts.cpit after_pcpsp new
 
-  -- the file was opened, and has too many bytes
-  abbrev pub IsTooLong : TextFile → Type 0
-  IsTooLong file = (feed : F) × Opens (path_of base file) (Ok feed) × IfSome (left feed) (λ bytes. GREATEST_LIMIT < length bytes)
+  -- the file was opened, no other, and read to its end
+  abbrev pub IsRead : TextFile → (old new : List Opening) → Type 0
+  IsRead file old new = (text : List ℕ) × HasText file text old new
 
-  -- the file has this text, or there is none and the file cannot be opened
-  abbrev pub HasTextIfThere : TextFile → Option (List ℕ) → Type 0
-  HasTextIfThere file (Some text) = HasText file text
-  HasTextIfThere file None = CannotOpen file
+  -- the files before this one were, one after the other
+  abbrev pub AreReadBefore : TextFile → (old new : List Opening) → Type 0
+  AreReadBefore Blocks old new = new ≡ old
+  AreReadBefore Prec old new = IsRead Blocks old new
+  AreReadBefore Pcpsp old new = (mid : List Opening) × IsRead Blocks old mid × IsRead Prec mid new
+  AreReadBefore Cpit old new =
+      (first : List Opening) × (second : List Opening) × IsRead Blocks old first × IsRead Prec first second × IsRead Pcpsp second new
 
-  -- these are the texts of the files
-  pub record AreTexts (texts : Texts) : Type 0 where
-    pub blocks : HasText Blocks texts.blocks
-    pub prec : HasText Prec texts.prec
-    pub pcpsp : HasText Pcpsp texts.pcpsp
-    pub cpit : HasTextIfThere Cpit texts.cpit
+  -- the file could not be opened, which is no fault of a `cpit`
+  abbrev pub IsMissing : TextFile → (old new : List Opening) → Refused → Type 0
+  IsMissing file old new refused =
+      (file ≢ Cpit) × (new ≡ old ++ Unopened (path_of base file) ∷ []) × (refused ≡ FeedFailed (source.Text file))
 
-  -- the file was read to its end
-  abbrev pub IsRead : TextFile → Type 0
-  IsRead file = (text : List ℕ) × HasText file text
+  -- `given` and `failures` are how many bytes a feed gave and how many pulls it refused
+  module _ {F : Type 0} (given failures : F → ℕ) where
+    -- the file was opened, no other, and was not read: it failed, or is too long; or memory was refused
+    abbrev pub FailsIn : TextFile → (old new : List Opening) → Refused → Type 0
+    FailsIn file old new refused =
+        (left : Option (List ℕ)) × (new ≡ old ++ Opened (path_of base file) left ∷ [])
+        × ((now : F) × IsUnread (source.Text file) left GREATEST_LIMIT 0 (given now) 0 (failures now) refused)
 
-  -- the files before this one were
-  abbrev pub AreReadBefore : TextFile → Type 0
-  AreReadBefore Blocks = Unit {0}
-  AreReadBefore Prec = IsRead Blocks
-  AreReadBefore Pcpsp = IsRead Blocks × IsRead Prec
-  AreReadBefore Cpit = IsRead Blocks × IsRead Prec × IsRead Pcpsp
+    -- the first file that cannot be opened or read, or is too long
+    pub record IsUnreadAt (file : TextFile) (old new : List Opening) (refused : Refused) : Type 0 where
+      pub mid : List Opening
+      pub before : AreReadBefore file old mid
+      pub fails : FailsIn file mid new refused ⊎ IsMissing file mid new refused
 
-  -- reading the file failed behind those before, or it cannot be opened, which is no fault of a `cpit`
-  abbrev pub HasFailed : TextFile → Type 0
-  HasFailed file = AreReadBefore file × (IsOpened file ⊎ ((file ≢ Cpit) × CannotOpen file))
+    -- why the files are not counted: a file is not read; or this is the first faulty line of the texts; or memory was refused
+    abbrev pub IsFoundIn : (old new : List Opening) → Refused → Type 0
+    IsFoundIn old new refused =
+        ((file : TextFile) × IsUnreadAt file old new refused)
+        ⊎ (((fault : TextFault) × (refused ≡ refusal.Text fault) × ((texts : Texts) × AreTexts texts old new × (counted texts ≡ Err fault)))
+        ⊎ (refused ≡ Run OutOfMemory))
 
-  -- the first file that cannot be read, or is too long; or the first faulty line of the texts; or memory was refused
-  unfoldable pub IsFoundIn : Refused → Type 0
-  IsFoundIn NotUtf8 = ⊥
-  IsFoundIn (FeedFailed which) = (file : TextFile) × (which ≡ source.Text file) × HasFailed file
-  IsFoundIn (TooLong which) = (file : TextFile) × (which ≡ source.Text file) × AreReadBefore file × IsTooLong file
-  IsFoundIn (Plan fault) = ⊥
-  IsFoundIn (Text fault) = (texts : Texts) × AreTexts texts × (counted texts ≡ Err fault)
-  IsFoundIn (Run why) = why ≡ OutOfMemory
-
--- the line of the counts of the texts of the files of BASE was appended
-unfoldable pub TellsFiles : List ℕ → List ℕ → List ℕ → Type 0
-TellsFiles base old new = (texts : Texts) × AreTexts OpensFile file_left base texts × TellsCounts texts old new
-
--- why it was not: a fault of these files, or of their texts; or memory was refused
-unfoldable pub IsUncounted : List ℕ → Refused → Type 0
-IsUncounted base refused = IsFoundIn OpensFile file_left base refused
+  -- the files were opened one after the other, no other, and the line of the counts of their texts was appended
+  abbrev pub TellsFiles : (old new : List Opening) → (out_old out_new : List ℕ) → Type 0
+  TellsFiles old new out_old out_new = (texts : Texts) × AreTexts texts old new × TellsCounts texts out_old out_new
 
 -- a check ends with 0 where its counts were told; else with 1, 3 or 4
 abbrev pub IsCheckStatus : ℕ → Type 0

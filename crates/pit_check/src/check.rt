@@ -1,18 +1,19 @@
 //! The check of the files of an instance.
 
-ghost use Rattle.std.specs.Fn.{FnReturnsAt};
-ghost use Rattle.std.specs.Prelude.{◌≡◌, ◌≢◌, ◌≤◌, IfErr, IfOk, IfSome, OnErr, OnOk};
-ghost use Rattle.pit_check.specs.Checked.{AreTexts, IsCheckStatus, IsFoundIn, IsUncounted, TellsFiles};
-ghost use Rattle.pit_check.specs.inner.CheckSteps.{CountsAll, CountsFile, CountsIfThere, IsFaultOf, IsFaultOrGone};
-ghost use Rattle.pit_check.specs.Counts.{TellsCounts, Texts as SomeTexts};
+ghost use Rattle.std.specs.Prelude.{◌≡◌, ◌≢◌, ◌≤◌, ◌⊎◌, IfErr, IfOk, IfSome, OnErr, OnOk};
+ghost use Rattle.pit_check.specs.Checked.{FailsIn, IsCheckStatus, IsFoundIn, IsMissing, TellsFiles};
+ghost use Rattle.pit_check.specs.inner.CheckSteps.{CountsAll, CountsFile, CountsIfThere};
+ghost use Rattle.pit_compile.specs.declared.refusal.Refusal.TheVariants.{OutOfMemory};
 ghost use Rattle.pit_parts.specs.declared.ranges.TheConstants.{MAX_BLOCKS};
-ghost use Rattle.pit_edge.specs.FaultLine.{EndsBy};
-ghost use Rattle.pit_edge.specs.OpenedFile.{OpensFile};
+ghost use Rattle.pit_edge.specs.FaultLine.{Ends, EndsBy};
+ghost use Rattle.pit_edge.specs.declared.refused.Refused.{Refused as ARefused};
+ghost use Rattle.pit_edge.specs.declared.refused.Refused.TheVariants.{Run};
 
 use crate::counting::count_on;
 use crate::counts::Counts;
-use devices::feeds::feed::{Feed, FeedFault};
-use devices::feeds::file_feed::FileFeed;
+use devices::files::file_opener::FileOpener;
+use devices::files::opener::Opener;
+use devices::files::system_files::SystemFiles;
 use pit_edge::refused::Refused;
 use pit_edge::refused::fault_line::tell;
 use pit_edge::refused::source::Source;
@@ -22,12 +23,35 @@ use text_lines::text_fault::{TextFault, TextFile};
 
 /// Reads the files of an instance, `BASE.blocks`, `BASE.prec` and `BASE.pcpsp`, then `BASE.cpit` if it can be opened, and
 /// counts each text while its file is read. Appends the line of their counts to `out`, or the line of the first fault to `err`; only one
-/// of the two grows. Returns the status that the program ends with:
+/// of the two grows. Opens no other file. Returns the status that the program ends with:
 ///
 /// - 0: the counts were appended;
 /// - 1: a text is too long, or has a faulty line;
 /// - 3: a file cannot be opened or read;
 /// - 4: memory was refused, and both vectors are as they were.
+pub fn check<O: Opener>(
+    alloc: Global,
+    files: &mut O,
+    base: &str,
+    out: &mut Vec<u8>,
+    err: &mut Vec<u8>,
+) -> u8
+    ensures done { result ≡ 0 → TellsFiles base.now (O.opened files.old) (O.opened files.new)
+        out.old.items out.new.items }
+    ensures quiet { result ≡ 0 → err.new.items ≡ err.old.items }
+    ensures refused { result ≢ 0 → out.new.items ≡ out.old.items }
+    ensures status { IsCheckStatus result }
+    ensures told { result ≢ 0 → EndsBy (IsFoundIn base.now O.Opened.given O.Opened.failures
+        (O.opened files.old) (O.opened files.new)) err.old.items err.new.items result }
+    ensures memory { result ≡ 4 → err.new.items ≡ err.old.items }
+{
+    match tell_counts(alloc, base, files, out) {
+        Ok(()) => 0,
+        Err(refused) => tell(alloc, &refused, err),
+    }
+}
+
+/// The same of the files of the system, of which no contract can say what they hold.
 pub fn check_files<R: Files>(
     rt: &R,
     alloc: Global,
@@ -35,43 +59,32 @@ pub fn check_files<R: Files>(
     out: &mut Vec<u8>,
     err: &mut Vec<u8>,
 ) -> u8
-    ensures done { result ≡ 0 → TellsFiles base.now out.old.items out.new.items }
+where
+    R::File: Send,
     ensures quiet { result ≡ 0 → err.new.items ≡ err.old.items }
     ensures refused { result ≢ 0 → out.new.items ≡ out.old.items }
     ensures status { IsCheckStatus result }
-    ensures told { result ≢ 0 → EndsBy (IsUncounted base.now) err.old.items err.new.items result }
+    ensures told { result ≢ 0 → (refused : ARefused) × Ends refused err.old.items err.new.items result }
     ensures memory { result ≡ 4 → err.new.items ≡ err.old.items }
 {
-    match check(
-        alloc,
-        base,
-        &|path: &str| -> Result<FileFeed<R::File>, FeedFault>
-            ensures { OpensFile path.now result }
-        { FileFeed::open(rt, path) },
-        out,
-    ) {
-        Ok(()) => 0,
-        Err(refused) => tell(alloc, &refused, err),
-    }
+    let files = SystemFiles::new(rt);
+    check(alloc, &mut FileOpener::new(&files), base, out, err)
 }
 
-// Appends the line of the counts of the files, which `opener` opens by their paths. Where it is refused `out` is as it was.
-#[tactic(auto, using(crate::proofs::Checks::found_in_texts), unfolding(crate::specs::Checked::IsFoundIn))]
-fn check<F: Feed + Drop, O: Fn(&str) -> Result<F, FeedFault>>(
+// Appends the line of the counts of the files. Where it is refused `out` is as it was.
+fn tell_counts<O: Opener>(
     alloc: Global,
     base: &str,
-    opener: &O,
+    files: &mut O,
     out: &mut Vec<u8>,
 ) -> Result<(), Refused>
-    requires { O.IsAlwaysCallable opener.now }
-    ensures counts { let opens = FnReturnsAt O.Fn opener.now in
-        OnOk result ((texts : SomeTexts) × AreTexts opens F.left base.now texts
-        × TellsCounts texts out.old.items out.new.items) }
+    ensures counts { OnOk result (TellsFiles base.now (O.opened files.old) (O.opened files.new)
+        out.old.items out.new.items) }
     ensures kept { OnErr result (out.new.items ≡ out.old.items) }
-    ensures fault { let opens = FnReturnsAt O.Fn opener.now in
-        IfErr result (IsFoundIn opens F.left base.now) }
+    ensures fault { IfErr result (IsFoundIn base.now O.Opened.given O.Opened.failures
+        (O.opened files.old) (O.opened files.new)) }
 {
-    let counts = match count_all(alloc, base, opener)? {
+    let counts = match count_all(alloc, base, files)? {
         Ok(counts) => counts,
         Err(fault) => return Err(Refused::Text(fault)),
     };
@@ -81,43 +94,43 @@ fn check<F: Feed + Drop, O: Fn(&str) -> Result<F, FeedFault>>(
 }
 
 // What the texts of the files are counted as, or the first faulty line of them. Each file is read to its end in either case.
-fn count_all<F: Feed + Drop, O: Fn(&str) -> Result<F, FeedFault>>(
+fn count_all<O: Opener>(
     alloc: Global,
     base: &str,
-    opener: &O,
+    files: &mut O,
 ) -> Result<Result<Counts, TextFault>, Refused>
-    requires { O.IsAlwaysCallable opener.now }
-    ensures counts { let opens = FnReturnsAt O.Fn opener.now in
-        IfOk result (CountsAll opens F.left base.now) }
-    ensures fault { let opens = FnReturnsAt O.Fn opener.now in
-        IfErr result (IsFoundIn opens F.left base.now) }
+    ensures counts { IfOk result (CountsAll base.now (O.opened files.old) (O.opened files.new)) }
+    ensures fault { IfErr result (IsFoundIn base.now O.Opened.given O.Opened.failures
+        (O.opened files.old) (O.opened files.new)) }
 {
-    let blocks = count_file(alloc, base, TextFile::Blocks, opener, Ok(Counts::new()))?;
-    let prec = count_file(alloc, base, TextFile::Prec, opener, blocks)?;
-    let pcpsp = count_file(alloc, base, TextFile::Pcpsp, opener, prec)?;
-    match count_if_there(alloc, base, TextFile::Cpit, opener, pcpsp)? {
+    let blocks = count_file(alloc, base, TextFile::Blocks, files, Ok(Counts::new()))?;
+    let prec = count_file(alloc, base, TextFile::Prec, files, blocks)?;
+    let pcpsp = count_file(alloc, base, TextFile::Pcpsp, files, prec)?;
+    match count_if_there(alloc, base, TextFile::Cpit, files, pcpsp)? {
         Some(cpit) => Ok(cpit),
         None => Ok(pcpsp),
     }
 }
 
-// What a file is counted as, behind the files before.
-fn count_file<F: Feed + Drop, O: Fn(&str) -> Result<F, FeedFault>>(
+// What a file is counted as, behind the files before. It is none that may be missing.
+fn count_file<O: Opener>(
     alloc: Global,
     base: &str,
     file: TextFile,
-    opener: &O,
+    files: &mut O,
     so_far: Result<Counts, TextFault>,
 ) -> Result<Result<Counts, TextFault>, Refused>
-    requires opener { O.IsAlwaysCallable opener.now }
+    requires needed { file ≢ TextFile.Cpit }
     requires few { IfOk so_far (λ counts. counts.blocks ≤ MAX_BLOCKS) }
-    ensures counts { let opens = FnReturnsAt O.Fn opener.now in
-        IfOk result (CountsFile opens F.left base.now file so_far) }
+    ensures counts { IfOk result
+        (CountsFile base.now file so_far (O.opened files.old) (O.opened files.new)) }
     ensures few { IfOk result (λ answer. IfOk answer (λ counts. counts.blocks ≤ MAX_BLOCKS)) }
-    ensures fault { let opens = FnReturnsAt O.Fn opener.now in
-        IfErr result (IsFaultOrGone opens F.left base.now file) }
+    ensures fault { IfErr result (λ refused. FailsIn base.now O.Opened.given O.Opened.failures file
+        (O.opened files.old) (O.opened files.new) refused
+        ⊎ (IsMissing base.now file (O.opened files.old) (O.opened files.new) refused
+        ⊎ (refused ≡ Run OutOfMemory))) }
 {
-    match count_if_there(alloc, base, file, opener, so_far)? {
+    match count_if_there(alloc, base, file, files, so_far)? {
         Some(answer) => Ok(answer),
         None => Err(Refused::FeedFailed(Source::Text(file))),
     }
@@ -125,24 +138,23 @@ fn count_file<F: Feed + Drop, O: Fn(&str) -> Result<F, FeedFault>>(
 
 // The same, or `None` where the file cannot be opened.
 #[tactic(auto, using(crate::proofs::Checks::unread_file, crate::proofs::Checks::counted_file))]
-fn count_if_there<F: Feed + Drop, O: Fn(&str) -> Result<F, FeedFault>>(
+fn count_if_there<O: Opener>(
     alloc: Global,
     base: &str,
     file: TextFile,
-    opener: &O,
+    files: &mut O,
     so_far: Result<Counts, TextFault>,
 ) -> Result<Option<Result<Counts, TextFault>>, Refused>
-    requires opener { O.IsAlwaysCallable opener.now }
     requires few { IfOk so_far (λ counts. counts.blocks ≤ MAX_BLOCKS) }
-    ensures counts { let opens = FnReturnsAt O.Fn opener.now in
-        IfOk result (CountsIfThere opens F.left base.now file so_far) }
+    ensures counts { IfOk result
+        (CountsIfThere base.now file so_far (O.opened files.old) (O.opened files.new)) }
     ensures few { IfOk result (λ found. IfSome found (λ answer. IfOk answer
         (λ counts. counts.blocks ≤ MAX_BLOCKS))) }
-    ensures fault { let opens = FnReturnsAt O.Fn opener.now in
-        IfErr result (IsFaultOf opens F.left base.now file) }
+    ensures fault { IfErr result (λ refused. FailsIn base.now O.Opened.given O.Opened.failures file
+        (O.opened files.old) (O.opened files.new) refused ⊎ (refused ≡ Run OutOfMemory)) }
 {
     let path = format!(in alloc; "{base}.{file}")?;
-    match opener(path.as_str()) {
+    match files.open(path.as_str()) {
         Ok(mut feed) => match count_on(alloc, file, so_far, &mut feed) {
             Ok(answer) => Ok(Some(answer)),
             Err(fault) => Err(Refused::unread(Source::Text(file), fault)),

@@ -30,7 +30,7 @@ GivesNoModel input refused =
     IsNoPlan (plan_piece input) refused ⊎ ((plan : Plan) × (planned (plan_piece input) ≡ Ok plan) × HasTooManyFiles input plan refused)
 
 -- an input was not read; or its bytes, at most 256 MiB and those that it had left where it tells them, give no model
-abbrev pub IsNoModel : Option (List ℕ) → Refused → Type 0
-IsNoModel left refused =
-    IsUnread Input left MAX_FILE_BYTES refused
+abbrev pub IsNoModel : Option (List ℕ) → (given given_now failures failures_now : ℕ) → Refused → Type 0
+IsNoModel left given given_now failures failures_now refused =
+    IsUnread Input left MAX_FILE_BYTES given given_now failures failures_now refused
     ⊎ ((input : List ℕ) × IfSome left (λ bytes. input ≡ bytes) × (length input ≤ MAX_FILE_BYTES) × GivesNoModel input refused)

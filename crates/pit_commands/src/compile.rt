@@ -1,18 +1,21 @@
-//! From the files of a plan and its zones to the files of an instance.
+//! From the files of a plan and its zones to the texts of an instance.
 
-ghost use Rattle.std.specs.Fn.{FnReturnsAt};
-ghost use Rattle.std.specs.Prelude.{◌≡◌, ◌≢◌, ◌++◌, map, string_bytes, IfOk, IfErr, OnOk, OnErr};
-ghost use Rattle.pit_edge.specs.FaultLine.{EndsBy};
-ghost use Rattle.pit_edge.specs.OpenedFile.{OpensFile};
+ghost use Rattle.std.specs.Prelude.{◌≡◌, ◌≢◌, ◌++◌, ℕ, map, string_bytes, IfOk, IfErr, OnOk, OnErr};
+ghost use Rattle.pit_compile.specs.Sinks.{all_told};
+ghost use Rattle.pit_edge.specs.FaultLine.{Ends};
+ghost use Rattle.pit_edge.specs.declared.refused.Refused.{Refused as ARefused};
 ghost use Rattle.pit_parts.specs.Destinations.{formulas_of};
-ghost use Rattle.pit_commands.specs.Compile.{IsNoCompile, IsNoFiles, IsRefusedInto, IsRunInto, TellsFiles, TellsRows, rows_line};
+ghost use Rattle.run_threads.specs.Starts.{none_spent};
+ghost use Rattle.pit_commands.specs.Compile.{IsNoCompile, TellsRows, rows_line};
 
 use crate::instance_files::sinks_of;
-use devices::feeds::feed::{Feed, FeedFault};
-use devices::feeds::file_feed::FileFeed;
-use pit_compile::refusal::Refusal;
-use pit_compile::run;
+use devices::files::file_opener::FileOpener;
+use devices::files::opener::Opener;
+use devices::files::system_files::SystemFiles;
+use devices::sinks::sink::Sink;
 use pit_compile::settings::Settings;
+use pit_compile::sinks::Sinks;
+use pit_compile::{MOST_STARTS, Starts, run_with_starts};
 use pit_edge::refused::Refused;
 use pit_edge::refused::fault_line::tell;
 use pit_edge::zone_feeds::open_all;
@@ -24,16 +27,68 @@ use std::sync::Wait;
 use std::thread::Threads;
 use valuers::OpenGate;
 
-/// Compiles the zone files, which are opened in order, and writes the texts of the instance to their files:
-/// `BASE.blocks` and so on, each in place of what is there. Returns the status that the program ends with.
-///
-/// Where all is written it appends the line `rows N` to `out`, N being the number of rows over all zone files; else the
-/// line of the refusal to `err`. Only one of the two grows. For want of memory the status is that of memory, and both
-/// are as they were.
+/// Compiles the zone files at these paths, which are opened in order, into the sinks, as `run` does with a gate that is always open.
+/// Appends the line `rows N` to `out`, N being the number of rows over all zone files. No other file is opened.
 ///
 /// - The first zone file that cannot be opened is refused before anything else.
-/// - No file is begun before all blocks are known to be different.
-/// - Where a file then fails, those before it are whole.
+/// - No sink is begun before all blocks are known to be different.
+/// - Where a sink then fails, those before it are whole.
+///
+/// # Errors
+///
+/// `out` is as it was.
+///
+/// - `FeedFailed` of a zone file: it cannot be opened, and the sinks are as they were.
+/// - `Run`: the run is refused; or memory was refused, which may be for the line alone, the texts being written.
+///
+/// The starts, which none was spent of, tell what became of them: `NoThread` is told only where one was refused.
+#[tactic(auto, using(crate::proofs::Compiles::unopened_files, crate::proofs::Compiles::refused_line))]
+pub fn compile_into<R: Threads + Wait + Sync, O: Opener, S: Sink>(
+    rt: &R,
+    alloc: Global,
+    files: &mut O,
+    sinks: &mut Sinks<S>,
+    plan: &Plan,
+    destinations: &[Destination],
+    settings: Settings,
+    starts: &mut Starts,
+    zones: &[String],
+    out: &mut Vec<u8>,
+) -> Result<(), Refused>
+    requires unspent { starts.old ≡ none_spent starts.old.allowed }
+    ensures done { let told = all_told S.state in
+        OnOk result (TellsRows plan.now (map string_bytes zones.now) (O.opened files.old)
+        (O.opened files.new) starts.old starts.new (told sinks.old) (told sinks.new)
+        settings.valuers out.old.items out.new.items) }
+    ensures kept { OnErr result (out.new.items ≡ out.old.items) }
+    ensures refused { let told = all_told S.state in
+        IfErr result (IsNoCompile plan.now (map string_bytes zones.now) (O.opened files.old)
+        (O.opened files.new) starts.old starts.new (told sinks.old) (told sinks.new)
+        (formulas_of destinations.now) settings) }
+{
+    let feeds = open_all(alloc, zones, files)?;
+    let gathered = run_with_starts(
+        rt,
+        alloc,
+        feeds,
+        plan,
+        destinations,
+        settings,
+        starts,
+        &OpenGate,
+        sinks,
+    )?;
+    append_rows(alloc, gathered.rows(), out)?;
+    Ok(())
+}
+
+/// Compiles the zone files at these paths of the system, and writes the texts of the instance to their files: `BASE.blocks` and so on,
+/// each in place of what is there. Returns the status that the program ends with.
+///
+/// Where all is written it appends the line `rows N` to `out`; else the line of the refusal to `err`. Only one of the two grows. For
+/// want of memory the status is that of memory, and both are as they were.
+///
+/// It is `compile_into` over the files of the system, of which no contract can say what they hold.
 pub fn compile_files<R: Files + Threads + Wait + Sync>(
     rt: &R,
     alloc: Global,
@@ -47,93 +102,31 @@ pub fn compile_files<R: Files + Threads + Wait + Sync>(
 ) -> u8
 where
     R::File: Send,
-    ensures done { result ≡ 0 → TellsFiles base.now plan.now zones.now settings.valuers
-        out.old.items out.new.items }
+    ensures done { result ≡ 0 → (rows : ℕ) × (out.new.items ≡ out.old.items ++ rows_line rows) }
     ensures quiet { result ≡ 0 → err.new.items ≡ err.old.items }
     ensures kept { result ≢ 0 → out.new.items ≡ out.old.items }
-    ensures refused { result ≢ 0
-        → EndsBy (IsNoFiles base.now plan.now zones.now (formulas_of destinations.now) settings)
-        err.old.items err.new.items result }
+    ensures told { result ≢ 0 → (refused : ARefused) × Ends refused err.old.items err.new.items result }
 {
-    match compile_from(
+    let files = SystemFiles::new(rt);
+    let mut sinks = match sinks_of(&files, alloc, base) {
+        Ok(sinks) => sinks,
+        Err(refusal) => return tell(alloc, &Refused::from(refusal), err),
+    };
+    match compile_into(
         rt,
         alloc,
-        |path: &str| -> Result<FileFeed<R::File>, FeedFault>
-            ensures { OpensFile path.now result }
-        { FileFeed::open(rt, path) },
+        &mut FileOpener::new(&files),
+        &mut sinks,
         plan,
         destinations,
         settings,
-        base,
+        &mut Starts::new(MOST_STARTS),
         zones,
         out,
     ) {
         Ok(()) => 0,
         Err(refused) => tell(alloc, &refused, err),
     }
-}
-
-// Compiles the zone files, which `opener` opens by their paths, and appends the line of the rows to `out`. Where it is refused `out` is
-// as it was.
-#[tactic(auto, using(crate::proofs::Compiles::unopened_files, crate::proofs::Compiles::refused_run, crate::proofs::Compiles::refused_memory))]
-fn compile_from<
-    R: Files + Threads + Wait + Sync,
-    F: Feed + Send + Drop,
-    O: Fn(&str) -> Result<F, FeedFault>,
->(
-    rt: &R,
-    alloc: Global,
-    opener: O,
-    plan: &Plan,
-    destinations: &[Destination],
-    settings: Settings,
-    base: &str,
-    zones: &[String],
-    out: &mut Vec<u8>,
-) -> Result<(), Refused>
-    requires { O.IsAlwaysCallable opener }
-    ensures done { OnOk result (TellsRows (λ path. FnReturnsAt O.Fn opener (string_bytes path))
-        F.left base.now plan.now zones.now settings.valuers out.old.items out.new.items) }
-    ensures kept { OnErr result (out.new.items ≡ out.old.items) }
-    ensures refused { IfErr result
-        (IsNoCompile (λ path. FnReturnsAt O.Fn opener (string_bytes path)) F.left base.now plan.now
-        F.is_sure zones.now (formulas_of destinations.now) settings) }
-{
-    let feeds = open_all(alloc, zones, opener)?;
-    let rows = run_into_files(rt, alloc, feeds, plan, destinations, settings, base)?;
-    append_rows(alloc, rows, out)?;
-    Ok(())
-}
-
-// Runs on open feeds, as `run` does with a gate that is always open, writes the texts to the files of the instance, and answers the
-// number of rows over all zone files.
-#[tactic(auto, using(crate::proofs::Compiles::no_memory))]
-fn run_into_files<R: Files + Threads + Wait + Sync, F: Feed + Send + Drop>(
-    rt: &R,
-    alloc: Global,
-    feeds: Vec<F>,
-    plan: &Plan,
-    destinations: &[Destination],
-    settings: Settings,
-    base: &str,
-) -> Result<u64, Refusal>
-    ensures done { IfOk result
-        (IsRunInto base.now plan.now settings.valuers (map F.left feeds.items)) }
-    ensures refused { IfErr result (IsRefusedInto base.now plan.now (formulas_of destinations.now)
-        settings (map F.left feeds.items) (map F.is_sure feeds.items)) }
-{
-    let mut sinks = sinks_of(rt, alloc, base)?;
-    let gathered = run(
-        rt,
-        alloc,
-        feeds,
-        plan,
-        destinations,
-        settings,
-        &OpenGate,
-        &mut sinks,
-    )?;
-    Ok(gathered.rows())
 }
 
 // Appends the line of so many rows to `out`. Where memory is refused `out` is as it was.

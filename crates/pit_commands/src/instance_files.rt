@@ -5,30 +5,30 @@ ghost use Rattle.minelib_writing.specs.Texts.{ending_of};
 ghost use Rattle.minelib_writing.specs.declared.text_name.TextName.{TextName as AName};
 ghost use Rattle.pit_compile.specs.Sinks.{sink_of};
 ghost use Rattle.devices.specs.sinks.FileSinkView.{unbegun};
-ghost use Rattle.pit_edge.specs.OpenedFile.{path_to};
+ghost use Rattle.pit_edge.specs.FilePath.{path_to};
 
+use devices::files::file_access::FileAccess;
 use devices::sinks::file_sink::FileSink;
 use minelib_writing::text_name::TextName;
 use pit_compile::sinks::Sinks;
 use std::alloc::{AllocError, Global};
-use std::rt::Files;
 
-/// Sinks for the files of the instance. None is begun. Fails only where memory for the paths is refused.
-pub(crate) fn sinks_of<'a, R: Files>(
-    rt: &'a R,
+/// Sinks for the files of the instance: `BASE.blocks` and so on. None is begun. Fails only where memory for the paths is refused.
+pub fn sinks_of<'a, A: FileAccess>(
+    files: &'a A,
     alloc: Global,
     base: &str,
-) -> Result<Sinks<FileSink<'a, R>>, AllocError>
+) -> Result<Sinks<FileSink<'a, A>>, AllocError>
     ensures { IfOk result (λ sinks. (name : AName)
-        → sink_of sinks name ≡ unbegun (path_to base.now (ending_of name))) }
+        → sink_of sinks name ≡ unbegun A.tells (path_to base.now (ending_of name))) }
 {
     let paths = paths_of(alloc, base)?;
     Ok(Sinks {
-        blocks: FileSink::from_path(rt, paths.blocks),
-        prec: FileSink::from_path(rt, paths.prec),
-        upit: FileSink::from_path(rt, paths.upit),
-        pcpsp: FileSink::from_path(rt, paths.pcpsp),
-        cpit: FileSink::from_path(rt, paths.cpit),
+        blocks: FileSink::from_path(files, paths.blocks),
+        prec: FileSink::from_path(files, paths.prec),
+        upit: FileSink::from_path(files, paths.upit),
+        pcpsp: FileSink::from_path(files, paths.pcpsp),
+        cpit: FileSink::from_path(files, paths.cpit),
     })
 }
 

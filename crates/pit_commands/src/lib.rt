@@ -3,7 +3,7 @@
 #![tactic(auto)]
 
 pub mod compile;
-mod instance_files;
+pub mod instance_files;
 pub mod model;
 pub mod pipe_form;
 pub mod refusal_line;

@@ -1,18 +1,20 @@
-//! The model that standard input gives.
+//! The model that an input gives.
 
-ghost use Rattle.std.specs.Prelude.{◌≡◌, ℕ, List, None, IfOk, IfErr, IfSome};
+ghost use Rattle.std.specs.Prelude.{◌≡◌, ℕ, List, IfOk, IfErr, IfSome};
 ghost use Rattle.pit_commands.specs.Model.{HasTooManyFiles, IsModel, IsNoModel};
 ghost use Rattle.pit_edge.specs.Pieces.{plan_piece, zone_pieces};
 
+use devices::feeds::feed::Feed;
 use pit_compile::refusal::Refusal;
 use pit_compile::settings::SettingsFault;
-use pit_edge::input::read_whole;
+use pit_edge::input::read_source;
 use pit_edge::pieces::{Pieces, cut_at_most, plan_piece};
 use pit_edge::plan_text::stated_plan;
 use pit_edge::refused::Refused;
+use pit_edge::refused::source::Source;
 use pit_model::plan::Plan;
+use pit_model::ranges::MAX_FILE_BYTES;
 use std::alloc::Global;
-use std::io::{Input, Read};
 
 /// A plan and the zone files that came with it.
 #[derive(Drop)]
@@ -21,17 +23,7 @@ pub struct Model {
     pub pieces: Pieces,
 }
 
-/// Reads the model from standard input, as `read_model_from` does.
-#[tactic(auto, using(crate::proofs::Models::untold))]
-pub fn read_model<R: Input>(rt: &R, alloc: Global) -> Result<Model, Refused>
-    ensures model { IfOk result (λ model. (input : List ℕ)
-        × IsModel input model.pieces model.plan) }
-    ensures refused { IfErr result (IsNoModel None) }
-{
-    read_model_from(&mut rt.reader(), alloc)
-}
-
-/// Reads all bytes of an input, and returns the model in them.
+/// Reads all bytes of a feed, such as that of standard input, and returns the model in them.
 ///
 /// # Errors
 ///
@@ -39,13 +31,14 @@ pub fn read_model<R: Input>(rt: &R, alloc: Global) -> Result<Model, Refused>
 /// - `TooLong`, `Plan`: its first piece gives no plan.
 /// - `Run`: it has more zone files than its plan has zones, as a run would say, so that no list of them is held; or memory was refused.
 #[tactic(auto, using(crate::proofs::Models::unread, crate::proofs::Models::planless, crate::proofs::Models::uncut))]
-pub fn read_model_from<T: Read>(reader: &mut T, alloc: Global) -> Result<Model, Refused>
+pub fn read_model<F: Feed>(alloc: Global, feed: &mut F) -> Result<Model, Refused>
     ensures model { IfOk result (λ model. (input : List ℕ)
-        × IfSome (T.remaining reader.old) (λ left. input ≡ left)
+        × IfSome (F.left feed.old) (λ left. input ≡ left)
         × IsModel input model.pieces model.plan) }
-    ensures refused { IfErr result (IsNoModel (T.remaining reader.old)) }
+    ensures refused { IfErr result (IsNoModel (F.left feed.old) (F.given feed.old)
+        (F.given feed.new) (F.failures feed.old) (F.failures feed.new)) }
 {
-    let input = read_whole(reader, alloc)?;
+    let input = read_source(alloc, feed, Source::Input, MAX_FILE_BYTES as u64)?;
     let plan = stated_plan(alloc, plan_piece(input.as_slice()))?;
     let pieces = pieces_for(alloc, input.as_slice(), &plan)?;
     Ok(Model { plan, pieces })

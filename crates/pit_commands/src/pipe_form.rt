@@ -1,19 +1,20 @@
 //! The pipe form: from the pieces of the input to the printed instance.
 
-ghost use Rattle.std.specs.Prelude.{◌≡◌, ◌↔◌, Err, Some, true, length, map, IfErr, IfOk, OnErr, OnOk};
+ghost use Rattle.std.specs.Prelude.{◌≡◌, ◌+◌, ◌↔◌, Err, Some, true, length, map, IfErr, IfOk, OnErr, OnOk};
 ghost use Rattle.pit_compile.specs.ZoneFiles.{HasPassed};
 ghost use Rattle.pit_compile.specs.Settings.{IsSettingsFault};
 ghost use Rattle.pit_compile.specs.declared.settings.SettingsFault.{SettingsFault as ASettingsFault};
 ghost use Rattle.pit_parts.specs.Destinations.{formulas_of};
-ghost use Rattle.pit_parts.specs.declared.ranges.TheConstants.{USUAL_VALUERS};
+ghost use Rattle.pit_compile.specs.Starts.{AreStartsOf};
+ghost use Rattle.run_threads.specs.Starts.{none_spent, AreSpent};
 ghost use Rattle.pit_commands.specs.Printed.{pipe_settings, IsPrinted, PipeRefused};
 
 use devices::feeds::feed::Feed;
 use devices::feeds::slice_feed::SliceFeed;
 use lane::Gathered;
 use pit_compile::refusal::Refusal;
-use pit_compile::settings::{Budget, Settings, require_settings};
-use pit_compile::{MOST_STARTS, compile};
+use pit_compile::settings::{Settings, require_settings};
+use pit_compile::{MOST_STARTS, Starts, compile_with_starts};
 use pit_edge::pieces::Piece;
 use pit_edge::printing::print;
 use pit_model::destination::Destination;
@@ -52,23 +53,48 @@ pub fn pipe<R: Threads + Wait + Sync>(
     ensures settings { (kind : ASettingsFault) → (result ≡ Err (Refusal.Settings kind))
         ↔ IsSettingsFault plan.now (length zones.now) (formulas_of destinations.now) pipe_settings
         kind }
-    ensures passed { IfOk result (HasPassed plan.now zones.now USUAL_VALUERS) }
+    ensures passed { IfOk result (HasPassed plan.now zones.now 4) }
     ensures printed { OnOk result (IsPrinted plan.now zones.now out.old.items out.new.items) }
     ensures refused { IfErr result (PipeRefused plan.now (formulas_of destinations.now) zones.now) }
     ensures kept { OnErr result (out.new.items ≡ out.old.items) }
 {
+    let mut starts = Starts::new(MOST_STARTS);
+    pipe_with_starts(rt, alloc, zones, plan, destinations, &mut starts, out)
+}
+
+/// The same, with starts that the caller lends, and which tell what became of them: `NoThread` is answered only where a start was refused.
+pub fn pipe_with_starts<R: Threads + Wait + Sync>(
+    rt: &R,
+    alloc: Global,
+    zones: &[Piece],
+    plan: &Plan,
+    destinations: &[Destination],
+    starts: &mut Starts,
+    out: &mut Vec<u8>,
+) -> Result<Gathered, Refusal>
+    requires unspent { starts.old ≡ none_spent starts.old.allowed }
+    ensures settings { (kind : ASettingsFault) → (result ≡ Err (Refusal.Settings kind))
+        ↔ IsSettingsFault plan.now (length zones.now) (formulas_of destinations.now) pipe_settings
+        kind }
+    ensures passed { IfOk result (HasPassed plan.now zones.now 4) }
+    ensures printed { OnOk result (IsPrinted plan.now zones.now out.old.items out.new.items) }
+    ensures refused { IfErr result (PipeRefused plan.now (formulas_of destinations.now) zones.now) }
+    ensures kept { OnErr result (out.new.items ≡ out.old.items) }
+
+    // What was started.
+    ensures started { OnOk result (AreSpent (4 + length zones.now) starts.new) }
+    ensures short { IfErr result (AreStartsOf (4 + length zones.now) starts.old starts.new) }
+{
     require_settings(zones.len(), plan, destinations, SETTINGS)?;
     let feeds = lent(alloc, zones)?;
-    let compiled = compile(
+    let compiled = compile_with_starts(
         rt,
         alloc,
         feeds,
         plan,
         destinations,
-        Budget {
-            settings: SETTINGS,
-            starts: MOST_STARTS,
-        },
+        SETTINGS,
+        starts,
         &OpenGate,
     )?;
     print(alloc, &compiled.instance, out)?;

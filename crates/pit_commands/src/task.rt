@@ -3,37 +3,41 @@
 ghost use Rattle.std.specs.Prelude.{◌≡◌, ◌≢◌, IfErr, OnErr, OnOk};
 ghost use Rattle.pit_parts.specs.Destinations.{formulas_of};
 ghost use Rattle.pit_edge.specs.FaultLine.{EndsBy};
+ghost use Rattle.run_threads.specs.Starts.{none_spent};
 ghost use Rattle.pit_commands.specs.Printed.{IsNoPipe, IsPrinted};
 ghost use Rattle.pit_commands.specs.Task.{IsNoTask, IsTaskDone, plan_in};
 
-use crate::compile::compile_files;
+use crate::compile::compile_into;
 use crate::model::Model;
-use crate::pipe_form::pipe;
+use crate::pipe_form::pipe_with_starts;
+use devices::files::opener::Opener;
+use devices::sinks::sink::Sink;
+use pit_compile::Starts;
 use pit_compile::settings::Settings;
+use pit_compile::sinks::Sinks;
 use pit_edge::refused::Refused;
 use pit_edge::refused::fault_line::tell;
 use pit_model::destination::Destination;
 use pit_model::plan::Plan;
 use std::alloc::Global;
-use std::rt::Files;
 use std::sync::Wait;
 use std::thread::Threads;
 
 /// A model to be compiled.
 #[derive(Drop)]
-pub enum Task {
-    /// The model that standard input gave, whose texts are printed.
+pub enum Task<S> {
+    /// The model that an input gave, whose texts are printed.
     Pipe(Model),
-    /// A plan with the paths of its zone files; the files of the instance begin with `base`.
+    /// A plan with the paths of its zone files, and a sink for each text of the instance.
     Files {
         plan: Plan,
         settings: Settings,
-        base: String,
         zones: Vec<String>,
+        sinks: Sinks<S>,
     },
 }
 
-impl Task {
+impl<S: Sink> Task<S> {
     /// The plan of the model.
     pub fn plan(&self) -> &Plan
         ensures { result.now ≡ plan_in self.now }
@@ -46,43 +50,51 @@ impl Task {
 
     /// Compiles the model with these destinations, and returns the status that the program ends with. Where that is 0
     /// it appends to `text` what standard output is to have, and else to `lines` what standard error is to have.
-    pub fn run<R: Files + Threads + Wait + Sync>(
-        &self,
+    pub fn run<R: Threads + Wait + Sync, O: Opener>(
+        &mut self,
         rt: &R,
         alloc: Global,
+        files: &mut O,
         destinations: &[Destination],
+        starts: &mut Starts,
         text: &mut Vec<u8>,
         lines: &mut Vec<u8>,
     ) -> u8
-    where
-        R::File: Send,
-        ensures done { result ≡ 0 → IsTaskDone self.now text.old.items text.new.items }
+        requires unspent { starts.old ≡ none_spent starts.old.allowed }
+        ensures done { result ≡ 0 → IsTaskDone S.state (O.opened files.old) (O.opened files.new)
+            starts.old starts.new self.old self.new text.old.items text.new.items }
         ensures quiet { result ≡ 0 → lines.new.items ≡ lines.old.items }
         ensures kept { result ≢ 0 → text.new.items ≡ text.old.items }
-        ensures refused { result ≢ 0 → EndsBy (IsNoTask self.now (formulas_of destinations.now))
+        ensures refused { result ≢ 0 → EndsBy (IsNoTask S.state (O.opened files.old)
+            (O.opened files.new) starts.old starts.new self.old self.new
+            (formulas_of destinations.now))
             lines.old.items lines.new.items result }
     {
         match self {
-            Task::Pipe(model) => match run_pipe(rt, alloc, model, destinations, text) {
+            Task::Pipe(model) => match run_pipe(rt, alloc, model, destinations, starts, text) {
                 Ok(()) => 0,
                 Err(refused) => tell(alloc, &refused, lines),
             },
             Task::Files {
                 plan,
                 settings,
-                base,
                 zones,
-            } => compile_files(
+                sinks,
+            } => match compile_into(
                 rt,
                 alloc,
+                files,
+                sinks,
                 plan,
                 destinations,
                 *settings,
-                base.as_str(),
+                starts,
                 zones.as_slice(),
                 text,
-                lines,
-            ),
+            ) {
+                Ok(()) => 0,
+                Err(refused) => tell(alloc, &refused, lines),
+            },
         }
     }
 }
@@ -93,15 +105,18 @@ fn run_pipe<R: Threads + Wait + Sync>(
     alloc: Global,
     model: &Model,
     destinations: &[Destination],
+    starts: &mut Starts,
     text: &mut Vec<u8>,
 ) -> Result<(), Refused>
+    requires { starts.old ≡ none_spent starts.old.allowed }
     ensures done { OnOk result
         (IsPrinted model.now.plan model.now.pieces.zones text.old.items text.new.items) }
     ensures kept { OnErr result (text.new.items ≡ text.old.items) }
     ensures refused { IfErr result
-        (IsNoPipe model.now.plan (formulas_of destinations.now) model.now.pieces.zones) }
+        (IsNoPipe model.now.plan (formulas_of destinations.now) model.now.pieces.zones starts.old
+        starts.new) }
 {
     let zones = model.pieces.zones();
-    pipe(rt, alloc, zones, &model.plan, destinations, text)?;
+    pipe_with_starts(rt, alloc, zones, &model.plan, destinations, starts, text)?;
     Ok(())
 }

@@ -23,12 +23,14 @@ pub faulty_plan : (text : List ℕ) (error : OrMemory PlanFault) (why : Refused)
 faulty_plan text (or_memory.Fault fault) why short e stated = subst (IsNoPlan text) (sym e) (short, stated)
 faulty_plan text or_memory.OutOfMemory why short e stated = subst (IsNoPlan text) (sym e) refl
 
-pub plan_unread : (left : Option (List ℕ)) (why : Refused) → IsUnread source.Plan left 1048576 why → IsNoPlanFile left why
-plan_unread left why unread = inl unread
+module _ (left : Option (List ℕ)) (given given_now failures failures_now : ℕ) (why : Refused) where
+  pub plan_unread : IsUnread source.Plan left 1048576 given given_now failures failures_now why
+      → IsNoPlanFile left given given_now failures failures_now why
+  plan_unread unread = inl unread
 
-pub plan_read : (left : Option (List ℕ)) (text : List ℕ) (why : Refused) → IfSome left (λ bytes. text ≡ bytes) → IsNoPlan text why
-    → IsNoPlanFile left why
-plan_read left text why is refused = inr (text, is, refused)
+  pub plan_read : (text : List ℕ) → IfSome left (λ bytes. text ≡ bytes) → IsNoPlan text why
+      → IsNoPlanFile left given given_now failures failures_now why
+  plan_read text is refused = inr (text, is, refused)
 
 -- a text that gives no plan ends the program with 1, a line appended, or for want of memory with none
 one_or_memory : (words old new : List ℕ) (status : ℕ) → EndsWith 1 words old new status → EndsRefused old new status

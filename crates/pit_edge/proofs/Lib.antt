@@ -2,6 +2,7 @@ mod Again
 mod Ends
 mod Joined
 mod Lines
+mod OpenedInOrder
 mod Outputs
 mod Uncut
 mod Unread

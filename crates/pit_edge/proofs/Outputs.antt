@@ -1,23 +1,22 @@
--- What an output holds after several writes, where it tells what it holds.
-use Rattle.std.proofs.Common.{◌≡◌, ℕ, ◌+◌, ◌-◌, ◌<◌, ◌≤◌, List, length, take, drop, Option, sym, subst, arith, length-drop, take-add, take_all}
-use Rattle.std.proofs.KnownBytes.{Appends-kept, Appends-nil, Appends-trans}
-use Rattle.std.specs.Io.KnownBytes.{Appends, Keeps}
-use Rattle.pit_edge.specs.WriteWhole.{TakesLess}
+-- What an output took after several puts, where it tells what it took.
+use Rattle.std.proofs.Common.{◌≡◌, ◌∙◌, ℕ, ◌+◌, ◌-◌, ◌≤◌, List, ◌++◌, length, take, drop, Option, Some, None, refl, sym, ap, subst, arith, append_assoc, append-nil, length-drop, take-add, take_all}
+use Rattle.devices.specs.Device.{added}
 
-pub took_none : (a : Option (List ℕ)) (bytes : List ℕ) → Appends a a (take 0 bytes)
-took_none a bytes = Appends-nil a
+pub took_none : (a : Option (List ℕ)) (bytes : List ℕ) → a ≡ added (take 0 bytes) a
+took_none None bytes = refl
+took_none (Some held) bytes = ap Some (sym (append-nil held))
 
-pub took_more : (a b c : Option (List ℕ)) (bytes : List ℕ) (n m : ℕ) → Appends a b (take n bytes)
-    → Appends b c (take m (take (length bytes - n) (drop n bytes))) → Appends a c (take (n + m) bytes)
+added_twice : (x y : List ℕ) (a : Option (List ℕ)) → added y (added x a) ≡ added (x ++ y) a
+added_twice x y None = refl
+added_twice x y (Some held) = ap Some (append_assoc held x y)
+
+pub took_more : (a b c : Option (List ℕ)) (bytes : List ℕ) (n m : ℕ) → b ≡ added (take n bytes) a
+    → c ≡ added (take m (take (length bytes - n) (drop n bytes))) b → c ≡ added (take (n + m) bytes) a
 took_more a b c bytes n m first second =
     let rest : take (length bytes - n) (drop n bytes) ≡ drop n bytes =
     take_all (length bytes - n) (drop n bytes) (omega (arith, length-drop n bytes)) in
-    subst (Appends a c) (sym (take-add n m bytes))
-    (Appends-trans a b c (take n bytes) (take m (drop n bytes)) first (subst (λ xs. Appends b c (take m xs)) rest second))
+    subst (λ xs. c ≡ added (take m xs) b) rest second ∙ ap (added (take m (drop n bytes))) first
+    ∙ added_twice (take n bytes) (take m (drop n bytes)) a ∙ ap (λ xs. added xs a) (sym (take-add n m bytes))
 
-pub took_all : (a b : Option (List ℕ)) (bytes : List ℕ) (n : ℕ) → length bytes ≤ n → Appends a b (take n bytes) → Appends a b bytes
-took_all a b bytes n all took = subst (Appends a b) (take_all n bytes all) took
-
-pub cut_short : (a b c : Option (List ℕ)) (bytes : List ℕ) (n : ℕ) → n < length bytes → Appends a b (take n bytes) → Keeps b c
-    → TakesLess a c bytes
-cut_short a b c bytes n few took kept = (n, few, Appends-kept a b c (take n bytes) took kept)
+pub took_all : (a b : Option (List ℕ)) (bytes : List ℕ) (n : ℕ) → length bytes ≤ n → b ≡ added (take n bytes) a → b ≡ added bytes a
+took_all a b bytes n all took = subst (λ xs. b ≡ added xs a) (take_all n bytes all) took

@@ -1,10 +1,9 @@
 pub mod FaultLine
-pub mod OpenedFile
+pub mod FilePath
 pub mod Pieces
 pub mod PlanFile
 pub mod PlanText
 pub mod Refused
 pub mod Sections
-pub mod UntakenWords
 pub mod WriteWhole
 pub mod ZoneFeeds

@@ -1,6 +1,6 @@
 -- The plan in a file, and why a file gives none.
-use Rattle.std.specs.Prelude.{◌≡◌, ℕ, ◌≤◌, ◌⊎◌, List, Option, Result, Ok, Err, IfSome, length}
-use Rattle.devices.specs.declared.feeds.feed.FeedFault.{FeedFault}
+use Rattle.std.specs.Prelude.{◌≡◌, ℕ, ◌≤◌, ◌⊎◌, List, [], ◌∷◌, ◌++◌, Option, Ok, IfSome, length}
+use Rattle.devices.specs.files.Opening.{Opening, Opened, Unopened}
 use Rattle.pit_model.specs.Planned.{planned}
 use Rattle.pit_parts.specs.Plan.{PlanParts}
 use Rattle.pit_edge.specs.PlanText.{IsNoPlan}
@@ -18,18 +18,20 @@ pub record HasPlan (left : Option (List ℕ)) (plan : PlanParts) : Type 0 where
   pub states : planned text ≡ Ok plan
 
 -- the file was not read; or its text gives no plan, the bytes that it had left where it tells them
-abbrev pub IsNoPlanFile : Option (List ℕ) → Refused → Type 0
-IsNoPlanFile left refused =
-    IsUnread Plan left MAX_PLAN_BYTES refused ⊎ ((text : List ℕ) × IfSome left (λ bytes. text ≡ bytes) × IsNoPlan text refused)
+abbrev pub IsNoPlanFile : Option (List ℕ) → (given given_now failures failures_now : ℕ) → Refused → Type 0
+IsNoPlanFile left given given_now failures failures_now refused =
+    IsUnread Plan left MAX_PLAN_BYTES given given_now failures failures_now refused
+    ⊎ ((text : List ℕ) × IfSome left (λ bytes. text ≡ bytes) × IsNoPlan text refused)
 
--- `Opens` says what opening a path may answer, and `left` what a feed has left, where it tells that
-module _ {P F : Type 0} (Opens : P → Result F FeedFault → Type 0) (left : F → Option (List ℕ)) (path : P) where
-  -- opening this path gave a feed whose text states this plan
-  abbrev pub IsPlanAt : PlanParts → Type 0
-  IsPlanAt plan = (feed : F) × Opens path (Ok feed) × HasPlan (left feed) plan
+-- of what was opened before and is now: the file at this path was opened, no other, and its text states this plan
+abbrev pub IsPlanAt : List ℕ → (old new : List Opening) → PlanParts → Type 0
+IsPlanAt path old new plan = (left : Option (List ℕ)) × (new ≡ old ++ Opened path left ∷ []) × HasPlan left plan
 
-  -- opening this path failed; or it gave a feed that gives no plan
+-- the file at this path could not be opened; or it was, no other, and gives no plan. `given` and `failures` are how many bytes its feed
+-- gave and how many pulls it refused
+module _ {F : Type 0} (given failures : F → ℕ) (path : List ℕ) (old new : List Opening) where
   abbrev pub IsNoPlanAt : Refused → Type 0
   IsNoPlanAt refused =
-      ((fault : FeedFault) × Opens path (Err fault) × (refused ≡ FeedFailed Plan))
-      ⊎ ((feed : F) × Opens path (Ok feed) × IsNoPlanFile (left feed) refused)
+      ((new ≡ old ++ Unopened path ∷ []) × (refused ≡ FeedFailed Plan))
+      ⊎ ((left : Option (List ℕ)) × (new ≡ old ++ Opened path left ∷ [])
+      × ((now : F) × IsNoPlanFile left 0 (given now) 0 (failures now) refused))

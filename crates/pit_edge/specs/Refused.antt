@@ -1,5 +1,5 @@
 -- Why the program refuses: the words of its line, and the status that it ends with.
-use Rattle.std.specs.Prelude.{◌≡◌, ℕ, ◌<◌, ◌++◌, List, length, Option, IfSome, codes}
+use Rattle.std.specs.Prelude.{◌≡◌, ℕ, ◌++◌, List, Option, codes}
 use Rattle.std.specs.Fmt.{decimal}
 use Rattle.devices.specs.declared.feeds.slurp.SlurpFault.{SlurpFault}
 use Rattle.devices.specs.declared.feeds.slurp.SlurpFault.TheVariants as slurp
@@ -11,6 +11,7 @@ use Rattle.pit_model.specs.declared.plan_fault.PlanFault.{PlanFault}
 use Rattle.pit_units.specs.declared.or_memory.OrMemory.{OrMemory}
 use Rattle.pit_units.specs.declared.or_memory.OrMemory.TheVariants as or_memory
 use Rattle.text_lines.specs.FaultText.{file_ending, text_fault_text}
+use Rattle.text_lines.specs.Fed.{FailsAsFed}
 use Rattle.text_lines.specs.declared.text_fault.TextFault.{TextFault}
 use Rattle.pit_edge.specs.declared.refused.Refused.{Refused}
 use Rattle.pit_edge.specs.declared.refused.Refused.TheVariants.{NotUtf8, FeedFailed, TooLong, Plan, Text, Run}
@@ -68,11 +69,8 @@ abbrev pub text_refused : OrMemory TextFault → Refused
 text_refused (or_memory.Fault fault) = Text fault
 text_refused or_memory.OutOfMemory = Run refusal.OutOfMemory
 
--- this source was not read: it failed, or memory was refused; or it had more bytes than this limit, where it tells them
-abbrev pub IsUnread : Source → Option (List ℕ) → ℕ → Refused → Type 0
-IsUnread source left limit NotUtf8 = ⊥
-IsUnread source left limit (FeedFailed other) = other ≡ source
-IsUnread source left limit (TooLong other) = (other ≡ source) × IfSome left (λ bytes. limit < length bytes)
-IsUnread source left limit (Plan fault) = ⊥
-IsUnread source left limit (Text fault) = ⊥
-IsUnread source left limit (Run why) = why ≡ refusal.OutOfMemory
+-- this source was not read: it refused a pull, or gave a byte more than this limit; or memory was refused. Of what it had left, where it
+-- tells that, and of how many bytes it gave and how many pulls it refused, before and now
+abbrev pub IsUnread : Source → Option (List ℕ) → ℕ → (given given_now failures failures_now : ℕ) → Refused → Type 0
+IsUnread source left limit given given_now failures failures_now refused =
+    (fault : SlurpFault) × FailsAsFed left limit given given_now failures failures_now fault × (refused ≡ unread source fault)

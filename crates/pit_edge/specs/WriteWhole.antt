@@ -1,14 +1,23 @@
--- What an output holds after bytes were written to it, as far as it tells what it holds.
-use Rattle.std.specs.Prelude.{ℕ, ◌<◌, ◌⊎◌, List, [], ◌∷◌, ◌++◌, codes, length, take, Option}
-use Rattle.std.specs.Io.KnownBytes.{Appends}
+-- What an output tells after bytes were written to it.
+use Rattle.std.specs.Prelude.{◌≡◌, ℕ, ◌+◌, ◌<◌, ◌⊎◌, List, [], ◌∷◌, ◌++◌, codes, length, take}
+use Rattle.devices.specs.Device.{added}
+use Rattle.devices.specs.sinks.SinkState.{SinkState}
 
--- it took a front of these bytes, and not all of them
-abbrev pub TakesLess : Option (List ℕ) → Option (List ℕ) → List ℕ → Type 0
-TakesLess old new bytes = (taken : ℕ) × (taken < length bytes) × Appends old new (take taken bytes)
+-- it took these bytes, and refused no call
+pub record TakesAll (bytes : List ℕ) (old new : SinkState) : Type 0 where
+  pub taken : new.taken ≡ added bytes old.taken
+  pub works : new.failures ≡ old.failures
 
--- it took these bytes, or a front of them
-abbrev pub TakesAtMost : Option (List ℕ) → Option (List ℕ) → List ℕ → Type 0
-TakesAtMost old new bytes = Appends old new bytes ⊎ TakesLess old new bytes
+-- it took a front of these bytes and not all of them, and refused one call
+pub record TakesLess (bytes : List ℕ) (old new : SinkState) : Type 0 where
+  pub count : ℕ
+  pub few : count < length bytes
+  pub taken : new.taken ≡ added (take count bytes) old.taken
+  pub fails : new.failures ≡ old.failures + 1
+
+-- it took these bytes; or a front of them, since it refused a call
+abbrev pub TakesAtMost : List ℕ → (old new : SinkState) → Type 0
+TakesAtMost bytes old new = TakesAll bytes old new ⊎ TakesLess bytes old new
 
 -- the lines that are told, or that memory was refused where there is none
 abbrev pub told_lines : List ℕ → List ℕ

@@ -4,29 +4,21 @@ ghost use Rattle.std.specs.IoError.{error_kind};
 ghost use Rattle.std.specs.Prelude.{◌≡◌, ◌≢◌, Err, IfErr, IfOk};
 ghost use Rattle.std.specs.Vec.Iter.{into_iter_items};
 ghost use Rattle.pit_compile.specs.declared.refusal.Refusal.TheVariants.{OutOfMemory};
-ghost use Rattle.pit_edge.specs.UntakenWords.{AreNoWords};
 
 use crate::refused::Refused;
 use pit_compile::refusal::Refusal;
-use std::alloc::{Alloc, AllocError, Global};
-use std::env::{self, Args};
+use std::alloc::{AllocError, Global};
+use std::env::Args;
 use std::io::{self, ErrorKind};
-use std::rt::Env;
 
-/// The words of the command line, the program's name first.
+/// All words of the command line that the system gave, in order, the program's name first. A fault of the system's says that one is not
+/// UTF-8, or that memory was refused.
 ///
 /// # Errors
 ///
 /// - `NotUtf8`: a word is not UTF-8, the program's name too.
 /// - `Run`: memory was refused.
-pub fn words_of<R: Env + Alloc<A = Global>>(rt: &R, alloc: Global) -> Result<Vec<String>, Refused>
-    ensures { IfErr result AreNoWords }
-{
-    all_words(alloc, env::args(rt))
-}
-
-// All words that the system gave, in order. A fault of its own says that one is not UTF-8, or that memory was refused.
-fn all_words(alloc: Global, given: io::Result<Args>) -> Result<Vec<String>, Refused>
+pub fn words_of(alloc: Global, given: io::Result<Args>) -> Result<Vec<String>, Refused>
     ensures all { IfOk given (λ left. IfOk result (λ words. words.items ≡ into_iter_items left)) }
     ensures memory { IfOk given (λ left. IfErr result (λ why. why ≡ Refused.Run OutOfMemory)) }
     ensures encoding { IfErr given (λ error. error_kind error ≡ ErrorKind.InvalidData

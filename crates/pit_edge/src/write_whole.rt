@@ -1,28 +1,23 @@
 //! Writing to an output, whole.
 
-ghost use Rattle.std.specs.Io.KnownBytes.{Appends};
 ghost use Rattle.std.specs.Prelude.{OnErr, OnOk};
-ghost use Rattle.pit_edge.specs.WriteWhole.{TakesLess};
+ghost use Rattle.pit_edge.specs.WriteWhole.{TakesAll, TakesLess};
 
-use devices::sinks::single_write::write_some;
-use devices::sinks::sink::SinkFault;
-use std::io::Write;
+use devices::sinks::sink::{Sink, SinkFault};
 
-/// Writes all these bytes. A write that a signal interrupts is tried again; a write that takes no byte has failed.
+/// Puts all these bytes to an output that goes on.
 ///
 /// # Errors
 ///
-/// A write failed, for whatever reason of the system's. The output took a front of the bytes, and not all of them.
-#[tactic(auto, using(crate::proofs::Outputs::took_none, crate::proofs::Outputs::took_more, crate::proofs::Outputs::took_all, crate::proofs::Outputs::cut_short))]
-pub fn write_whole<T: Write>(output: &mut T, bytes: &[u8]) -> Result<(), SinkFault>
-    ensures whole { OnOk result (Appends (T.contents output.old) (T.contents output.new)
-        bytes.now) }
-    ensures short { OnErr result
-        (TakesLess (T.contents output.old) (T.contents output.new) bytes.now) }
+/// It refused a call. It took a front of the bytes, and not all of them.
+#[tactic(auto, using(crate::proofs::Outputs::took_none, crate::proofs::Outputs::took_all))]
+pub fn write_whole<S: Sink>(output: &mut S, bytes: &[u8]) -> Result<(), SinkFault>
+    ensures whole { OnOk result (TakesAll bytes.now (S.state output.old) (S.state output.new)) }
+    ensures short { OnErr result (TakesLess bytes.now (S.state output.old) (S.state output.new)) }
 {
     let mut taken = 0;
     while taken < bytes.len() {
-        taken += write_some(output, &bytes[taken..])?;
+        taken += output.put(&bytes[taken..])?;
     }
     Ok(())
 }

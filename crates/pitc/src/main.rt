@@ -9,9 +9,18 @@ ghost use Rattle.pit_parts.specs.formulas.Formula.{IsRuled};
 ghost use Rattle.pit_parts.specs.formulas.Worth.{worth, mill, dump};
 ghost use Rattle.pit_parts.specs.declared.ranges.TheConstants.{MAX_COST, MAX_PRICE, MAX_RECOVERY};
 
-use pit_check::check::check_files;
+use devices::feeds::read_feed::ReadFeed;
+use devices::files::file_opener::FileOpener;
+use devices::files::opener::Opener;
+use devices::files::system_files::SystemFiles;
+use devices::sinks::mem_sink::MemSink;
+use devices::sinks::sink::Sink;
+use devices::sinks::write_sink::WriteSink;
+use pit_check::check::check;
+use pit_commands::instance_files::sinks_of;
 use pit_commands::model::read_model;
 use pit_commands::task::Task;
+use pit_compile::{MOST_STARTS, Starts};
 use pit_edge::plan_file::read_plan_file;
 use pit_edge::refused::Refused;
 use pit_edge::refused::fault_line::tell;
@@ -23,7 +32,9 @@ use pit_model::block::Block;
 use pit_model::destination::{Destination, Valuer};
 use pit_model::formula::Formula;
 use pit_model::worth::{dump_worth, mill_worth};
+use pit_parts::settings::Settings;
 use std::alloc::{Alloc, AllocError, Global};
+use std::env;
 use std::io::Input;
 use std::process::ExitCode;
 use std::rt::{Env, Files};
@@ -39,15 +50,16 @@ fn main(rt: HostRuntime) -> ExitCode {
         Err(refused) => tell(alloc, &refused, &mut lines),
     };
     finish(
-        &mut rt.stdout(),
-        &mut rt.stderr(),
+        &mut WriteSink::new(rt.stdout()),
+        &mut WriteSink::new(rt.stderr()),
         status,
         text.as_slice(),
         lines.as_slice(),
     )
 }
 
-// Does what the words ask, and answers the status that the program ends with.
+// Does what the words ask, and answers the status that the program ends with. Here and in the next two functions the words, the input and
+// the files of the system are handed to the steps that promise what is done with them.
 fn work<R: Alloc<A = Global> + Env + Files + Input + Threads + Wait + Sync>(
     rt: &R,
     alloc: Global,
@@ -57,10 +69,9 @@ fn work<R: Alloc<A = Global> + Env + Files + Input + Threads + Wait + Sync>(
 where
     R::File: Send,
 {
-    let words = words_of(rt, alloc)?;
+    let words = words_of(alloc, env::args(rt))?;
     if words.len() <= 1 {
-        let task = Task::Pipe(read_model(rt, alloc)?);
-        return Ok(run(rt, alloc, &task, text, lines)?);
+        return print_model(rt, alloc, text, lines);
     }
     match job(alloc, words.as_slice()) {
         Ok(
@@ -70,34 +81,90 @@ where
                 settings,
                 zones,
             },
-        ) => {
-            let plan = read_plan_file(rt, alloc, plan.as_str())?;
-            let task = Task::Files {
-                plan,
-                settings,
-                base: out,
-                zones,
-            };
-            Ok(run(rt, alloc, &task, text, lines)?)
+        ) => compile(
+            rt,
+            alloc,
+            plan.as_str(),
+            out.as_str(),
+            settings,
+            zones,
+            text,
+            lines,
+        ),
+        Ok(Job::Check { base }) => {
+            let files = SystemFiles::new(rt);
+            Ok(check(
+                alloc,
+                &mut FileOpener::new(&files),
+                base.as_str(),
+                text,
+                lines,
+            ))
         }
-        Ok(Job::Check { base }) => Ok(check_files(rt, alloc, base.as_str(), text, lines)),
         Err(JobFault::Line(error)) => Ok(show(alloc, &error, text, lines)?),
         Err(JobFault::OutOfMemory) => Err(Refused::from(AllocError)),
     }
 }
 
-// Runs the task with the destinations of its plan, in its order. The closures are made beside the run that asks them, since a function
-// that made one and handed it out could promise nothing of it.
-fn run<R: Files + Threads + Wait + Sync>(
+// Prints the instance of the model on standard input. It has no sinks of its own.
+fn print_model<R: Files + Input + Threads + Wait + Sync>(
     rt: &R,
     alloc: Global,
-    task: &Task,
     text: &mut Vec<u8>,
     lines: &mut Vec<u8>,
-) -> Result<u8, AllocError>
+) -> Result<u8, Refused>
 where
     R::File: Send,
 {
+    let model = read_model(alloc, &mut ReadFeed::new(rt.reader()))?;
+    let files = SystemFiles::new(rt);
+    let mut task: Task<MemSink> = Task::Pipe(model);
+    Ok(run(
+        rt,
+        alloc,
+        &mut FileOpener::new(&files),
+        &mut task,
+        text,
+        lines,
+    )?)
+}
+
+// Compiles the plan in this file and these zone files into the files of BASE.
+fn compile<R: Files + Threads + Wait + Sync>(
+    rt: &R,
+    alloc: Global,
+    plan: &str,
+    base: &str,
+    settings: Settings,
+    zones: Vec<String>,
+    text: &mut Vec<u8>,
+    lines: &mut Vec<u8>,
+) -> Result<u8, Refused>
+where
+    R::File: Send,
+{
+    let files = SystemFiles::new(rt);
+    let mut opener = FileOpener::new(&files);
+    let plan = read_plan_file(alloc, &mut opener, plan)?;
+    let mut task = Task::Files {
+        plan,
+        settings,
+        zones,
+        sinks: sinks_of(&files, alloc, base)?,
+    };
+    Ok(run(rt, alloc, &mut opener, &mut task, text, lines)?)
+}
+
+// Runs the task with the destinations of its plan, in its order. The closures are made beside the run that asks them, since a function
+// that made one and handed it out could promise nothing of it.
+fn run<R: Threads + Wait + Sync, O: Opener, S: Sink + Drop>(
+    rt: &R,
+    alloc: Global,
+    files: &mut O,
+    task: &mut Task<S>,
+    text: &mut Vec<u8>,
+    lines: &mut Vec<u8>,
+) -> Result<u8, AllocError> {
     let mut destinations = Vec::new(alloc);
     for named in task.plan().formulas() {
         let destination = match &named.formula {
@@ -150,7 +217,15 @@ where
         };
         destinations.push(destination)?;
     }
-    Ok(task.run(rt, alloc, destinations.as_slice(), text, lines))
+    Ok(task.run(
+        rt,
+        alloc,
+        files,
+        destinations.as_slice(),
+        &mut Starts::new(MOST_STARTS),
+        text,
+        lines,
+    ))
 }
 
 // Leaves help for standard output, and the text of a refused line for standard error. Answers the status.

@@ -1,5 +1,6 @@
 -- What a sink over a file tells.
-use Rattle.std.specs.Prelude.{ℕ, List, [], Bool, false, Option, None}
+use Rattle.std.specs.Prelude.{ℕ, List, [], Bool, false, Option}
+use Rattle.devices.specs.files.Told.{told_empty}
 use Rattle.devices.specs.sinks.SinkState.{SinkState}
 
 pub record FileSinkView : Type 0 where
@@ -12,10 +13,10 @@ pub record FileSinkView : Type 0 where
   -- how many calls it refused so far
   pub failures : ℕ
 
--- a sink for the file at this path that was not begun
-abbrev pub unbegun : List ℕ → FileSinkView
-unbegun path = record { path = path; begun = false; held = None; failures = 0 }
+-- a sink for the file at this path that was not begun, of files that tell what they hold or do not
+abbrev pub unbegun : Bool → List ℕ → FileSinkView
+unbegun tells path = record { path = path; begun = false; held = told_empty tells; failures = 0 }
 
--- what it tells as a sink: the bytes of its text are told by no file of a system
+-- what it tells as a sink
 abbrev pub file_told : FileSinkView → SinkState
-file_told s = record { begun = s.begun; before = []; taken = None; failures = s.failures }
+file_told s = record { begun = s.begun; before = []; taken = s.held; failures = s.failures }

@@ -3,12 +3,27 @@
 ghost use Rattle.std.specs.Prelude.{◌≡◌, ◌+◌, ◌<◌, ◌≤◌, ℕ, List, [], Bool, Option, length, take, IsTrue, IsOk, IfOk, OnOk, OnErr, IfSome};
 ghost use Rattle.devices.specs.feeds.Feed.{put_back};
 
+use std::io;
 use thiserror::Error;
 
-/// A device refused to give bytes.
+/// A device refused to give bytes. Only a device makes one.
 #[derive(Clone, Copy, Debug, Error, PartialEq, Eq)]
 #[error("the feed failed")]
-pub struct FeedFault;
+pub struct FeedFault {
+    refused: (),
+}
+
+impl FeedFault {
+    /// That of a device which the system refused.
+    pub fn of(_error: &io::Error) -> FeedFault {
+        FeedFault::new()
+    }
+
+    // That of a device of this crate.
+    pub(crate) fn new() -> FeedFault {
+        FeedFault { refused: () }
+    }
+}
 
 /// A source of bytes that are given once, in order: a file, a pipe, or bytes in memory.
 pub trait Feed {

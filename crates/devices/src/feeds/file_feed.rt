@@ -1,63 +1,66 @@
 //! A file as a feed.
 
 ghost use Rattle.std.specs.Io.KnownBytes.{ReadConsumes};
-ghost use Rattle.std.specs.Prelude.{◌≡◌, ◌+◌, ◌≤◌, None, false, length, IfOk, OnOk, OnErr};
+ghost use Rattle.std.specs.Prelude.{◌≡◌, ◌+◌, ◌<◌, ◌≤◌, [], false, length, take, IfOk, IfSome, OnOk, OnErr};
+ghost use Rattle.devices.specs.feeds.Feed.{put_back};
 
 use crate::feeds::feed::{Feed, FeedFault};
 use crate::feeds::read_feed::ReadFeed;
-use crate::shown_bytes::{ShownBytes, shown};
-use std::fs::File;
+use crate::files::file_access::{AtPath, FileAccess};
 use std::io::Read;
 use std::marker::Model;
-use std::rt::Files;
+use std::snapshot::Snapshot;
 
-/// A feed of an open file, from the byte where the file stands. It does not tell in advance which bytes it will give,
-/// and any pull may fail. It takes no memory.
+/// A feed of an open file, from the byte where the file stands. It tells which bytes it will give as far as the file does, and no file
+/// of a system does; any pull may fail. It takes no memory.
 #[derive(Drop)]
-pub struct FileFeed<F: Read> {
+pub struct FileFeed<F: Read + AtPath> {
     file: ReadFeed<F>,
-    path: ShownBytes,
+    // the file before the first pull
+    first: Snapshot<F>,
 }
 
-impl<F: Read> Model for FileFeed<F> {
+impl<F: Read + AtPath> Model for FileFeed<F> {
+    ghost use Rattle.std.specs.Prelude.{◌≡◌, ◌+◌};
+    ghost use Rattle.devices.specs.feeds.Feed.{left_after};
     ghost use Rattle.devices.specs.feeds.FileFeedView.{FileFeedView};
-    ghost use Rattle.devices.specs.ShownBytes.{bytes_of};
 
     ghost Value = { FileFeedView };
 
     ghost view = { λ f. record {
-      path = bytes_of f.path;
+      path = F.path f.first.value;
       left = f.file.left;
-      given = f.file.given;
+      given = F.given f.first.value + f.file.given;
       failures = f.file.failures;
     } };
+
+    ghost invariant = { λ f. f.file.left ≡ left_after f.file.given (F.remaining f.first.value) };
 }
 
-impl<F: Read + Drop> FileFeed<F> {
+impl<F: Read + AtPath + Drop> FileFeed<F> {
     /// A feed of the file at this path, from its first byte.
     ///
     /// # Errors
     ///
     /// The file cannot be opened. Where the system opens a folder as a file, each pull of it fails.
-    pub fn open<R: Files<File = F>>(rt: &R, path: &str) -> Result<FileFeed<F>, FeedFault>
+    pub fn open<A: FileAccess<File = F>>(files: &A, path: &str) -> Result<FileFeed<F>, FeedFault>
         ensures path { IfOk result (λ feed. feed.path ≡ path.now) }
-        ensures left { IfOk result (λ feed. ⟦<FileFeed<F> as Feed>⟧.left feed ≡ None) }
         ensures given { IfOk result (λ feed. ⟦<FileFeed<F> as Feed>⟧.given feed ≡ 0) }
         ensures failures { IfOk result (λ feed. ⟦<FileFeed<F> as Feed>⟧.failures feed ≡ 0) }
         ensures unsure { IfOk result (λ feed. ⟦<FileFeed<F> as Feed>⟧.is_sure feed ≡ false) }
     {
-        match File::open(rt, path) {
+        match files.open(path) {
             Ok(file) => Ok(FileFeed {
+                first: Snapshot::of(&file),
                 file: ReadFeed::new(file),
-                path: shown(path.as_bytes()),
             }),
-            Err(_) => Err(FeedFault),
+            Err(error) => Err(FeedFault::of(&error)),
         }
     }
 }
 
-impl<F: Read + Drop> Feed for FileFeed<F> {
-    ghost left = { λ _. None };
+impl<F: Read + AtPath + Drop> Feed for FileFeed<F> {
+    ghost left = { λ f. f.left };
 
     ghost given = { λ f. f.given };
 
@@ -67,12 +70,22 @@ impl<F: Read + Drop> Feed for FileFeed<F> {
 
     /// Gives what one read of the file gives. A read that a signal interrupts is tried again.
     fn pull(&mut self, buffer: &mut [u8]) -> Result<usize, FeedFault>
+        // What the file did.
         ensures path { self.new.path ≡ self.old.path }
         ensures reads { ReadConsumes self.old.left self.new.left result buffer.new }
+
+        // On success its next bytes stand at the buffer's front.
         ensures within { IfOk result (λ n. n ≤ length buffer.old) }
+        ensures gives { IfOk result
+            (λ n. self.old.left ≡ put_back (take n buffer.new) self.new.left) }
+        ensures end { IfOk result
+            (λ n. n ≡ 0 → 0 < length buffer.old → IfSome self.old.left (λ bytes. bytes ≡ [])) }
         ensures counts { IfOk result (λ n. self.new.given ≡ self.old.given + n) }
         ensures works { OnOk result (self.new.failures ≡ self.old.failures) }
-        ensures refused { OnErr result (self.new.given ≡ self.old.given) }
+
+        // On failure nothing was given, and one refusal more is counted.
+        ensures refused_left { OnErr result (self.new.left ≡ self.old.left) }
+        ensures refused_given { OnErr result (self.new.given ≡ self.old.given) }
         ensures fails { OnErr result (self.new.failures ≡ self.old.failures + 1) }
     {
         self.file.pull(buffer)

@@ -93,7 +93,7 @@ impl Feed for MemFeed {
         if self.pulls < self.failing {
             self.pulls += 1;
             if self.pulls == self.failing {
-                return Err(FeedFault);
+                return Err(FeedFault::new());
             }
         }
         let (_, left) = self.bytes.split_at(self.given);

@@ -21,8 +21,8 @@ pub fn read_some<R: Read>(input: &mut R, buffer: &mut [u8]) -> Result<usize, Fee
         match input.read(buffer) {
             Ok(count) => return Ok(count),
             Err(error) if error.kind() == ErrorKind::Interrupted => {}
-            Err(_) => return Err(FeedFault),
+            Err(error) => return Err(FeedFault::of(&error)),
         }
     }
-    Err(FeedFault)
+    Err(FeedFault::new())
 }

@@ -3,32 +3,32 @@
 ghost use Rattle.std.specs.Prelude.{◌≡◌, ◌+◌, ◌<◌, ◌≤◌, [], false, length, string_bytes, take, IsErr, IfOk, OnOk, OnErr};
 ghost use Rattle.std.specs.Io.KnownBytes.{WriteAppends};
 ghost use Rattle.devices.specs.Device.{added};
+ghost use Rattle.devices.specs.files.Told.{told_empty, told_held};
 ghost use Rattle.devices.specs.sinks.FileSinkView.{file_told as told, unbegun};
 ghost use Rattle.devices.specs.sinks.SinkState.{IsCutOff, IsWritten};
 ghost use Rattle.devices.specs.sinks.SinkSteps.{IsBegunAsBefore};
 
 use crate::count::{Count, raised};
+use crate::files::file_access::FileAccess;
 use crate::sinks::single_write::write_some;
 use crate::sinks::sink::{Sink, SinkFault};
 use std::alloc::{AllocError, Global};
-use std::fs::File;
 use std::marker::Model;
-use std::rt::Files;
 
 /// A sink that writes to the file at its path. It tells what the file holds as far as the file itself does, and no file
 /// of a system does. Only `new` takes memory.
 #[derive(Drop)]
-pub struct FileSink<'a, R: Files> {
-    rt: &'a R,
+pub struct FileSink<'a, A: FileAccess> {
+    files: &'a A,
     path: String,
-    file: Option<R::File>,
+    file: Option<A::File>,
     failures: Count,
 }
 
-impl<'a, R: Files> Model for FileSink<'a, R> {
+impl<'a, A: FileAccess> Model for FileSink<'a, A> {
     ghost use Rattle.std.specs.Prelude.{is_some, string_bytes};
-    ghost use Rattle.std.specs.Option.{option_and_then};
     ghost use Rattle.devices.specs.Count.{count_of};
+    ghost use Rattle.devices.specs.files.Told.{told_file, Tells};
     ghost use Rattle.devices.specs.sinks.FileSinkView.{FileSinkView};
 
     ghost Value = { FileSinkView };
@@ -36,29 +36,31 @@ impl<'a, R: Files> Model for FileSink<'a, R> {
     ghost view = { λ s. record {
       path = string_bytes s.path;
       begun = is_some s.file;
-      held = option_and_then R.File.contents s.file;
+      held = told_file A.tells A.File.contents s.file;
       failures = count_of s.failures;
     } };
+
+    ghost invariant = { λ s. Tells A.tells A.File.contents s.file };
 }
 
-impl<'a, R: Files> FileSink<'a, R> {
+impl<'a, A: FileAccess> FileSink<'a, A> {
     /// A sink for the file at this path. It is not begun: the file is left alone, and need not exist.
     ///
     /// # Errors
     ///
     /// Memory for the path was refused.
-    pub fn new(rt: &'a R, alloc: Global, path: &str) -> Result<FileSink<'a, R>, AllocError>
-        ensures { IfOk result (λ sink. sink ≡ unbegun path.now) }
+    pub fn new(files: &'a A, alloc: Global, path: &str) -> Result<FileSink<'a, A>, AllocError>
+        ensures { IfOk result (λ sink. sink ≡ unbegun A.tells path.now) }
     {
-        Ok(FileSink::from_path(rt, String::from_str(alloc, path)?))
+        Ok(FileSink::from_path(files, String::from_str(alloc, path)?))
     }
 
     /// The same as `new`, by a path that is handed over. It takes no memory, and is never refused.
-    pub fn from_path(rt: &'a R, path: String) -> FileSink<'a, R>
-        ensures { result ≡ unbegun (string_bytes path) }
+    pub fn from_path(files: &'a A, path: String) -> FileSink<'a, A>
+        ensures { result ≡ unbegun A.tells (string_bytes path) }
     {
         FileSink {
-            rt,
+            files,
             path,
             file: None,
             failures: Count::Zero,
@@ -66,7 +68,7 @@ impl<'a, R: Files> FileSink<'a, R> {
     }
 }
 
-impl<'a, R: Files> Sink for FileSink<'a, R> {
+impl<'a, A: FileAccess> Sink for FileSink<'a, A> {
     ghost state = { told };
 
     /// Creates the file, or empties the one that is there.
@@ -78,17 +80,20 @@ impl<'a, R: Files> Sink for FileSink<'a, R> {
         ensures begins { OnOk result (IsWritten [] (told self.old) (told self.new)) }
         ensures refused { OnErr result (IsCutOff 1 [] (told self.old) (told self.new)) }
         ensures path { self.new.path ≡ self.old.path }
+        ensures file { OnOk result ((file : A.File) × (A.File.path file ≡ self.old.path)
+            × (A.File.contents file ≡ told_empty A.tells)
+            × (self.new.held ≡ told_held A.tells (A.File.contents file))) }
         ensures kept { OnErr result
             (self.new ≡ record self.old { failures = self.old.failures + 1 }) }
     {
-        match File::create(self.rt, self.path.as_str()) {
+        match self.files.create(self.path.as_str()) {
             Ok(file) => {
                 self.file = Some(file);
                 Ok(())
             }
-            Err(_) => {
+            Err(error) => {
                 self.failures = raised(&self.failures, 1);
-                Err(SinkFault)
+                Err(SinkFault::of(&error))
             }
         }
     }
@@ -120,7 +125,7 @@ impl<'a, R: Files> Sink for FileSink<'a, R> {
     {
         let written = match &mut self.file {
             Some(file) => write_some(file, bytes),
-            None => Err(SinkFault),
+            None => Err(SinkFault::new()),
         };
         if written.is_err() {
             self.failures = raised(&self.failures, 1);

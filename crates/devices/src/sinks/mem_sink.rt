@@ -112,7 +112,7 @@ impl MemSink {
         ensures { self.new ≡ record self.old { failures = self.old.failures + 1 } }
     {
         self.failures = raised(&self.failures, 1);
-        SinkFault
+        SinkFault::new()
     }
 }
 

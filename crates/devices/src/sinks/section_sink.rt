@@ -112,7 +112,7 @@ impl Sink for SectionSink {
     {
         if self.bytes.extend_from_slice(bytes).is_err() {
             self.failures = raised(&self.failures, 1);
-            return Err(SinkFault);
+            return Err(SinkFault::new());
         }
         Ok(bytes.len())
     }

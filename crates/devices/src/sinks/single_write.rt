@@ -20,11 +20,11 @@ pub fn write_some<W: Write>(output: &mut W, bytes: &[u8]) -> Result<usize, SinkF
 {
     for _ in 0..u64::MAX {
         match output.write(bytes) {
-            Ok(0) if !bytes.is_empty() => return Err(SinkFault),
+            Ok(0) if !bytes.is_empty() => return Err(SinkFault::new()),
             Ok(count) => return Ok(count),
             Err(error) if error.kind() == ErrorKind::Interrupted => {}
-            Err(_) => return Err(SinkFault),
+            Err(error) => return Err(SinkFault::of(&error)),
         }
     }
-    Err(SinkFault)
+    Err(SinkFault::new())
 }

@@ -6,12 +6,27 @@ ghost use Rattle.devices.specs.sinks.SinkState.{SinkState, IsWritten, IsCutOff};
 ghost use Rattle.devices.specs.sinks.SinkSteps.{IsBegunAsBefore};
 
 use pit_units::OrMemory;
+use std::io;
 use thiserror::Error;
 
-/// A device refused to take bytes, or to begin.
+/// A device refused to take bytes, or to begin. Only a device makes one.
 #[derive(Clone, Copy, Debug, Error, PartialEq, Eq)]
 #[error("the sink failed")]
-pub struct SinkFault;
+pub struct SinkFault {
+    refused: (),
+}
+
+impl SinkFault {
+    /// That of a device which the system refused.
+    pub fn of(_error: &io::Error) -> SinkFault {
+        SinkFault::new()
+    }
+
+    // That of a device of this crate.
+    pub(crate) fn new() -> SinkFault {
+        SinkFault { refused: () }
+    }
+}
 
 impl From<SinkFault> for OrMemory<SinkFault> {
     ghost use Rattle.pit_units.specs.declared.or_memory.OrMemory.TheVariants.{Fault};

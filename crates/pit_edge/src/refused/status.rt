@@ -1,12 +1,11 @@
 //! The statuses that the program ends with.
 
-ghost use Rattle.std.specs.Io.KnownBytes.{Appends};
 ghost use Rattle.std.specs.Prelude.{◌≡◌, ◌≢◌, ◌⊎◌};
 ghost use Rattle.std.specs.Process.{exit_status};
-ghost use Rattle.pit_edge.specs.WriteWhole.{TakesAtMost, TakesLess, output_failed, told_lines};
+ghost use Rattle.pit_edge.specs.WriteWhole.{TakesAll, TakesAtMost, TakesLess, output_failed, told_lines};
 
 use crate::write_whole::write_whole;
-use std::io::Write;
+use devices::sinks::sink::Sink;
 use std::process::ExitCode;
 
 /// A plan or a model is refused, or an input is too long.
@@ -21,7 +20,7 @@ pub const DEVICE: u8 = 3;
 /// Memory or a thread was refused.
 pub const RESOURCES: u8 = 4;
 
-/// Writes what a run left for standard output and standard error, and returns the status that the program ends with.
+/// Writes what a run left for standard output and standard error, which go on, and returns the status that the program ends with.
 ///
 /// - With the status 0 it writes `text` to standard output. Where that does not take the whole text, the status
 ///   returned is that of a device, and the line of the fault goes to standard error.
@@ -29,7 +28,7 @@ pub const RESOURCES: u8 = 4;
 ///   since there was no memory for one, it writes `pitc: OutOfMemory`.
 ///
 /// A failure of standard error changes nothing.
-pub fn finish<O: Write, E: Write>(
+pub fn finish<O: Sink, E: Sink>(
     output: &mut O,
     errors: &mut E,
     status: u8,
@@ -41,16 +40,16 @@ pub fn finish<O: Write, E: Write>(
     ensures quiet { status ≢ 0 → output.new ≡ output.old }
     ensures done { status ≡ 0 → (exit_status result ≡ 0) ⊎ (exit_status result ≡ 3) }
     ensures whole { status ≡ 0 → exit_status result ≡ 0
-        → Appends (O.contents output.old) (O.contents output.new) text.now }
+        → TakesAll text.now (O.state output.old) (O.state output.new) }
     ensures short { status ≡ 0 → exit_status result ≡ 3
-        → TakesLess (O.contents output.old) (O.contents output.new) text.now }
+        → TakesLess text.now (O.state output.old) (O.state output.new) }
 
     // What standard error took.
     ensures still { exit_status result ≡ 0 → errors.new ≡ errors.old }
     ensures told { status ≢ 0
-        → TakesAtMost (E.contents errors.old) (E.contents errors.new) (told_lines lines.now) }
+        → TakesAtMost (told_lines lines.now) (E.state errors.old) (E.state errors.new) }
     ensures failed { status ≡ 0 → exit_status result ≡ 3
-        → TakesAtMost (E.contents errors.old) (E.contents errors.new) output_failed }
+        → TakesAtMost output_failed (E.state errors.old) (E.state errors.new) }
 {
     if status != 0 {
         write_line(errors, lines_to_tell(lines));
@@ -76,8 +75,8 @@ fn lines_to_tell(lines: &[u8]) -> &[u8]
 }
 
 // Writes a line. Where that fails, a front of it was taken.
-fn write_line<E: Write>(errors: &mut E, line: &[u8])
-    ensures { TakesAtMost (E.contents errors.old) (E.contents errors.new) line.now }
+fn write_line<E: Sink>(errors: &mut E, line: &[u8])
+    ensures { TakesAtMost line.now (E.state errors.old) (E.state errors.new) }
 {
     let _ = write_whole(errors, line);
 }

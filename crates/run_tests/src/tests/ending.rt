@@ -1,5 +1,6 @@
 //! The end of a run: what is written where, and the status.
 
+use devices::sinks::write_sink::WriteSink;
 use pit_edge::refused::status::{DEVICE, REFUSED, RESOURCES, finish};
 use std::alloc::Global;
 use std::io::{self, ErrorKind, Write};
@@ -141,7 +142,13 @@ fn outputs_that_fail(rt: HostRuntime) {
         for fails in [true, false] {
             let mut output = Narrow::new(rt.alloc(), end.output_room, fails);
             let mut errors = Narrow::new(rt.alloc(), end.errors_room, fails);
-            let answer = finish(&mut output, &mut errors, end.status, TEXT, end.line);
+            let answer = finish(
+                &mut WriteSink::new(&mut output),
+                &mut WriteSink::new(&mut errors),
+                end.status,
+                TEXT,
+                end.line,
+            );
             assert!(rt; answer == ExitCode::from(end.answer), "{}", end.status);
             assert!(rt; output.held.as_slice() == end.output);
             assert!(rt; errors.held.as_slice() == end.errors);

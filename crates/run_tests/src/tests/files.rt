@@ -3,8 +3,8 @@
 use crate::tests::headers::pcpsp;
 use crate::tests::models::destinations_of;
 use crate::tests::watch::{OPEN, Watch};
-use devices::feeds::feed::FeedFault;
 use devices::feeds::file_feed::FileFeed;
+use devices::files::system_files::SystemFiles;
 use pit_check::check::check_files;
 use pit_commands::compile::compile_files;
 use pit_compile::settings::Settings;
@@ -57,7 +57,10 @@ where
     Ok((status, out, err))
 }
 
-fn checked<R: Files>(rt: &R, alloc: Global, base: &str) -> Answer {
+fn checked<R: Files>(rt: &R, alloc: Global, base: &str) -> Answer
+where
+    R::File: Send,
+{
     let (mut out, mut err) = (Vec::new(alloc), Vec::new(alloc));
     let status = check_files(rt, alloc, base, &mut out, &mut err);
     (status, out, err)
@@ -89,10 +92,7 @@ fn failing_devices(rt: HostRuntime) -> Result<(), Fail> {
 
 // Whether the file at a path cannot be opened.
 fn is_closed<R: Files>(rt: &R, path: &str) -> bool {
-    match FileFeed::open(rt, path) {
-        Ok(_) => false,
-        Err(fault) => fault == FeedFault,
-    }
+    FileFeed::open(&SystemFiles::new(rt), path).is_err()
 }
 
 #[test]

@@ -1,7 +1,9 @@
 //! An input that is interrupted, ends or fails.
 
-use pit_edge::input::read_whole;
+use devices::feeds::read_feed::ReadFeed;
+use pit_edge::input::read_source;
 use pit_edge::refused::fault_line::tell;
+use pit_edge::refused::source::Source;
 use std::alloc::Global;
 use std::io;
 use std::io::{ErrorKind, Read};
@@ -45,7 +47,8 @@ fn input_that(fails: bool) -> Interrupted {
 
 // The bytes of the input, behind the status 0; or the status of its refusal and the line.
 fn whole_or_refused(alloc: Global, fails: bool) -> (u8, Vec<u8>) {
-    match read_whole(&mut input_that(fails), alloc) {
+    let mut feed = ReadFeed::new(input_that(fails));
+    match read_source(alloc, &mut feed, Source::Input, 1_000) {
         Ok(bytes) => (0, bytes),
         Err(refused) => {
             let mut lines = Vec::new(alloc);

@@ -1,5 +1,6 @@
 //! A file as a sink: what `pitc`, which begins each file once, does not show.
 
+use devices::files::system_files::SystemFiles;
 use devices::sinks::file_sink::FileSink;
 use devices::sinks::sink::Sink;
 use std::fs;
@@ -26,7 +27,8 @@ fn takes<S: Sink>(sink: &mut S, text: &str) -> bool {
 #[test]
 fn a_file_begun_again(rt: HostRuntime) -> Result<(), Fail> {
     let (path, moved) = ("a_file_begun_again", "a_file_begun_again.moved");
-    let mut sink = FileSink::new(&rt, rt.alloc(), path)?;
+    let files = SystemFiles::new(&rt);
+    let mut sink = FileSink::new(&files, rt.alloc(), path)?;
     assert!(rt; !takes(&mut sink, "no text is begun\n"));
     assert!(rt; begins(&mut sink) && takes(&mut sink, "the first and longer text\n"));
     assert!(rt; begins(&mut sink) && takes(&mut sink, "0 0\n"));

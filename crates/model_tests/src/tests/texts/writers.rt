@@ -4,7 +4,6 @@ ghost use Rattle.mine_instance.specs.Valid.{IsValid};
 use super::headers::{WHOLE_CPIT, WHOLE_PCPSP, WHOLE_UPIT};
 use super::{BLOCKS, LIMITED, PREC, instance_of, write};
 use devices::sinks::mem_sink::MemSink;
-use devices::sinks::sink::SinkFault;
 use mine_instance::build_cpit;
 use mine_instance::instance::Instance;
 use minelib_writing::text_name::TextName;
@@ -52,7 +51,7 @@ fn ends_well(
     let mut sink = MemSink::fresh(alloc, step, nth);
     match write(alloc, name, instance, &mut sink) {
         Ok(()) => !fails && sink.bytes() == text,
-        Err(fault) => fails && fault == OrMemory::Fault(SinkFault) && is_cut_off(&sink, text, nth),
+        Err(fault) => fails && matches!(fault, OrMemory::Fault(_)) && is_cut_off(&sink, text, nth),
     }
 }
 

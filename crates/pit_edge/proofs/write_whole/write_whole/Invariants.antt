@@ -1,11 +1,12 @@
-use Rattle.std.proofs.Common.{◌-◌, ◌≤◌, length, take}
-use Rattle.std.specs.Io.KnownBytes.{Appends}
+use Rattle.std.proofs.Common.{◌≡◌, ◌-◌, ◌≤◌, length, take}
+use Rattle.devices.specs.Device.{added}
 use Rattle.pit_edge.proofs.write_whole.write_whole.Given as goal
 
--- The output took the front of the bytes.
+-- The output took the front of the bytes, and refused no call.
 abbrev pub invariant-loop-taken : goal.invariant-loop-taken
 invariant-loop-taken g l = record {
-  front : Appends (g.T.Write.contents l.fn.output) (g.T.Write.contents l.output) (take l.taken l.bytes);
+  front : (g.S.Sink.state l.output).taken ≡ added (take l.taken l.bytes) (g.S.Sink.state l.fn.output).taken;
+  works : (g.S.Sink.state l.output).failures ≡ (g.S.Sink.state l.fn.output).failures;
   within : l.taken ≤ length l.bytes;
 }
 

@@ -1,51 +1,87 @@
-use Rattle.std.proofs.Common.{◌≡◌, ◌<◌, ◌++◌, ◌∷◌, ◌+◌, ◌∙◌, ℕ, List, [], Ok, ap, get_or, length, refl, rules, string_bytes, subst, sym, take}
-use Rattle.std.proofs.lemmas.List.{take_more}
-use Rattle.std.proofs.lemmas.Option.{slice_get_read}
-use Rattle.std.specs.Fn.{FnReturnsAt}
-use Rattle.std.specs.List.{AllZip}
+use Rattle.std.proofs.Common.{◌≡◌, ◌∙◌, ◌<◌, [], ◌∷◌, ◌++◌, Some, ap, append_assoc, arith, get_or, inl, inr, length, map, refl, rules, string_bytes, subst, sym}
+use Rattle.std.proofs.lemmas.List.{get_or-map, length-map, map_push}
+use Rattle.std.proofs.lemmas.Option.{slice_get-get_or}
+use Rattle.std.proofs.lemmas.Result.{err_from_is_err_and}
+use Rattle.devices.specs.files.Opening.{Opened, Unopened, all_opened}
+use Rattle.pit_edge.proofs.OpenedInOrder.{opened_first, opened_more}
 use Rattle.pit_edge.proofs.zone_feeds.open_all.Goals as goal
 
--- one pair more of lists that are paired element by element
-zip_push : {X Y : Type 0} (R : X → Y → Type 0) (xs : List X) (ys : List Y) (x : X) (y : Y) → AllZip R xs ys → R x y
-    → AllZip R (xs ++ x ∷ []) (ys ++ y ∷ [])
-zip_push R [] [] x y h r = (r, tt)
-zip_push R (a ∷ xs) (b ∷ ys) x y h r = (h.0, zip_push R xs ys x y h.1 r)
-zip_push R _ _ x y h r = absurd h
-
-zip_more : {X Y : Type 0} (R : X → Y → Type 0) (xs : List X) (ys : List Y) (i : ℕ) (x : X) (y : Y) → i < length xs → x ≡ get_or xs i x
-    → AllZip R (take i xs) ys → R x y → AllZip R (take (i + 1) xs) (ys ++ y ∷ [])
-zip_more R xs ys i x y lt is h r =
-    subst (λ l. AllZip R l (ys ++ y ∷ [])) (ap (λ z. take i xs ++ z ∷ []) is ∙ sym (take_more xs i x lt))
-    (zip_push R (take i xs) ys x y h r)
+pub loop-file-init : goal.loop-file-init
+loop-file-init g c = record {
+  opened = opened_first (map string_bytes c.args.paths.now) (g.O.Opener.opened c.args.files.now)
+      ∙ ap (λ feeds. g.O.Opener.opened c.args.files.now ++ all_opened (map string_bytes c.args.paths.now) (map g.O.Opened.Feed.left feeds))
+      (sym c.new-feeds.ensures.items);
+  count = ap length c.new-feeds.ensures.items;
+}
 
 pub loop-file-preserved : goal.loop-file-preserved
 loop-file-preserved g c =
     let path = c.index-paths-file.result in
-    let opens : FnReturnsAt g.O.Fn c.args.opener (string_bytes path) (Ok c.in-Ok.feed) =
-    record { shown = c.as_str.result; shows = c.as_str.ensures.value; says = record { met = c.in-Ok.ensures } } in
-    let grown : c.push.new.self.items ≡ c.loop-file.feeds.items ++ c.in-Ok.feed ∷ [] = search rules in
+    let left = g.O.Opened.Feed.left in
+    let paths = map string_bytes c.args.paths.now in
+    let lefts = map left c.loop-file.feeds.items in
     let is : path ≡ get_or c.args.paths.now c.loop-file.file path = search rules in
+    let count : length lefts ≡ c.loop-file.file = length-map c.loop-file.feeds.items left ∙ c.loop-file.invariant.count in
+    let few : length lefts < length paths = omega (arith, count, length-map c.args.paths.now string_bytes, c.loop-file-test.true) in
+    let at : string_bytes path ≡ get_or paths (length lefts) (string_bytes path) =
+    ap string_bytes is ∙ sym (get_or-map string_bytes c.args.paths.now c.loop-file.file path (string_bytes path) c.loop-file-test.true)
+    ∙ ap (λ i. get_or paths i (string_bytes path)) (sym count) in
+    let grown : c.push.new.self.items ≡ c.loop-file.feeds.items ++ c.in-Ok.feed ∷ [] = search rules in
     record {
-      each = subst (λ feeds. AllZip (λ path feed. FnReturnsAt g.O.Fn c.args.opener (string_bytes path) (Ok feed))
-          (take (c.loop-file.file + 1) c.args.paths.now) feeds)
-          (sym grown) (zip_more (λ path feed. FnReturnsAt g.O.Fn c.args.opener (string_bytes path) (Ok feed))
-          c.args.paths.now c.loop-file.feeds.items
-          c.loop-file.file path c.in-Ok.feed c.loop-file-test.true is c.loop-file.invariant.each opens);
+      opened = opened_more paths lefts (string_bytes path) (left c.in-Ok.feed) _ _ _ few at c.loop-file.invariant.opened
+          (subst (λ p. g.O.Opener.opened c.open.new.self ≡ g.O.Opener.opened c.loop-file.files ++ Opened p (left c.in-Ok.feed) ∷ [])
+          c.as_str.ensures.value c.in-Ok.ensures.opened)
+          ∙ ap (λ fs. g.O.Opener.opened c.args.files.now ++ all_opened paths fs)
+          (sym (ap (map left) grown ∙ map_push left c.loop-file.feeds.items c.in-Ok.feed));
       count = search rules;
     }
 
 pub returns-in_default-clause-refused : goal.returns-in_default-clause-refused
 returns-in_default-clause-refused g c =
     let path = c.index-paths-file.result in
-    let is : path ≡ get_or c.args.paths.now c.loop-file.file path = search rules in (
+    let left = g.O.Opened.Feed.left in
+    let paths = map string_bytes c.args.paths.now in
+    let lefts = map left c.loop-file.feeds.items in
+    let is : path ≡ get_or c.args.paths.now c.loop-file.file path = search rules in
+    let count : length lefts ≡ c.loop-file.file = length-map c.loop-file.feeds.items left ∙ c.loop-file.invariant.count in
+    let within : c.loop-file.file < length paths = omega (arith, length-map c.args.paths.now string_bytes, c.loop-file-test.true) in
+    let old = g.O.Opener.opened c.args.files.now in
+    inl (
       c.loop-file.file,
       refl,
       record {
-        feeds = c.loop-file.feeds.items;
-        before = c.loop-file.invariant.each;
-        path = path;
-        stands = slice_get_read c.args.paths.now _ c.loop-file.file path refl c.loop-file-test.true is;
-        fault = _;
-        refused = record { shown = c.as_str.result; shows = c.as_str.ensures.value; says = record { met = c.in_default.ensures } };
+        lefts = lefts;
+        before = count;
+        path = string_bytes path;
+        stands = slice_get-get_or paths c.loop-file.file (string_bytes path) within
+            ∙ ap Some (get_or-map string_bytes c.args.paths.now c.loop-file.file path (string_bytes path) c.loop-file-test.true
+            ∙ sym (ap string_bytes is));
+        opened = subst (λ p. g.O.Opener.opened c.open.new.self ≡ g.O.Opener.opened c.loop-file.files ++ Unopened p ∷ [])
+            c.as_str.ensures.value c.in_default.ensures.refused
+            ∙ ap (λ l. l ++ Unopened (string_bytes path) ∷ []) c.loop-file.invariant.opened
+            ∙ append_assoc old (all_opened paths lefts) (Unopened (string_bytes path) ∷ []);
       },
     )
+
+pub returns-in_err-push-clause-refused : goal.returns-in_err-push-clause-refused
+returns-in_err-push-clause-refused g c =
+    let path = c.index-paths-file.result in
+    let left = g.O.Opened.Feed.left in
+    let paths = map string_bytes c.args.paths.now in
+    let lefts = map left c.loop-file.feeds.items in
+    let is : path ≡ get_or c.args.paths.now c.loop-file.file path = search rules in
+    let count : length lefts ≡ c.loop-file.file = length-map c.loop-file.feeds.items left ∙ c.loop-file.invariant.count in
+    let few : length lefts < length paths = omega (arith, count, length-map c.args.paths.now string_bytes, c.loop-file-test.true) in
+    let at : string_bytes path ≡ get_or paths (length lefts) (string_bytes path) =
+    ap string_bytes is ∙ sym (get_or-map string_bytes c.args.paths.now c.loop-file.file path (string_bytes path) c.loop-file-test.true)
+    ∙ ap (λ i. get_or paths i (string_bytes path)) (sym count) in
+    let p = err_from_is_err_and c.from_residual.result c.from_residual.ensures.1 in
+    rw (p.1, p.2) (inr (
+      refl,
+      (
+        lefts ++ left c.in-Ok.feed ∷ [],
+        opened_more paths lefts (string_bytes path) (left c.in-Ok.feed) _ _ _ few at c.loop-file.invariant.opened
+            (subst (λ p. g.O.Opener.opened c.open.new.self ≡ g.O.Opener.opened c.loop-file.files ++ Opened p (left c.in-Ok.feed) ∷ [])
+            c.as_str.ensures.value c.in-Ok.ensures.opened),
+      ),
+    ))

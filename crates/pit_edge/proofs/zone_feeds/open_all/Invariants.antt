@@ -1,10 +1,11 @@
-use Rattle.std.proofs.Common.{◌≡◌, Ok, string_bytes, take, vec_len}
-use Rattle.std.specs.Fn.{FnReturnsAt}
-use Rattle.std.specs.List.{AllZip}
+use Rattle.std.proofs.Common.{◌≡◌, ◌++◌, map, string_bytes, length}
+use Rattle.devices.specs.files.Opening.{all_opened}
 use Rattle.pit_edge.proofs.zone_feeds.open_all.Given as goal
 
+-- The files before this one were opened in order.
 abbrev pub invariant-loop-file : goal.invariant-loop-file
 invariant-loop-file g l = record {
-  each : AllZip (λ path feed. FnReturnsAt g.O.Fn l.opener (string_bytes path) (Ok feed)) (take l.file l.paths) l.feeds.items;
-  count : vec_len l.feeds ≡ l.file;
+  opened : g.O.Opener.opened l.files ≡ g.O.Opener.opened l.initial.files
+      ++ all_opened (map string_bytes l.paths) (map g.O.Opened.Feed.left l.feeds.items);
+  count : length l.feeds.items ≡ l.file;
 }

@@ -5,11 +5,10 @@ use Rattle.pit_compile.specs.Settings.{IsSettingsFault}
 use Rattle.pit_compile.specs.Verdict.{IsAccepted}
 use Rattle.pit_compile.specs.declared.refusal.Refusal.TheVariants.{Settings, OutOfMemory}
 use Rattle.pit_parts.specs.Destinations.{formulas_of}
-use Rattle.pit_parts.specs.declared.ranges.TheConstants.{USUAL_VALUERS}
 use Rattle.pit_commands.specs.Printed.{pipe_settings, PipeRefused}
 use Rattle.pit_edge.specs.Sections.{printed}
 use Rattle.pit_commands.proofs.Lent.{given_texts, refused_by, refusal_in, told_fault, kind_in}
-use Rattle.pit_commands.proofs.pipe_form.pipe.Goals as goal
+use Rattle.pit_commands.proofs.pipe_form.pipe_with_starts.Goals as goal
 
 pub returns-clause-settings : goal.returns-clause-settings
 returns-clause-settings g c = λ kind. (
@@ -40,7 +39,7 @@ returns-in_err-compiled-clause-settings g c =
     λ kind. (
       λ e. subst (λ n. IsSettingsFault c.args.plan.now n (formulas_of c.args.destinations.now) pipe_settings kind)
           c.in_ok-feeds.ensures.count
-          ((c.compile.ensures.settings kind).0 (c.in_err-compiled.was ∙ ap (λ r. Err (refusal_in r)) (sym told ∙ e))),
+          ((c.compile_with_starts.ensures.settings kind).0 (c.in_err-compiled.was ∙ ap (λ r. Err (refusal_in r)) (sym told ∙ e))),
       λ h. let clash = sym c.in_ok-require_settings.was ∙ (c.require_settings.ensures.exact kind).1 h in absurd cc,
     )
 
@@ -66,7 +65,7 @@ returns-in_err-compiled-clause-refused g c =
 pub returns-clause-passed : goal.returns-clause-passed
 returns-clause-passed g c =
     let done = c.in_ok-compiled.ensures.done in
-    subst (λ texts. HasPassed c.args.plan.now texts USUAL_VALUERS c.in_ok-compiled.compiled.gathered)
+    subst (λ texts. HasPassed c.args.plan.now texts 4 c.in_ok-compiled.compiled.gathered)
     (given_texts _ c.args.zones.now done.texts c.in_ok-feeds.ensures.left done.given) done.passed
 
 pub returns-clause-printed : goal.returns-clause-printed

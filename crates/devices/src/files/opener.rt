@@ -1,0 +1,27 @@
+//! Feeds of files, opened by their paths.
+
+ghost use Rattle.std.specs.Prelude.{◌≡◌, ◌++◌, List, [], ◌∷◌, IfOk, OnErr};
+ghost use Rattle.devices.specs.files.Opening.{Opening, Opened as WasOpened, Unopened};
+
+use crate::feeds::feed::{Feed, FeedFault};
+
+/// Opens files to be read, by their paths, and remembers for contracts which it was asked for.
+pub trait Opener {
+    /// A feed of a file.
+    type Opened: Feed + Send + Drop;
+
+    /// What it was asked to open so far, in order.
+    ghost opened: { Self → List Opening };
+
+    /// A feed of the file at this path, from its first byte.
+    ///
+    /// # Errors
+    ///
+    /// The file cannot be opened.
+    fn open(&mut self, path: &str) -> Result<Self::Opened, FeedFault>
+        ensures opened { IfOk result (λ feed. opened self.new
+            ≡ opened self.old ++ WasOpened path.now (Self.Opened.left feed) ∷ []) }
+        ensures given { IfOk result (λ feed. Self.Opened.given feed ≡ 0) }
+        ensures failures { IfOk result (λ feed. Self.Opened.failures feed ≡ 0) }
+        ensures refused { OnErr result (opened self.new ≡ opened self.old ++ Unopened path.now ∷ []) };
+}

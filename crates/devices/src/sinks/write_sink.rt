@@ -1,0 +1,90 @@
+//! An output as a sink.
+
+ghost use Rattle.std.specs.Io.KnownBytes.{WriteAppends};
+ghost use Rattle.std.specs.Prelude.{◌≡◌, ◌+◌, ◌<◌, ◌≤◌, [], length, take, IfOk, IsErr, OnOk, OnErr};
+ghost use Rattle.devices.specs.Device.{added};
+ghost use Rattle.devices.specs.sinks.WriteSinkView.{told_as, write_told as told};
+ghost use Rattle.devices.specs.sinks.SinkState.{IsCutOff};
+ghost use Rattle.devices.specs.sinks.SinkSteps.{IsBegunAsBefore};
+
+use crate::count::{Count, raised};
+use crate::sinks::single_write::write_some;
+use crate::sinks::sink::{Sink, SinkFault};
+use std::io::Write;
+use std::marker::Model;
+use std::snapshot::Snapshot;
+
+/// A sink over an output that goes on, as standard output: it is begun, and cannot be begun anew. It tells what the output holds as far
+/// as the output told it at first. It takes no memory.
+#[derive(Drop)]
+pub struct WriteSink<W: Write> {
+    output: W,
+    // the output before the first put
+    first: Snapshot<W>,
+    failures: Count,
+}
+
+impl<W: Write> Model for WriteSink<W> {
+    ghost use Rattle.devices.specs.Count.{count_of};
+    ghost use Rattle.devices.specs.sinks.WriteSinkView.{told_as, TellsOn, WriteSinkView};
+
+    ghost Value = { WriteSinkView };
+
+    ghost view = { λ s. record {
+      held = told_as (W.contents s.first.value) (W.contents s.output);
+      failures = count_of s.failures;
+    } };
+
+    ghost invariant = { λ s. TellsOn (W.contents s.first.value) (W.contents s.output) };
+}
+
+impl<W: Write> WriteSink<W> {
+    /// A sink over this output.
+    pub fn new(output: W) -> WriteSink<W>
+        ensures { result ≡ record { held = W.contents output; failures = 0 } }
+    {
+        let first = Snapshot::of(&output);
+        WriteSink {
+            output,
+            first,
+            failures: Count::Zero,
+        }
+    }
+}
+
+impl<W: Write> Sink for WriteSink<W> {
+    ghost state = { told };
+
+    /// Refused: what the output took cannot be given up.
+    fn begin(&mut self) -> Result<(), SinkFault>
+        ensures refused { OnErr result (IsCutOff 1 [] (told self.old) (told self.new)) }
+        ensures never { IsErr result }
+    {
+        self.failures = raised(&self.failures, 1);
+        Err(SinkFault::new())
+    }
+
+    /// Writes what one write to the output takes. A write that a signal interrupts is tried again.
+    fn put(&mut self, bytes: &[u8]) -> Result<usize, SinkFault>
+        // On success so many of the bytes are taken, and the output grows by them.
+        ensures within { IfOk result (λ n. n ≤ length bytes.now) }
+        ensures some { IfOk result (λ n. 0 < length bytes.now → 0 < n) }
+        ensures bytes { WriteAppends self.old.held self.new.held result bytes.now }
+        ensures takes { IfOk result
+            (λ n. (told self.new).taken ≡ added (take n bytes.now) (told self.old).taken) }
+        ensures works { OnOk result ((told self.new).failures ≡ (told self.old).failures) }
+
+        // On failure none is taken, and one refusal more is counted.
+        ensures refused { OnErr result ((told self.new).taken ≡ (told self.old).taken) }
+        ensures fails { OnErr result ((told self.new).failures ≡ (told self.old).failures + 1) }
+
+        // Whatever is answered, it is begun where it was.
+        ensures still { IsBegunAsBefore (told self.old) (told self.new) }
+    {
+        let written = write_some(&mut self.output, bytes);
+        if written.is_err() {
+            self.failures = raised(&self.failures, 1);
+        }
+        written
+    }
+}
