@@ -1,5 +1,5 @@
 -- What the rows of the zones' cones say of all blocks is what lies above each.
-use Rattle.std.proofs.Common.{◌≡◌, ℕ, ◌+◌, ◌<◌, Bool, List, [], ◌∷◌, Some, All, length, map, get_or, slice_get, refl, sym, ap, subst, ◌∙◌, arith, ⊎_elim, if◌then◌else◌}
+use Rattle.std.proofs.Common.{◌≡◌, ℕ, zero, suc, ◌+◌, ◌<◌, ◌≤◌, Bool, false, List, [], ◌∷◌, Some, All, length, map, get_or, slice_get, refl, sym, ap, subst, ◌∙◌, arith, ⊎_elim, if◌then◌else◌}
 use Rattle.std.specs.Simd.Lanes.{zip2}
 use Rattle.std.proofs.lemmas.List.{get_or_default}
 use Rattle.std.proofs.lemmas.Simd.{get_or-zip2, length-zip2}
@@ -12,13 +12,15 @@ use Rattle.pit_parts.specs.declared.grid.Grid.{Grid}
 use Rattle.precedence.specs.Codes.{place_code, place_codes}
 use Rattle.precedence.specs.declared.places.code.TheConstants.{CODES}
 use Rattle.precedence.specs.Cone.{above, is_above, places_where, preds, HasZones}
+use Rattle.precedence.specs.IdRuns.{is_in}
 use Rattle.precedence.specs.inner.FoundFields.{found_in, KeepsFound}
 use Rattle.precedence.specs.inner.Lists.{in_cone, in_cones}
 use Rattle.precedence.specs.inner.Rows.{is_in_rows, AreInOrder, IsWithin}
-use Rattle.precedence.specs.inner.ZoneTables.{HasTables, IsTold}
+use Rattle.precedence.specs.inner.ZoneTables.{HasTables, IsTold, zone_rows}
 use Rattle.precedence.specs.declared.cones.cone_table.ConeTable.{ConeTable}
 use Rattle.precedence.specs.declared.cones.cone_rows.Extent.{Extent}
 use Rattle.precedence.specs.declared.lists.found_preds.FoundPreds.TheInside.{Inside}
+use Rattle.precedence.proofs.PlacesWhere.{told_nowhere}
 
 -- an element that is there meets what all meet
 pub all_at : {X : Type 0} (P : X → Type 0) (xs : List X) (k : ℕ) (x : X) → All P xs → k < length xs → slice_get xs k ≡ Some x → P x
@@ -83,6 +85,14 @@ pub tables_in_order : (grid : Grid) (extent : Extent) (tables : List ConeTable) 
     → All (λ t. AreInOrder t.rows.items) tables
 tables_in_order grid extent tables told k d lt = let h = told k d lt in (h.high, h.apart)
 
+-- an identifier that no block has stands in no list
+in_none : (one : ℕ → ℕ → List ℕ) (zones codes : List ℕ) (m k : ℕ) → ((zone from : ℕ) → is_in (one zone from) k ≡ false)
+    → is_in (get_or (zip2 one zones codes) m []) k ≡ false
+in_none one [] codes m k none = refl
+in_none one (z ∷ zs) [] m k none = refl
+in_none one (z ∷ zs) (c ∷ cs) zero k none = none z c
+in_none one (z ∷ zs) (c ∷ cs) (suc m) k none = in_none one zs cs m k none
+
 -- what a search finds
 module _ (f : Inside) (keeps : KeepsFound f) where
   abbrev one : ℕ → ℕ → List ℕ
@@ -98,3 +108,11 @@ module _ (f : Inside) (keeps : KeepsFound f) where
       ∙ get_or-zip2 one f.zones.items f.places.codes.items id zone from []
       (omega (arith, found_length, ap length is)) (omega (arith, found_length, ap length is, keeps.each))
       ∙ (λ j. one (sym of_block j) (sym at_place j))
+
+  pub nowhere_found : (lists : List (List ℕ)) (block pred : ℕ) → found_in f ≡ lists → length f.zones.items ≤ pred
+      → is_in (get_or lists block []) pred ≡ false
+  nowhere_found lists block pred is past =
+      ap (λ lists. is_in (get_or lists block []) pred) (sym is)
+      ∙ in_none one f.zones.items f.places.codes.items block pred (λ zone from.
+      told_nowhere (is_in_rows from (zone_rows f.tables.tables.items f.tables.of_zone.items zone)) pred f.places.codes.items
+      (omega (arith, keeps.each, past)))

@@ -8,5 +8,6 @@ pub mod PlacesWhere
 pub mod SeenPlaces
 pub mod Reaches
 pub mod Tables
+pub mod Later
 pub mod LawFacts
 pub mod runs

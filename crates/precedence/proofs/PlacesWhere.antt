@@ -1,8 +1,10 @@
 -- The numbers of elements: one more, and of those that pass a test as a filter of all numbers.
-use Rattle.std.proofs.Common.{◌≡◌, ℕ, suc, ◌+◌, ◌<◌, ◌≤◌, Bool, true, false, List, [], ◌∷◌, ◌++◌, filter, length, length-take-le, take, get_or, refl, sym, ap, ◌∙◌, arith, if◌then◌else◌}
+use Rattle.std.proofs.Common.{◌≡◌, ℕ, zero, suc, ◌+◌, ◌<◌, ◌≤◌, ◌==◌, ◌||◌, Bool, true, false, List, [], ◌∷◌, ◌++◌, filter, length, length-take-le, take, get_or, refl, sym, ap, ◌∙◌, arith, if◌then◌else◌}
 use Rattle.std.specs.List.{enumerate_from, range_with_len}
 use Rattle.std.proofs.lemmas.List.{get_or_default, take_more}
+use Rattle.std.proofs.lemmas.Bool.Decides.{nat_tests}
 use Rattle.precedence.specs.Cone.{places_where}
+use Rattle.precedence.specs.IdRuns.{is_in}
 
 numbered-append : {X : Type 0} (n : ℕ) (xs ys : List X)
     → enumerate_from n (xs ++ ys) ≡ enumerate_from n xs ++ enumerate_from (n + length xs) ys
@@ -48,3 +50,48 @@ length-places_where test n (x ∷ xs) = one (test x) (length-places_where test (
         → length (if t then n ∷ places_where test (n + 1) xs else places_where test (n + 1) xs) ≤ length (x ∷ xs)
     one true rest = omega (arith, rest)
     one false rest = omega (arith, rest)
+
+-- ---- which numbers are told
+
+-- one number in front
+is_in_front : (t : Bool) (n m : ℕ) (rest : List ℕ) → (n == m) ≡ false → is_in (if t then n ∷ rest else rest) m ≡ is_in rest m
+is_in_front true n m rest other = ap (λ b. b || is_in rest m) other
+is_in_front false n m rest other = refl
+
+-- none that is less than the first
+none_before : {X : Type 0} (test : X → Bool) (n m : ℕ) (xs : List X) → m < n → is_in (places_where test n xs) m ≡ false
+none_before test n m [] lt = refl
+none_before test n m (x ∷ xs) lt =
+    let other : (n == m) ≡ false = grind (arith, nat_tests) in
+    is_in_front (test x) n m (places_where test (n + 1) xs) other ∙ none_before test (n + 1) m xs (omega arith)
+
+-- nor one behind the last
+none_behind : {X : Type 0} (test : X → Bool) (n m : ℕ) (xs : List X) → n + length xs ≤ m → is_in (places_where test n xs) m ≡ false
+none_behind test n m [] le = refl
+none_behind test n m (x ∷ xs) le =
+    let other : (n == m) ≡ false = grind (arith, nat_tests) in
+    is_in_front (test x) n m (places_where test (n + 1) xs) other ∙ none_behind test (n + 1) m xs (omega arith)
+
+-- the first, where the first element passes
+is_in_first : (t : Bool) (n : ℕ) (rest : List ℕ) → is_in rest n ≡ false → is_in (if t then n ∷ rest else rest) n ≡ t
+is_in_first true n rest none = let same : (n == n) ≡ true = grind (arith, nat_tests) in ap (λ b. b || is_in rest n) same
+is_in_first false n rest none = none
+
+told_at : {X : Type 0} (test : X → Bool) (n m k : ℕ) (xs : List X) (d : X) → k < length xs → n + k ≡ m
+    → is_in (places_where test n xs) m ≡ test (get_or xs k d)
+told_at test n m k [] d lt is = absurd (omega arith)
+told_at test n m zero (x ∷ xs) d lt is =
+    let here : n ≡ m = omega arith in
+    ap (is_in (places_where test n (x ∷ xs))) (sym here)
+    ∙ is_in_first (test x) n (places_where test (n + 1) xs) (none_before test (n + 1) n xs (omega arith))
+told_at test n m (suc k) (x ∷ xs) d lt is =
+    let other : (n == m) ≡ false = grind (arith, nat_tests) in
+    is_in_front (test x) n m (places_where test (n + 1) xs) other ∙ told_at test (n + 1) m k xs d (omega arith) (omega arith)
+
+-- just those of elements that pass
+pub told_where : {X : Type 0} (test : X → Bool) (k : ℕ) (xs : List X) (d : X) → k < length xs
+    → is_in (places_where test 0 xs) k ≡ test (get_or xs k d)
+told_where test k xs d lt = told_at test 0 k k xs d lt (omega arith)
+
+pub told_nowhere : {X : Type 0} (test : X → Bool) (k : ℕ) (xs : List X) → length xs ≤ k → is_in (places_where test 0 xs) k ≡ false
+told_nowhere test k xs le = none_behind test 0 k xs (omega arith)

@@ -1,3 +1,4 @@
+pub mod RowOfCode
 pub mod RunLists
 pub mod RunsOfRows
 pub mod Starts

@@ -55,6 +55,12 @@ pub fn preds_lie_higher()
         → (k < length blocks) × ((slice_index_or blocks i d).z < (slice_index_or blocks k d).z) }
 {}
 
+/// Every predecessor has a greater identifier than its block.
+pub fn preds_come_later()
+    ensures { (plan : PlanParts) (listed : List Block) (n : NumberingView) (b c : ℕ)
+        → IsNumbering listed n → Contains (slice_index_or (preds plan n.blocks) b []) c → b < c }
+{}
+
 /// Each list of predecessors rises strictly, so none stands in it twice.
 pub fn preds_rise()
     ensures { (plan : PlanParts) (blocks : List Block) (i : ℕ) → i < length blocks

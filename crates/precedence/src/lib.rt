@@ -7,6 +7,7 @@ mod lists;
 mod numbering;
 mod places;
 
+pub use lists::ask_preds::AskPreds;
 pub use lists::counted_preds::CountedPreds;
 pub use lists::found_preds::{FoundPreds, preds};
 pub use lists::id_run::IdRun;

@@ -1,5 +1,6 @@
 //! The lists of predecessors, kept, found or counted, and the runs of identifiers that they are told by.
 
+pub mod ask_preds;
 pub mod counted_preds;
 pub mod cut_runs;
 pub mod found_preds;
@@ -7,4 +8,5 @@ pub mod id_run;
 pub mod pred_lists;
 pub mod predecessors;
 pub mod runs;
+pub mod runs_from;
 pub mod take_preds;

@@ -69,7 +69,7 @@ behind_row from c row le =
     ap (λ b. nat_le (from + row.first) c && b) (le-ltb c (from + row.past) le) ∙ and-false (nat_le (from + row.first) c)
 
 -- so it lies in the others, or in none
-skip : (from c n : ℕ) (rows : List Row) → n ≤ length rows → ((k : ℕ) → k < n → from + get_or (pasts rows) k 0 ≤ c)
+pub skip : (from c n : ℕ) (rows : List Row) → n ≤ length rows → ((k : ℕ) → k < n → from + get_or (pasts rows) k 0 ≤ c)
     → is_in_rows from rows c ≡ is_in_rows from (drop n rows) c
 skip from c zero rows le past = refl
 skip from c (suc n) [] le past = absurd (omega arith)
@@ -94,7 +94,7 @@ pasts_rise low (row ∷ next ∷ rows) high h (suc k) lt =
     let P : ℕ → Type 0 = λ n. get_or (pasts (row ∷ next ∷ rows)) (suc k) 0 < get_or (pasts (row ∷ next ∷ rows)) n 0 in
     subst P more later
 
-apart_at : (low : ℕ) (rows : List Row) (high i : ℕ) (d : Row) → LieApart low rows high → i < length rows
+pub apart_at : (low : ℕ) (rows : List Row) (high i : ℕ) (d : Row) → LieApart low rows high → i < length rows
     → ((get_or rows i d).first < (get_or rows i d).past) × LieApart (get_or rows i d).past (drop (suc i) rows) high
 apart_at low [] high i d h lt = absurd (omega arith)
 apart_at low (row ∷ rows) high zero d h lt = (h.1, h.2)

@@ -1,19 +1,21 @@
 //! Predecessors that are found when they are asked for.
 
-ghost use Rattle.std.specs.Prelude.{◌≡◌, ◌<◌, ◌++◌, IfOk, OnOk, All, length, map};
+ghost use Rattle.std.specs.Prelude.{◌≡◌, ℕ, ◌+◌, ◌<◌, ◌≤◌, ◌++◌, true, false, IfOk, OnOk, All, length, map};
 ghost use Rattle.precedence.specs.Cone.{preds, HasZones};
-ghost use Rattle.precedence.specs.IdRuns.{ids_of};
+ghost use Rattle.precedence.specs.IdRuns.{ids_of, is_in};
 ghost use Rattle.precedence.specs.inner.Lists.{in_cone};
 ghost use Rattle.precedence.specs.inner.Rows.{AreInOrder};
 ghost use Rattle.precedence.specs.declared.places.code.TheConstants.{CODES};
 
 use crate::cones::bounds::extent_of;
 use crate::cones::zone_tables::{ZoneTables, tables_of};
+use crate::lists::ask_preds::AskPreds;
 use crate::lists::cut_runs::add_ids;
 use crate::lists::id_run::IdRun;
 use crate::lists::pred_lists::PredLists;
 use crate::lists::predecessors::Preds;
 use crate::lists::runs::{Hint, NOTHING_KNOWN, add_above};
+use crate::lists::runs_from::run_in_rows;
 use crate::numbering::Numbering;
 use crate::places::{Places, places_of};
 use pit_parts::block::Block;
@@ -112,6 +114,22 @@ impl PredLists for FoundPreds {
     }
 }
 
+impl AskPreds for FoundPreds {
+    #[tactic(auto, using(crate::proofs::AllLists::found_length))]
+    fn run_from(&self, block: u32, pred: u32, most: u32, hint: &Cell<usize>) -> u32 {
+        let count = self.zones.len();
+        if block as usize >= count {
+            return 0;
+        }
+        if pred as usize >= count {
+            return 0;
+        }
+        let zone = self.zones[block as usize];
+        let from = self.places.codes[block as usize];
+        run_in_cone(&self.places, &self.tables, zone, from, pred, most, hint)
+    }
+}
+
 /// The predecessors of each block by identifier, in rising order: the blocks of the cone above it, whose slopes and number of
 /// benches are those of the block's own zone. The plan has to have the zone of each block. Fails only where memory is refused.
 pub fn preds(alloc: Global, numbering: &Numbering, plan: &Plan) -> Result<Preds, AllocError>
@@ -163,5 +181,40 @@ fn add_in_cone(
         table.past.as_slice(),
         &hints[start..],
         from,
+    )
+}
+
+// How many identifiers from `pred` on, at most `most`, have codes in a row of a zone's cone, seen from the code `from`.
+#[inline(always)]
+fn run_in_cone(
+    places: &Places,
+    tables: &ZoneTables,
+    zone: u8,
+    from: u64,
+    pred: u32,
+    most: u32,
+    hint: &Cell<usize>,
+) -> u32
+    requires zone { zone < length tables.now.of_zone.items }
+    requires below { All (λ t. t < length tables.now.tables.items) tables.now.of_zone.items }
+    requires in_order { All (λ t. AreInOrder t.rows.items) tables.now.tables.items }
+    requires from { from < CODES }
+    requires pred { pred < length places.now.codes.items }
+    requires some { 0 < most }
+    ensures most { result ≤ most }
+    ensures all { (k : ℕ) → k < result → is_in (in_cone tables.now.tables.items tables.now.of_zone.items
+        places.now.codes.items zone from) (pred + k) ≡ true }
+    ensures none { result ≡ 0 → is_in (in_cone tables.now.tables.items tables.now.of_zone.items
+        places.now.codes.items zone from) pred ≡ false }
+{
+    let table = tables.of(zone);
+    run_in_rows(
+        places,
+        table.rows.as_slice(),
+        table.past.as_slice(),
+        from,
+        pred,
+        most,
+        hint,
     )
 }
