@@ -6,6 +6,7 @@ mod collecting;
 mod cones;
 mod decimals;
 mod feeds;
+mod fewer;
 mod instances;
 mod numbering;
 mod plans;

@@ -25,7 +25,7 @@ const FLAT_EAST: &[u8] =
     b"name,one\ngrid,0,0,0,10,10,10\nzone,1,2,1,1,1,1,1,1,1\nmill,mill,900,600,1500\nperiods,1\nrate,0.1\n";
 
 // The indices of a block along x, y and z.
-type Place = [u16; 3];
+pub type Place = [u16; 3];
 
 const NINE_ABOVE: &[Place] = &[
     [1, 1, 0],
@@ -98,7 +98,7 @@ const THIRTY_ABOVE: &[Place] = &[
 // Lists by identifier. Where the lists end, the blocks behind them have none.
 type Lists = &'static [(u32, &'static [u32])];
 
-fn blocks_at(alloc: Global, places: &[Place]) -> Result<Vec<Block>, Fail> {
+pub fn blocks_at(alloc: Global, places: &[Place]) -> Result<Vec<Block>, Fail> {
     let mut blocks = Vec::new(alloc);
     for [x, y, z] in places {
         blocks.push(Block::new(*x, *y, *z, 1_000, 0, 0).ok_or("a block")?)?;
@@ -106,7 +106,7 @@ fn blocks_at(alloc: Global, places: &[Place]) -> Result<Vec<Block>, Fail> {
     Ok(blocks)
 }
 
-fn has_zones(numbering: &Numbering, plan: &Plan) -> bool
+pub fn has_zones(numbering: &Numbering, plan: &Plan) -> bool
     ensures { IsTrue result → HasZones plan.now numbering.now.blocks }
 {
     numbering
@@ -115,14 +115,14 @@ fn has_zones(numbering: &Numbering, plan: &Plan) -> bool
         .all(|block| usize::from(block.zone) < plan.cones().len())
 }
 
-fn numbered(alloc: Global, blocks: &[Block]) -> Result<Numbering, Fail> {
+pub fn numbered(alloc: Global, blocks: &[Block]) -> Result<Numbering, Fail> {
     if blocks.len() > 2_000 {
         return Err("too many blocks")?;
     }
     Ok(number_blocks(alloc, &blocks)?)
 }
 
-fn lists_by(alloc: Global, numbering: &Numbering, plan: &Plan) -> Result<Preds, Fail> {
+pub fn lists_by(alloc: Global, numbering: &Numbering, plan: &Plan) -> Result<Preds, Fail> {
     if !has_zones(numbering, plan) {
         return Err("zones")?;
     }
@@ -190,7 +190,7 @@ fn four_slopes(rt: HostRuntime) -> Result<(), Fail> {
 }
 
 // Three zones each, some with equal cones.
-const ZONES: [&[u8]; 3] = [
+pub const ZONES: [&[u8]; 3] = [
     b"name,a\ngrid,0,0,0,10,20,5\nzone,1,2,2\nzone,3,1,1,2,1,1,2,3,4\nzone,1,2,2\nmill,m,900,600,1500\nperiods,1\nrate,0.1\n",
     b"name,a\ngrid,0,0,0,7.5,12.25,3.125\nzone,1,3,1,1,2,1,1,1,20\nzone,1,1,8\nzone,1000,1,1,1000,7,3,2,5,3\nmill,m,900,600,1500\nperiods,1\nrate,0.1\n",
     b"name,a\ngrid,0,0,0,1,1,100\nzone,20,1,3\nzone,45,1,2\nzone,1,1000,20\nmill,m,900,600,1500\nperiods,1\nrate,0.1\n",
@@ -204,7 +204,7 @@ const BOXES: [(Place, Place); 4] = [
     ([40, 7, 0], [60, 1, 6]),
 ];
 
-const FIRST_SEED: u64 = 20_130_701;
+pub const FIRST_SEED: u64 = 20_130_701;
 
 // A number by chance: of a seed and a place, the same each time.
 fn chance(seed: u64, at: u16) -> u64 {
@@ -236,7 +236,7 @@ fn block_in(seed: u64, begin: Place, sizes: Place, at: u16) -> Option<Block> {
     Block::new(x, y, z, 1_000, 0, (chance / 4 % 3) as u8)
 }
 
-fn blocks_in(alloc: Global, seed: u64, begin: Place, sizes: Place) -> Result<Vec<Block>, Fail> {
+pub fn blocks_in(alloc: Global, seed: u64, begin: Place, sizes: Place) -> Result<Vec<Block>, Fail> {
     let [wide, deep, high] = sizes;
     let mut blocks = Vec::new(alloc);
     for at in 0..wide.wrapping_mul(deep).wrapping_mul(high) {

@@ -1,0 +1,6 @@
+pub mod Fewer
+pub mod Least
+pub mod Left
+pub mod Mined
+pub mod SayTheSame
+pub mod inner

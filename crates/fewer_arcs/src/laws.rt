@@ -1,0 +1,70 @@
+//! What holds of what is left, whatever the lists: each contract is a law, and a call of it does nothing.
+
+ghost use Rattle.std.specs.Prelude.{◌≡◌, ◌↔◌, ℕ, ◌<◌, Bool, List, [], length, slice_index_or};
+ghost use Rattle.precedence.specs.Cone.{preds};
+ghost use Rattle.precedence.specs.Numbering.{IsNumbering, NumberingView};
+ghost use Rattle.pit_parts.specs.Plan.{PlanParts};
+ghost use Rattle.pit_parts.specs.declared.block.Block.{Block};
+ghost use Rattle.fewer_arcs.specs.Fewer.{fewer};
+ghost use Rattle.fewer_arcs.specs.Least.{AreAmong, AreClosed};
+ghost use Rattle.fewer_arcs.specs.Left.{IsLeft, Rise};
+ghost use Rattle.fewer_arcs.specs.Mined.{IsMinedInOrder, IsPit, IsSchedule};
+ghost use Rattle.fewer_arcs.specs.SayTheSame.{ComeLater, HaveWays, SaysTheSame};
+
+use precedence::laws::{preds_come_later, preds_rise};
+
+/// What is left of lists says the same as the lists: every transitive relation that holds along all of its arcs holds along all of
+/// theirs, since where they have an arc it has a way.
+pub fn fewer_say_the_same()
+    ensures same { (lists : List (List ℕ)) → ComeLater lists → SaysTheSame lists (fewer lists) }
+    ensures ways { (lists : List (List ℕ)) → ComeLater lists → HaveWays lists (fewer lists) }
+{}
+
+/// The pits are the same.
+pub fn pits_are_the_same()
+    ensures { (lists : List (List ℕ)) (pit : ℕ → Bool) → ComeLater lists
+        → (IsPit (fewer lists) pit ↔ IsPit lists pit) }
+{}
+
+/// Shares of blocks that are mined by the end of each period, as a CPIT and a PCPSP have them, keep the order of what is left just where
+/// they keep that of the lists.
+pub fn mined_in_the_same_order()
+    ensures { (lists : List (List ℕ)) (mined : ℕ → ℕ → ℕ) → ComeLater lists
+        → (IsMinedInOrder (fewer lists) mined ↔ IsMinedInOrder lists mined) }
+{}
+
+/// The schedules of whole blocks are the same.
+pub fn schedules_are_the_same()
+    ensures { (lists : List (List ℕ)) (period_of : ℕ → ℕ) → ComeLater lists
+        → (IsSchedule (fewer lists) period_of ↔ IsSchedule lists period_of) }
+{}
+
+/// Of lists that rise, what is left of each is some of it in its order. Each dropped block stands in the list of one that is left, and
+/// none that is left does.
+pub fn some_are_left()
+    ensures { (lists : List (List ℕ)) (b : ℕ) → ComeLater lists → Rise lists → b < length lists
+        → IsLeft lists (slice_index_or lists b []) (slice_index_or (fewer lists) b []) }
+{}
+
+/// No other part of a list is left so.
+pub fn left_in_one_way()
+    ensures { (lists : List (List ℕ)) (list one other : List ℕ) → ComeLater lists
+        → IsLeft lists list one → IsLeft lists list other → one ≡ other }
+{}
+
+/// Where lists are closed, no arc that is left can be spared: each stands in any other choice of their arcs that has a way where the
+/// lists have an arc.
+pub fn none_can_be_spared()
+    ensures { (lists other : List (List ℕ)) → ComeLater lists → Rise lists → AreClosed lists
+        → AreAmong other lists → HaveWays lists other → AreAmong (fewer lists) other }
+{}
+
+/// The predecessors of a model's blocks are such lists: each has a greater identifier than its block, and each list rises strictly.
+pub fn preds_come_later_and_rise()
+    ensures later { (plan : PlanParts) (listed : List Block) (n : NumberingView)
+        → IsNumbering listed n → ComeLater (preds plan n.blocks) }
+    ensures rise { (plan : PlanParts) (blocks : List Block) → Rise (preds plan blocks) }
+{
+    preds_come_later();
+    preds_rise();
+}
