@@ -1,8 +1,10 @@
 pub mod Members
 pub mod One
+pub mod OneCone
 pub mod OneMore
 pub mod Passing
 pub mod Same
 pub mod SomeLeft
+pub mod Slopes
 pub mod Spared
 pub mod Told

@@ -1,10 +1,12 @@
 //! What holds of what is left, whatever the lists: each contract is a law, and a call of it does nothing.
 
-ghost use Rattle.std.specs.Prelude.{◌≡◌, ◌↔◌, ℕ, ◌<◌, Bool, List, [], length, slice_index_or};
-ghost use Rattle.precedence.specs.Cone.{preds};
+ghost use Rattle.std.specs.Prelude.{◌≡◌, ◌↔◌, ℕ, ◌<◌, Bool, List, [], All, length, slice_index_or};
+ghost use Rattle.precedence.specs.Cone.{preds, HasZones};
 ghost use Rattle.precedence.specs.Numbering.{IsNumbering, NumberingView};
 ghost use Rattle.pit_parts.specs.Plan.{PlanParts};
+ghost use Rattle.pit_parts.specs.PlanKept.{IsCone};
 ghost use Rattle.pit_parts.specs.declared.block.Block.{Block};
+ghost use Rattle.pit_parts.specs.declared.cone.Cone.{Cone};
 ghost use Rattle.fewer_arcs.specs.Fewer.{fewer};
 ghost use Rattle.fewer_arcs.specs.Least.{AreAmong, AreClosed};
 ghost use Rattle.fewer_arcs.specs.Left.{IsLeft, Rise};
@@ -57,6 +59,12 @@ pub fn left_in_one_way()
 pub fn none_can_be_spared()
     ensures { (lists other : List (List ℕ)) → ComeLater lists → Rise lists → AreClosed lists
         → AreAmong other lists → HaveWays lists other → AreAmong (fewer lists) other }
+{}
+
+/// Where all zones have one cone, the predecessors of a model's blocks are closed, so that what is left of them is the least.
+pub fn one_cone_is_closed()
+    ensures { (plan : PlanParts) (blocks : List Block) (cone : Cone) → IsCone cone → All (λ own. own ≡ cone) plan.cones
+        → HasZones plan blocks → AreClosed (preds plan blocks) }
 {}
 
 /// The predecessors of a model's blocks are such lists: each has a greater identifier than its block, and each list rises strictly.
