@@ -7,7 +7,7 @@ ghost use Rattle.precedence.specs.declared.places.code.TheConstants.{CODES};
 
 use crate::cones::cone_rows::Row;
 use crate::places::Places;
-use crate::places::start_of::start_of;
+use crate::places::start_of::{is_last_below, start_of};
 use std::cell::Cell;
 
 /// How many identifiers from `pred` on, at most `most`, have codes in the row where the code of `pred` lies, seen from the code
@@ -54,10 +54,26 @@ fn row_of(past: &[u64], from: u64, code: u64, hint: &Cell<usize>) -> usize
     requires code { code < CODES }
     ensures { result ≡ start_of (code - from + 1) past.now }
 {
-    let row = start_of(past, hint.get(), code.saturating_sub(from) + 1);
+    let row = row_nearby(past, hint.get(), code.saturating_sub(from) + 1);
     // The search is fastest from one less than the answer.
     hint.set(row.saturating_sub(1));
     row
+}
+
+// How many rows are past below `target`. It is mostly one or two more than the hint, or three.
+#[inline(always)]
+fn row_nearby(past: &[u64], hint: usize, target: u64) -> usize
+    requires { IsStrictlyIncreasing past.now }
+    ensures { result ≡ start_of target past.now }
+{
+    if is_last_below(past, hint, target) {
+        return hint + 1;
+    }
+    let next = hint.saturating_add(1);
+    if is_last_below(past, next, target) {
+        return next + 1;
+    }
+    start_of(past, next.saturating_add(1), target)
 }
 
 // How many codes from that of `first` on, at most `most`, are below `past`.

@@ -19,10 +19,10 @@ pub fn start_of(numbers: &[u64], hint: usize, target: u64) -> usize
     place_by_halving(numbers, low, high, target)
 }
 
-// Whether the number at the hint is the last below the target, and another follows: mostly so for the next block of a row.
+/// Whether the number at the hint is the last below the target, and another follows: mostly so for the next block of a row.
 #[tactic(auto, using(crate::proofs::runs::Starts::starts))]
 #[inline(always)]
-fn is_last_below(numbers: &[u64], hint: usize, target: u64) -> bool
+pub fn is_last_below(numbers: &[u64], hint: usize, target: u64) -> bool
     requires { IsStrictlyIncreasing numbers.now }
     ensures last { IsTrue result → start_of target numbers.now ≡ hint + 1 }
     ensures within { IsTrue result → hint < length numbers.now }
