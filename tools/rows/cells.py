@@ -68,11 +68,17 @@ class Cell(NamedTuple):
             yield "-0", 0, None
         for number in [least - 1, greatest + 1, -(10**40), 10**40, *self.past()]:
             yield spelled(number, decimals), None, "Range"
+        # just past the ends in other spellings
+        for number in (least - 1, greatest + 1):
+            yield spelled(number, decimals, "0") + point + "00", None, "Range"
         if greatest > 0 and -greatest < least:
             yield spelled(-greatest, decimals), None, "Range"
         for number in sorted({least - 1, least, max(0, least), greatest, greatest + 1}):
             yield spelled(number, decimals) + point + "1", None, "TooFine"
         yield spelled(greatest, decimals) + point + "0000001", None, "TooFine"
+        # also where zeros stand behind the digit that is too fine
+        yield spelled(least, decimals) + point + "10", None, "TooFine"
+        yield spelled(greatest, decimals) + point + "0" * 40 + "500", None, "TooFine"
         yield spelled(least, decimals) + point + "0" * 120 + "1", None, "TooFine"
         digits = [spelled(least, decimals) + point + "1", spelled(greatest + 1, decimals)]
         for text in ["x", "1e0", "-", digits[0] + "x", digits[1] + "x"]:
@@ -90,6 +96,24 @@ def shortest(number, decimals):
     """The shortest text of a number that counts the last of so many decimals."""
     text = spelled(number, decimals)
     return text.rstrip("0").rstrip(".") if decimals else text
+
+
+# Numbers of 3 and of 6 decimals of which floating point takes one less, where it cuts.
+CUT = {3: (1_001, 2_002, 1_023), 6: (249, 1_000_249, 983)}
+
+
+def unusual(number, decimals):
+    """Spellings, but the shortest, of a number from 0 on that counts the last of so many decimals.
+    """
+    whole = shortest(number, decimals)
+    point = "" if "." in whole else "."
+    texts = ["0" + whole, "0" * 20 + whole, "+" + whole, "+00" + whole + point + "000"]
+    texts += [whole + point + "0" * zeros for zeros in (1, 4, 7, 40, 1_100)]
+    if point:
+        texts.append(whole + point)
+    if whole.startswith("0."):
+        texts.append(whole[1:])
+    return texts + ["-0", "-.0", "000", "-0.000"] * (number == 0)
 
 
 def with_cell(cells, at, text):

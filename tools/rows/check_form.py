@@ -6,6 +6,7 @@ from rows.instance import (
     LIMITED_TEXTS, NINE_TEXTS, NO_BLOCK, ONE_ORE_BLOCK, TWO_ZONES, at,
 )
 from rows.trial import MARK, Folder, Trial, lines, refused
+from shared import CHECKED
 
 
 def spoiled(parts):
@@ -88,6 +89,11 @@ SPOILED = [
     ("upit=folder cpit=folder", "cpit: FeedFailed"),
     ("blocks=x upit=folder", "blocks line 1: Fields"),
     ("cpit=", "cpit line 2: Missing"),
+    # what is wrong with a model file is told behind a folder in the place of the CPIT
+    ("pcpsp=x cpit=folder", "cpit: FeedFailed"),
+    ("pcpsp= cpit=folder", "cpit: FeedFailed"),
+    ("prec=x cpit=folder", "cpit: FeedFailed"),
+    ("blocks=x cpit=folder", "cpit: FeedFailed"),
 ]
 
 
@@ -98,6 +104,40 @@ FAULTY = [
     ("a fault across the end of a piece", across(1, b"0 x\n"), "blocks line 2: Fields"),
     ("a line that is lacking", across(1, b" \n%", "prec"), "prec line 4: Missing"),
 ]
+
+
+# A base that is near to one that is there, and what is told of it.
+NEAR = [
+    "BASE", "Base", "bas", "base.", "base.blocks", "base.prec", "base.pcpsp", "base.cpit", "base ",
+    "base.blocks.", "./basement", "base/", "*", "bas?", "base.blocks/base",
+]
+
+# Endings in other letters, which are other files.
+CAPITALS = [{ending: how(ending) for ending in CHECKED} for how in (str.upper, str.title)]
+
+
+def near_bases():
+    """Files that are near to those that are asked for, and are not there."""
+    good = at("base", ONE_ORE_BLOCK)
+    for base in NEAR:
+        words, line = ["check", base], "blocks: FeedFailed"
+        yield refused(f"near_bases: {base}", line, words=words, files=good)
+    for number, spelled in enumerate(CAPITALS):
+        files = {f"base.{spelled[ending]}": ONE_ORE_BLOCK[ending] for ending in CHECKED}
+        name = f"near_bases: endings as {spelled['blocks']}"
+        yield refused(name, "blocks: FeedFailed", words=["check", "base"], files=files)
+        for ending in ("prec", "pcpsp"):
+            files = {f"base.{end}": text for end, text in ONE_ORE_BLOCK.items() if end != ending}
+            files[f"base.{spelled[ending]}"] = ONE_ORE_BLOCK[ending]
+            name = f"near_bases: the ending {spelled[ending]}"
+            yield refused(name, f"{ending}: FeedFailed", words=["check", "base"], files=files)
+        files = {f"base.{end}": text for end, text in ONE_ORE_BLOCK.items() if end != "cpit"}
+        files[f"base.{spelled['cpit']}"] = b"x\n"
+        out = b"blocks 1 arcs 0 coefficients 0 limits 0\n"
+        name = f"near_bases: the ending {spelled['cpit']}"
+        yield Trial(name, words=["check", "base"], files=files, out=out)
+    # each file has its ending behind a base that has one
+    yield counted("near_bases: a base with an ending", *COUNTED[0][1:], base="base.blocks")
 
 
 def counted(name, texts, counts, base="base"):
@@ -112,6 +152,10 @@ def trials():
     yield near._replace(words=["check", "./" * 150 + "base"])
     for name, texts, line in FAULTY:
         yield refused(name, line, words=["check", "base"], files=at("base", texts))
+    yield from near_bases()
+    for length in (401, 1_000, 4_000):
+        base = "./" * ((length - 4) // 2) + "/" * ((length - 4) % 2) + "base"
+        yield near._replace(name=f"a base of {length} bytes", words=["check", base])
     for parts, line in SPOILED:
         files = at("base", spoiled(parts))
         yield refused(f"check {parts}", line, words=["check", "base"], files=files)

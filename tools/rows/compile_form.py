@@ -1,16 +1,18 @@
 """Which files `compile` writes and which it leaves, and what it tells of plans and zone files."""
 from rows.instance import (
-    LIMITED, LIMITED_TEXTS, NINE, NINE_TEXTS, NO_BLOCK, ONE_ORE_BLOCK, ORE, PLAN, SAME, TWO_ZONES,
-    at, plain_texts, plan_of,
+    LIMITED, LIMITED_TEXTS, NINE, NINE_TEXTS, NO_BLOCK, ONE_ORE_BLOCK, ORE, OTHER_ORE, PLAN, SAME,
+    TWO_ZONES, at, plain_texts, plan_of,
 )
-from rows.trial import Folder, Link, Trial, refused, zone_file
+from rows.trial import MARK, Folder, Link, Trial, refused, zone_file
 from shared import ENDINGS
 
 # Files that are longer than what is written in their place.
 OLDER = at("base", dict.fromkeys(ENDINGS, b"a line of an older file\n" * 100))
 
-# A path of 300 bytes and more, which leads to where it begins.
+# A path of 300 bytes and more, which leads to where it begins; and a longer one, which with a name
+# stays below the 4,096 bytes that a path may have.
 FAR = "./" * 150
+FARTHER = "./" * 2_000
 
 # As many bytes as a plan may have.
 MOST = 1_048_576
@@ -37,8 +39,19 @@ FILES = {
     "longest": PLAN.ljust(MOST, b"\n"),
     "long": PLAN.ljust(MOST + 1, b"\n"),
     "faulty": b"name,a b\n",
+    "limited_twice": LIMITED[0] + b"limit,plant,01,I,2,1\n",
+    "late_periods": LIMITED[0].replace(b"periods,2\n", b"") + b"periods,2\n",
     **dict.fromkeys(["ore", "--ore", "an ore"], ORE),
     "none": zone_file(),
+    # the one ore block under a mark, in other columns, with line breaks in cells, on blank lines
+    "marked": MARK + ORE,
+    "marked_plan": MARK + PLAN,
+    "marked_two": MARK + zones(2),
+    "turned": OTHER_ORE,
+    "broken": b'rock,x,y,z,tonnes,grade,"no\nte"\n"a\n\nb",0,0,0,1000,5000,"\r\n"\n',
+    "blank": b"\n\r\n" + ORE.replace(b"\n", b"\n\n\n"),
+    "columns": b"zone,x,y,z,tonnes,grade\n0,0,0,0,1000,5000\n",
+    "spelled": b"Grade,TONNES,z,Y,X\n+5000.000000,01000.,-0,00,.0\n",
     "void": b"grade,tonnes,z,y,x",
     "waste": zone_file("10,0,0,1,0"),
     "limited_zone": LIMITED[1],
@@ -50,6 +63,8 @@ FILES = {
     "twice": zone_file("0,0,0,1,0", "0,0,0,1,0"),
     "off_grid_not": zone_file("20,0,0,1,0"),
     "off_grid": zone_file("5,0,0,1,0"),
+    "off_grid_y": zone_file("0,9.999,0,1,0"),
+    "off_range_z": zone_file("10,0,0,1,0", "0,0,-0.001,1,0"),
     "late": zone_file(*LATE, "0,0,0,1,?"),
     "early": zone_file("0,0,0,1,?"),
     **{f"many{file}": text for file, text in enumerate(MANY[1:])},
@@ -63,6 +78,14 @@ WRITTEN = [
     ("nine blocks of many numbers", "nine --valuers 2 --capacity 4 nine_zone", NINE_TEXTS),
     ("no block in two files", "two none --valuers 1 void", NO_BLOCK),
     ("two zones in their order", "two --valuers 2 --capacity 1 waste ore", TWO_ZONES),
+    # each of these is the second file, and the first one has none of its features
+    *(
+        (f"a file that is {second}, as the second", f"{plan} waste {second}", TWO_ZONES)
+        for second, plan in [
+            ("marked", "two"), ("turned", "two"), ("broken", "marked_two"), ("blank", "two"),
+            ("columns", "marked_two"), ("spelled", "two"),
+        ]
+    ),
 ]
 
 # The plan and the other words of runs on the one ore block, and what goes through standard input.
@@ -72,6 +95,11 @@ ACCEPTED = [
     ("a zone file that is named as an option", "one -- --ore", b""),
     ("a zone file that is a pipe", "one /dev/stdin", ORE),
     ("a zone file with a blank in its name", ["one", "an ore"], b""),
+    ("a mark in the plan", "marked_plan ore", b""),
+    ("a mark in both", "marked_plan marked", b""),
+    *((f"a file that is {name}", f"one {name}", b"") for name in [
+        "marked", "turned", "broken", "blank", "columns", "spelled"]),
+    ("a pipe with a mark", "marked_plan /dev/stdin", OTHER_ORE),
 ]
 
 # What runs tell that are refused, their plan and their other words.
@@ -83,11 +111,17 @@ REFUSED = [
     ("a faulty plan", "plan row 1: Name", "faulty ore"),
     ("a faulty plan, and a file that is not there", "plan row 1: Name", "faulty no/such"),
     ("plan and zone file turned round", "plan row 1: Key", "ore one"),
+    ("a limit that stands twice, its ends turned round", "plan row 11: Twice", "limited_twice ore"),
+    ("periods behind their limits", "plan row 8: Range", "late_periods ore"),
     ("a file that is not there", "file 3: FeedFailed", "one ore ore ore no/such"),
     ("the first of two that are not there", "file 0: FeedFailed", "one no/such ."),
     ("a hyphen as a zone file", "file 0: FeedFailed", "one -"),
     ("a zone file without a name", "file 0: FeedFailed", ["one", ""]),
     ("a path of 300 bytes to no file", "file 1: FeedFailed", ["two", "ore", FAR + "ore.csv"]),
+    ("a path of 4,000 bytes to no file", "file 1: FeedFailed", ["two", "ore", FARTHER + "ore.csv"]),
+    ("a path that is longer than there may be", "file 0: FeedFailed", ["one", FARTHER * 2 + "ore"]),
+    ("a row off the grid along y", "file 0 row 2 column y: OffGrid", "one off_grid_y"),
+    ("a row out of the grid along z", "file 1 row 3 column z: Range", "two ore off_range_z"),
     ("too few files", "settings: Files", "two ore"),
     ("too many files", "settings: Files", "one ore ore"),
     ("a folder as a zone file", "file 0: FeedFailed", "one ."),
@@ -166,10 +200,12 @@ def files_that_are_written():
     yield replaces._replace(files={**replaces.files, "base.blocks": ORE})
     name, base = "a base with a blank and a point", "an instance.v2"
     yield writes(name, "one ore", ONE_ORE_BLOCK, base)
-    far = compile_words("one ore", FAR + "base")
-    far["words"][-2:] = [FAR + "one", FAR + "ore"]
-    left = at("base", ONE_ORE_BLOCK)
-    yield Trial("paths and a base of 300 bytes", out=b"rows 1\n", left=left, **far)
+    for front in (FAR, "./" * 199 + "/", FARTHER):
+        far = compile_words("one ore", front + "base")
+        far["words"][-2:] = [front + "one", front + "ore"]
+        left = at("base", ONE_ORE_BLOCK)
+        name = f"paths and a base of {len(front)} bytes"
+        yield Trial(name, out=b"rows 1\n", left=left, **far)
     zones = " ".join(f"many{file}" for file in range(64))
     texts = plain_texts(*MANY)
     for words in ("--valuers 64 --capacity 1", "--valuers 1 --capacity 4096"):

@@ -6,8 +6,9 @@ others are counted by hand, or by a formula of their own.
 import itertools
 import math
 
-from rows.instance import arcs_of, plain_texts, plan_of, sections, unlisted
-from rows.trial import HEADER, Part, Trial, lines, piped, refused
+from rows.instance import arcs_of, at, plain_texts, plan_of, sections, unlisted
+from rows.trial import ANY, HEADER, Part, Trial, lines, piped, refused, zone_file
+from shared import ENDINGS, compile_words
 
 ONE = plan_of()
 
@@ -95,6 +96,21 @@ BOUNDARIES = [
     ((9_999, 9_999, 10_000), "1,1,9", "1 0 1, 3 4 5, 0 9 9", "1 1 1, 4 4 5, 10 0 9"),
     ((1, 1, 1), "1,1,9", "1 0 1, 3 4 5, 0 9 9", "1 1 1, 4 4 5, 10 0 9"),
     ((1, 2, 3), "1,1,9", "3 0 1, 0 1 1, 27 0 9, 0 13 9", "4 0 1, 0 2 1, 3 1 1, 28 0 9, 0 14 9"),
+    # reaches that are no whole number of millimetres or blocks: their squares count
+    ((1, 1, 1), "2,3,1", "0 0 1, 1 0 1, 0 1 1, 1 1 1", "2 0 1, 0 2 1, 2 1 1"),
+    (CUBES, "2,3,1", "1 1 1, 1 0 1", "2 0 1, 2 1 1, 0 2 1"),
+    (CUBES, "7,10,5", "1 1 1, 2 2 2, 3 3 3, 4 4 4, 5 5 5, 7 1 5, 4 1 3",
+     "2 1 1, 2 2 1, 7 2 5, 6 4 5, 4 2 3"),
+    ((3, 5, 7), "5,7,4", "3 0 1, 2 1 1, 6 1 2, 4 3 2, 10 5 4, 13 0 4",
+     "3 1 1, 0 2 1, 4 4 2, 13 1 4, 11 5 4"),
+    # squares of lengths that 32 bits take for less: 65,536 squared is none of them
+    ((1, 1_000, 65_536), "1,1,2", "5 0 1, 0 65 1, 5 65 1, 9999 0 1, 5 131 2",
+     "0 66 1, 5 66 1, 5 132 2"),
+    ((1_000, 1, 65_536), "1,1,2", "0 5 1, 65 0 1, 65 5 1, 131 5 2", "66 0 1, 66 5 1, 132 5 2"),
+    ((65_536, 65_536, 1), "1,1000,20", "0 0 1, 0 0 20", "1 0 20, 0 1 20, 1 1 20"),
+    ((65_536, 32_768, 65_536), "1,1,9", "1 0 1, 0 2 1, 3 8 5, 4 6 5", "1 1 1, 0 3 1, 3 9 5, 5 2 5"),
+    ((46_341, 46_341, 46_341), "1,1,9", "1 0 1, 3 4 5", "1 1 1, 4 4 5"),
+    ((92_682, 92_681, 92_682), "1,1,9", "1 0 1, 0 1 1, 3 4 5", "1 1 1, 4 4 5"),
     # one more or less of a rise or a run
     (CUBES, "1000,1000,5", "1 0 1, 3 4 5", "2 0 1, 4 4 5"),
     (CUBES, "1000,999,5", "0 0 1, 4 0 5", "1 0 1, 0 1 1, 3 4 5"),
@@ -263,6 +279,31 @@ def upwards(block, step, count):
     return " ".join(map(str, [block, count, *above])) + "|"
 
 
+# By hand, each block of a file of its own: cubes of a millimetre, a rise of 2 over a run of 3, and
+# the corner of the bench above; and blocks of 0.001, 1 and 65.536 m, 5 blocks along x.
+MILLIMETRES = "0.001,0.001,0.001"
+CORNERS = [
+    ("the corner of a bench", MILLIMETRES, "2,3,1", "0,0,0", MILLIMETRES, "0 1 1|1 0|"),
+    ("the corner, steeper", MILLIMETRES, "3,4,1", "0,0,0", MILLIMETRES, "0 0|1 0|"),
+    ("five blocks along x", "0.001,1,65.536", "1,1,1", "0,0,0", "0.005,0,65.536", "0 1 1|1 0|"),
+    ("five blocks along y", "1,0.001,65.536", "1,1,1", "0,0.005,0", "0,0,65.536", "0 1 1|1 0|"),
+]
+
+
+def by_compile():
+    """Two blocks, of which the upper one may be a predecessor, by both forms: one file, and two."""
+    for name, sizes, cone, low, high, prec in CORNERS:
+        plan, rows = plan_of(cones=[cone], grid=f"0,0,0,{sizes}"), [f"{low},1,0", f"{high},1,0"]
+        part = Part(lines(f"== prec|{prec}== upit|"))
+        yield Trial(f"by_compile: {name}", given=piped(plan, zone_file(*rows)), out=part)
+        plan = plan_of(cones=[cone, "1000,1,20"], grid=f"0,0,0,{sizes}")
+        files = {"plan": plan, "0": zone_file(rows[0]), "1": zone_file(rows[1])}
+        left = at("b", {**dict.fromkeys(ENDINGS, ANY), "prec": lines(prec)})
+        words = compile_words("plan", "b", ["0", "1"])
+        given = {"words": words, "files": files, "left": left}
+        yield Trial(f"by_compile: {name}, two files", out=b"rows 2\n", **given)
+
+
 def million_blocks():
     """A box of a million blocks."""
     places = itertools.product(range(25), range(200), range(200))
@@ -288,4 +329,5 @@ def trials():
     for seed, ((sizes, cones), box) in enumerate(models, FIRST_SEED):
         blocks = list(blocks_of(seed, *box))
         yield by_all_pairs(f"as_by_all_pairs: seed {seed}", sizes, cones, blocks)
+    yield from by_compile()
     yield million_blocks()

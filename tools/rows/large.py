@@ -139,4 +139,12 @@ def cpit():
     return model_file("CPIT", ("0 -1\n", COLUMNS, best), ("0 1 1\n", HEAVY, chosen))
 
 
-TEXTS = dict(zip(ENDINGS, map(Pieces, [blocks, prec, upit, pcpsp, cpit])))
+MADE = dict(zip(ENDINGS, [blocks, prec, upit, pcpsp, cpit]))
+TEXTS = {ending: Pieces(make) for ending, make in MADE.items()}
+
+
+def sections():
+    """The texts, each under its section line."""
+    for ending, make in MADE.items():
+        yield f"== {ending}\n".encode()
+        yield from make()

@@ -9,7 +9,8 @@ import itertools
 from rows.instance import (
     MILL, ONE_ORE_BLOCK, OTHER_ORE, WASTE, heading, instance, plan_of, sections,
 )
-from rows.trial import HEADER, MARK, Part, Trial, lines, piped, refused, zone_file
+from rows.trial import HEADER, MARK, Folder, Part, Trial, lines, piped, refused, zone_file
+from shared import compile_words
 
 LIMITED = plan_of(
     MILL + "dump,dump,200|",
@@ -35,6 +36,15 @@ ORE, ZERO = zone_file("0,0,0,1000,5000"), zone_file("0,0,0,1,0")
 NO_RESOURCE = "RESOURCE_CONSTRAINT_COEFFICIENTS:|RESOURCE_CONSTRAINT_LIMITS:|"
 ONE_COEFFICIENT = "RESOURCE_CONSTRAINT_COEFFICIENTS:|0 0 1|RESOURCE_CONSTRAINT_LIMITS:|"
 
+# Files with a column `zone`, which is none of the five, also where it has the number of another
+# zone; and a plan whose zones have each a K of its own.
+ZONE_COLUMNS = [
+    b"x,y,z,tonnes,grade,zone\n0,0,0,1,0,1\n",
+    b"zone,x,y,z,tonnes,grade\n0,10,0,0,1,0\n0,10,0,10,1,0\n",
+    b"Zone,x,y,z,tonnes,grade\n0,10,0,20,1,0\n1,0,0,20,1,0\n",
+]
+THREE_KS = plan_of("dump,dump,200|", ["1,1,1", "1,1,2", "1,1,3"])
+
 # A name, a plan, the one row of its zone file, and what is printed behind the line of an objective.
 WORTHS = [
     ("heap_leach_bands, at 2.5", LEACH, "0,0,0,1000,2.5", "0 111500|"),
@@ -51,6 +61,17 @@ PARTS = [
         "two_blocks_out_of_order",
         piped(WASTE, zone_file("10,0,0,1,0", "0,0,0,2,0")),
         "== blocks|0 0 0 0 2 0 0|1 1 0 0 1 0 0|== prec|",
+    ),
+    (
+        "a column zone: the number of the file is the zone",
+        piped(THREE_KS, *ZONE_COLUMNS),
+        "== blocks|0 0 0 0 1 0 0|1 1 0 0 1 0 1|2 1 0 1 1 0 1|3 0 0 2 1 0 2|4 1 0 2 1 0 2|"
+        "== prec|0 1 2|1 3 2 3 4|2 2 3 4|3 0|4 0|== upit|",
+    ),
+    (
+        "a column zone: the second of the same files",
+        piped(TWO, ZONE_COLUMNS[1], ZONE_COLUMNS[0]),
+        "== blocks|0 0 0 0 1 0 1|1 1 0 0 1 0 0|2 1 0 1 1 0 0|== prec|",
     ),
     (
         "cpit_destinations, the first of equals",
@@ -103,6 +124,37 @@ OPEN_QUOTES = [
     b'x,y,z,tonnes,grade,rock\n10,0,0,1,0,"b\n0,0,0,1,0,c',
 ]
 
+# Zone files that repeat a block, and the rows that are told: those of records, also behind blank
+# lines and line breaks in cells, of late rows, of many files; also where a number is spelled in
+# another way.
+FAR_ROWS = [f"{x % 100}0,{x // 100}0,0,1,0" for x in range(70_000)]
+REPEATED_ROWS = [
+    ("rows behind blank lines", "0.3 0.2", [HEADER + b"\n\n0,0,0,1,0\n\r\n\n0,0,0,1,0\n"]),
+    ("a row behind a blank line of file 1", "1.3 0.2", [
+        ORE, HEADER + b"\n10,0,0,1,0\n\n0,0,0,1,0\n"]),
+    ("rows behind line breaks in cells", "0.3 0.2", [
+        b'x,y,z,tonnes,grade,"ro\nck"\n0,0,0,1,0,"a\n\nb"\n0,0,0,1,0,"c\n"\n']),
+    ("late rows", "0.302 0.300", [
+        zone_file(*FAR_ROWS[:299], FAR_ROWS[400], FAR_ROWS[298], FAR_ROWS[0])]),
+    ("the second and the 258th row", "0.258 0.2", [zone_file(*FAR_ROWS[:256], FAR_ROWS[0])]),
+    ("the 65,538th row", "0.65538 0.2", [zone_file(*FAR_ROWS[:65_536], FAR_ROWS[0])]),
+    ("rows of file 10", "10.2 0.2", [
+        ORE, *(zone_file(f"{file}0,0,0,1,0") for file in range(1, 10)), ORE]),
+    ("rows of files 10 and 12", "12.3 10.2", [
+        *(zone_file(f"{file}0,0,0,1,0") for file in range(11)), HEADER,
+        zone_file("110,0,0,1,0", "100,0,0,1,0")]),
+    *(
+        (f"spelled in another way: {first} and {second}", "0.3 0.2", [zone_file(first, second)])
+        for first, second in [
+            ("0,0,0,1,0", "0.0,0,0,1,0"), ("0,0,0,1,0", "-0,+0,00,2,3"),
+            ("10,0,0,1,0", "010,0,0,1,0"),
+            ("0,10,0,1,0", "0,+10.,0,1,0"), ("0,0,10,1,0", "0,0,10.000000,1,0"),
+            ("0.,.0,0,1,0", "0,0,0.000,1,0"), ("10,20,30,1,0", "10.0,20.0,30.0,1,0"),
+        ]
+    ),
+    ("spelled in another way in file 1", "1.2 0.2", [ORE, zone_file("00.000,-0,+.0,7,7")]),
+]
+
 # Zone files, of which each letter is a row and each other letter another block, and the rows that
 # are told: the first that repeats another one, and the first of that block, each as FILE.ROW.
 REPETITIONS = """
@@ -144,6 +196,10 @@ CUTS = [
     ),
     ("hyphens behind a zone file", piped(ONE, ORE) + b"--", "settings: Files"),
     ("hyphens and CR behind it", piped(ONE, ORE) + b"--\r", "file 0 row 3 column whole: Width"),
+    ("a blank behind the hyphens at the end", ONE + b"-- ", "plan row 7: Key"),
+    ("a tab behind the hyphens at the end of a zone file", piped(ONE, ORE) + b"--\t",
+     "file 0 row 3 column whole: Width"),
+    ("a blank behind the hyphens, and a cut", ONE + b"-- \r\n--\n" + ORE, "plan row 7: Key"),
     ("three hyphens in a plan", ONE + b"---\n" + ORE, "plan row 7: Key"),
     ("four hyphens in a plan", ONE + b"----\n" + ORE, "plan row 7: Key"),
     ("three cuts in a row", THREE + b"--\n--\r\n--\n", "file 0 row 1 column x: MissingColumn"),
@@ -156,7 +212,22 @@ CUTS = [
         for name, line, fault in [
             ("hyphens at a line's end", "0,0,0,1,0--", "grade: Number"),
             ("hyphens at a line's front", "--0,0,0,1,0", "x: Number"),
-            *((f"the line {line!r}", line, "whole: Width") for line in ["-", "---", "-- ", " --"]),
+            *((f"the line {line!r}", line, "whole: Width") for line in [
+                "-", "---", "-- ", " --", "--\t", "\t--", "--  ", "- -", "__", "==", '"--"', "'--'",
+                '--""', "\u2013", "\u2014", "\u2013\u2013", "\u2212\u2212", "\u00ad\u00ad", "--#",
+                "--\0", "--\v", "--\u00a0", "--.", "-\u2010",
+            ]),
+            ("the line '--,,,,'", "--,,,,", "x: Number"),
+            ("the line '\"--\",,,,'", '"--",,,,', "x: Number"),
+            ("the line ',--'", ",--", "whole: Width"),
+        ]
+    ),
+    # the same where the plan ends
+    *(
+        (f"the line {line!r} in a plan", ONE + f"{line}\n".encode() + ORE, "plan row 7: Key")
+        for line in [
+            "-", "-- ", " --", "--\t", "--,,,,", '"--"', '"--",,', "'--'", "\u2013", "\u2014",
+            "\u2013\u2013", "\u2212\u2212", "- -", "==", "--\0", "--x",
         ]
     ),
 ]
@@ -186,7 +257,9 @@ def from_files():
     for name, text, line in FILES:
         yield refused(f"the pipe form: {name}", line, source="input", files={"input": text})
     yield refused("the pipe form: an empty input", "plan row 1: Missing", source="/dev/null")
-    yield refused("the pipe form: a folder as standard input", "input: FeedFailed", source=".")
+    name, line = "the pipe form: a folder as standard input", "input: FeedFailed"
+    yield refused(name, line, source=".")
+    yield refused(f"{name}, an empty one", line, source="folder", files={"folder": Folder()})
 
 
 def repetitions():
@@ -205,6 +278,18 @@ def repetitions():
             yield refused(name, line, given=piped(zones(len(files)), *pieces))
 
 
+def repeated_rows():
+    """By both forms."""
+    for name, rows, files in REPEATED_ROWS:
+        again, first = (place.split(".") for place in rows.split())
+        line = "file {} row {} repeats file {} row {}".format(*again, *first)
+        plan, names = zones(len(files)), [str(file) for file in range(len(files))]
+        yield refused(f"repeated_rows: {name}", line, given=piped(plan, *files))
+        given = {"plan": plan, **dict(zip(names, files))}
+        words = compile_words("plan", "b", names)
+        yield refused(f"repeated_rows: {name}, by compile", line, words=words, files=given)
+
+
 def many_pieces(count):
     """As many zone files as this, of a block each, from the last place to the first."""
     pieces = [zone_file(f"{10 * (count - file)},0,0,1,{file}") for file in range(count)]
@@ -214,26 +299,41 @@ def many_pieces(count):
     return Trial(f"pieces: {count}", given=piped(zones(count), *pieces), out=part)
 
 
-def many_coefficients(resources):
-    """1,000 blocks, of which each third has no tonnage. All resources cover the first destination,
-    and the first one covers both."""
+# The coefficients of many_coefficients for five blocks and two resources, by hand.
+COEFFICIENTS_BY_HAND = (
+    "1 0 0 1|1 0 1 1|1 1 0 1|2 0 0 2|2 0 1 2|2 1 0 2|4 0 0 4|4 0 1 4|4 1 0 4|",
+    "1 0 1|1 1 1|2 0 2|2 1 2|4 0 4|4 1 4|",
+)
+
+
+def coefficients_of(tonnes, resources):
+    """The coefficients of blocks of these tonnes at each of two destinations, and in a CPIT at the
+    first: all resources cover the first destination, and the first resource covers both."""
+    coefficients = chosen = ""
+    for block, mass in enumerate(tonnes):
+        if mass:
+            for number in range(resources):
+                coefficients += f"{block} 0 {number} {mass}|"
+                chosen += f"{block} {number} {mass}|"
+            coefficients += f"{block} 1 0 {mass}|"
+    return coefficients, chosen
+
+
+def many_coefficients(blocks, resources):
+    """Blocks of which each third has no tonnage."""
     more = "".join(f"resource,r{number},a|" for number in range(1, resources))
     rest = f"periods,1|rate,0.1|resource,r0,a,b|{more}"
-    tonnes = [block if block % 3 else 0 for block in range(1000)]
-    rows = [f"{10 * block},0,0,{tonnes[block]},0" for block in range(1000)]
-    coefficients = chosen = ""
-    for block in filter(None, tonnes):
-        for number in range(resources):
-            coefficients += f"{block} 0 {number} {block}|"
-            chosen += f"{block} {number} {block}|"
-        coefficients += f"{block} 1 0 {block}|"
-    worths = "".join(f"{block} 0|" for block in range(1000))
+    tonnes = [block if block % 3 else 0 for block in range(blocks)]
+    rows = [f"{10 * block},0,0,{tonnes[block]},0" for block in range(blocks)]
+    by_formula = coefficients_of(tonnes, resources)
+    coefficients, chosen = COEFFICIENTS_BY_HAND if blocks == 5 else by_formula
+    worths = "".join(f"{block} 0|" for block in range(blocks))
     part = (
         f"RESOURCE_CONSTRAINT_COEFFICIENTS:|{coefficients}RESOURCE_CONSTRAINT_LIMITS:|"
-        f"== cpit|{heading('CPIT', blocks=1000, resources=resources)}OBJECTIVE_FUNCTION:|{worths}"
+        f"== cpit|{heading('CPIT', blocks=blocks, resources=resources)}OBJECTIVE_FUNCTION:|{worths}"
         f"RESOURCE_CONSTRAINT_COEFFICIENTS:|{chosen}RESOURCE_CONSTRAINT_LIMITS:|"
     )
-    name = f"coefficients of 1,000 blocks, {resources + 1} each"
+    name = f"coefficients of {blocks} blocks, {resources + 1} each"
     given = piped(plan_of("dump,a,0|dump,b,0|", rest=rest), zone_file(*rows))
     return Trial(name, given=given, out=Part(lines(part)))
 
@@ -241,7 +341,10 @@ def many_coefficients(resources):
 def trials():
     yield from from_files()
     yield from repetitions()
-    yield from map(many_coefficients, (1, 2, 4))
+    yield from repeated_rows()
+    assert coefficients_of([0, 1, 2, 0, 4], 2) == COEFFICIENTS_BY_HAND
+    for blocks, resources in [(5, 2), (1000, 1), (1000, 2), (1000, 4)]:
+        yield many_coefficients(blocks, resources)
     yield from map(many_pieces, (4, 5, 8, 9, 16, 32, 63, 64))
     same = {"out": sections(ONE_ORE_BLOCK)}
     yield Trial("quoted_and_reordered", given=piped(ONE, OTHER_ORE), **same)

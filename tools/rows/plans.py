@@ -1,4 +1,4 @@
-"""Plans: which are taken, and the first faulty record of the others.
+"""Plans: which are taken, and the first faulty record of the others; some by `compile` too.
 
 The table written has what the texts show of what a plan states.
 """
@@ -6,7 +6,8 @@ import itertools
 
 from rows.cells import LETTERS, Cell, bytes_about_a_name, pairs_of_faults, quoted, with_cell
 from rows.instance import WASTE, plan_of
-from rows.trial import MARK, lines, refused
+from rows.trial import HEADER, MARK, lines, refused, short
+from shared import compile_words
 
 TAKEN = None
 
@@ -18,11 +19,17 @@ SIXTY_FOUR_ZONES = "zone,1,1,1|" * 64
 DESTINATIONS = ["dump,d,1", "mill,d,1,1,1", "leach,d,1,1,0,1"]
 EIGHT_DUMPS = "".join(f"dump,{name},1|" for name in "abcdefgh")
 EIGHT_RESOURCES = "dump,d,1|" + "".join(f"resource,{name},d|" for name in "abcdefgh")
-LIMITED = "periods,1|dump,d,1|resource,r,d|"
+ONE_RESOURCE = "dump,d,1|resource,r,d|"
+LIMITED = "periods,1|" + ONE_RESOURCE
+NAMED = "dump,one-way,1|resource,one-way,one-way|periods,1|"
 LIMITS = ["limit,r,0,L,2", "limit,r,0,G,2", "limit,r,0,I,2,3"]
 SIXTEEN_BANDS = "leach,h,1,1" + "".join(f",{start},0" for start in range(16))
 SIXTEEN_OF_THE_MILL = SIXTEEN_BANDS.replace("leach,h", "leach,mill")
 FIVE_HUNDRED_BANDS = "leach,h,1,1" + "".join(f",{start},0" for start in range(500))
+
+# Names of 64 bytes that differ in one, and such that are the front of others.
+LONG_NAMES = ["n" * at + "m" + "n" * (63 - at) for at in (0, 7, 8, 15, 16, 30, 31, 32, 62, 63)]
+FRONTS = ["n" * length for length in (1, 7, 8, 9, 31, 32, 63, 64)]
 
 # The cells of records, by docs/formats.md: what stands before the record, its key and its cells.
 # Numbers count millimetres, millionths or whole numbers.
@@ -139,10 +146,76 @@ FAULTS = [
     ("dump,d,1|", "Twice", "resource,q,d|resource,r,d|resource,q,d"),
     ("dump,d,1|dump,e,1|", "Twice", "resource,r,d,e,d", "resource,r,e,d,e"),
     (EIGHT_RESOURCES, "Missing", ""),
-    (EIGHT_RESOURCES, "TooMany", "resource,i,d"),
+    (EIGHT_RESOURCES, "TooMany", "resource,i,d", "resource,A,d", "resource,dd,d"),
     (EIGHT_RESOURCES, "Twice", "resource,a,d", "resource,i,d,d"),
     (EIGHT_RESOURCES, "Name", "resource,i,x"),
     (EIGHT_RESOURCES, "Width", "resource,i"),
+    # a name is told by all of its bytes, the case of letters among them
+    *(
+        (NAMED, "Name", f"resource,r,{other}", f"limit,{other},0,L,1")
+        for other in ["one", "one-", "one-wa", "one-ways", "one_way", "oneway", "One-way",
+                      "ONE-WAY", "one way", "way", "-way", "one.way"]
+    ),
+    ("dump,one-way,1|", "Missing", *(f"dump,{other},1" for other in [
+        "one", "one-", "one-wa", "one-ways", "one_way", "oneway", "One-way", "one.way"])),
+    ("dump,d,1|resource,r-1,d|", "Missing", *(f"resource,{other},d" for other in [
+        "r", "r-", "r-12", "r_1", "R-1", "r.1", "r1"])),
+    *(
+        ("".join(f"dump,{name},1|" for name in names), kind, *records)
+        for names in (LONG_NAMES[:8], FRONTS)
+        for kind, records in [
+            ("Missing", ["", *(f"resource,r,{name}" for name in names)]),
+            ("Missing", ["resource,r," + ",".join(names)]),
+            ("Name", [f"resource,r,{'n' * length}" for length in (2, 33, 62)]),
+            ("Twice", [f"resource,r,{name},{name}" for name in names]),
+            ("Twice", [f"dump,{name},1" for name in names]),
+        ]
+    ),
+    *(
+        ("dump,d,1|periods,1|" + "".join(f"resource,{name},d|" for name in names), kind, *records)
+        for names in (LONG_NAMES[:8], LONG_NAMES[2:], FRONTS)
+        for kind, records in [
+            ("Missing", ["", "|".join(f"limit,{name},0,L,1" for name in names)]),
+            ("Name", [f"limit,{'n' * length},0,L,1" for length in (2, 33, 62)]),
+            ("Twice", [f"resource,{name},d" for name in names]),
+        ]
+    ),
+    # two spellings of one number
+    *(
+        (f"{LIMITED}limit,r,{first},L,2|", "Twice", f"limit,r,{second},L,3",
+         f"limit,r,{second},I,1,2")
+        for first, second in [("0", "00"), ("0", "-0"), ("+0", "0"), ("0.0", "0"), ("0", "0."),
+                              ("000", ".0"), ("0", "+.000")]
+    ),
+    ("periods,100|" + ONE_RESOURCE + "limit,r,10,L,2|", "Twice", "limit,r,010,G,2",
+     "limit,r,10.0,L,2"),
+    ("periods,100|" + ONE_RESOURCE + "limit,r,010,L,2|", "Missing", "limit,r,8,L,2",
+     "limit,r,1,L,2"),
+    ("periods,100|" + ONE_RESOURCE + "limit,r,010,L,2|", "Twice", "limit,r,10,G,2",
+     "limit,r,+10.,I,2,2"),
+    ("periods,010|" + ONE_RESOURCE, "Missing", "limit,r,9,L,2", "limit,r,08,L,2",
+     "limit,r,9.0,L,2"),
+    ("periods,010|" + ONE_RESOURCE, "Range", "limit,r,10,L,2", "limit,r,010,L,2"),
+    ("periods,2.0|" + ONE_RESOURCE, "Missing", "limit,r,1,L,2"),
+    ("periods,2.0|" + ONE_RESOURCE, "Range", "limit,r,2,L,2", "limit,r,10,L,2", "limit,r,19,L,2"),
+    (LIMITED, "Missing", "limit,r,0,I,5,5.000000", "limit,r,0,I,05,5.", "limit,r,0,I,-0,0",
+     "limit,r,0,I,+.5,00.50"),
+    # ends of a limit that floating point takes for one number
+    (LIMITED, "Order", "limit,r,0,I,1000000000000,999999999999.999999",
+     "limit,r,0,I,999999999999.999999,999999999999.999998",
+     "limit,r,0,I,500000000000.000001,500000000000"),
+    (LIMITED, "Missing", "limit,r,0,I,999999999999.999999,1000000000000",
+     "limit,r,0,I,999999999999.999998,999999999999.999999"),
+    # more digits behind the point than any count of them holds
+    ("", "Missing", *(f"rate,0.1{'0' * zeros}" for zeros in (39, 64, 255, 1_003, 5_000))),
+    ("", "TooFine", f"rate,0.1{'0' * 1_500}1", f"periods,1.{'0' * 5_000}1"),
+    # what some programs take for numbers
+    ("", "Number", *(f"periods,{text}" for text in [
+        "(5)", "1 a", "<", "<1", "1-", "one", "-inf", "+.", "1y", "0x1", "1/1", "1d0"])),
+    ("", "Number", *(f"grid,0,0,0,{text},10,10" for text in [
+        "10 m", "10m", "(10)", "inf", "+.", "<10", "10'", "-inf"])),
+    ("", "Number", *(f"grid,{text},0,0,10,10,10" for text in ["0 m", "(0)", "-inf", "0'", "<0"])),
+    ("", "Number", *(f"rate,{text}" for text in ["8%", "8 %", "(0)", "+.", "1/10", "<1", "-inf"])),
     # limits name earlier resources and periods
     ("", "Name", "limit,nope,x,L,1"),
     (LIMITED, "Name", "limit,d,0,L,1", "limit,R,0,L,1"),
@@ -176,6 +249,9 @@ FAULTS = [
     ("dump,d,1|", "Name", "resource,r,*", "resource,r,all", "resource,r,d d", "resource,r,d,r"),
     ("dump,d,1|resource,r,d|", "Name", "resource,s,r", "dump,*,1", "limit,d,0,L,1"),
     ("dump,d,1|resource,r,d|", "Name", "limit,*,0,L,1", "limit,,0,L,1", "limit,r r,0,L,1"),
+    # what stands between quotes is taken as it is but for blanks; a comma behind a backslash is one
+    ("", "Width", "name,one\\,two", "rate,0\\,1"),
+    ("", "Name", "name,one\\", "name,one\x0b", "name,\x85one", "name,one\x1c", 'name,"one\x0c"'),
     # quoted cells
     ("", "Name", '"name" ,"o""e"', 'name,"o,e"', "name,'one'", "name,one\u00a0", "name,on\u00e9"),
     ("", "Name", "name,one\u2009", "name,\u2009one", "name,o\u200bne", "name,\ufeffone"),
@@ -225,6 +301,10 @@ PLANS = [
 LAST_RECORDS = [
     (TAKEN, "leach,h,1,1,2,300,2.000001,400", SIXTEEN_BANDS),
     ("Order", "leach,h,1,1,2,300,2,400", "leach,h,1,1,2,300,1.999999,400"),
+    ("Order", "leach,h,1,1,2,300,2.0,400", "leach,h,1,1,2.0,300,2,400", "leach,h,1,1,2,300,02,400",
+     "leach,h,1,1,0,300,-0,400", "leach,h,1,1,.5,300,0.5,400", "leach,h,1,1,+2.,300,2.000000,400"),
+    (TAKEN, "leach,h,1,1,9,300,010,400", "leach,h,1,1,2.0,300,2.000001,400",
+     "leach,h,1,1,-0,1,.1,2"),
     ("Order", SIXTEEN_BANDS + ",15,0"),
     ("Order", SIXTEEN_BANDS + ",16,0,16,0", SIXTEEN_BANDS + ",14,0,17,0"),
     ("Order", FIVE_HUNDRED_BANDS + ",498,0"),
@@ -241,6 +321,7 @@ LAST_RECORDS = [
     ("Twice", "leach,mill,1,1,2,300,2,400", "MILL,mill,1,1,1"),
     ("Twice", SIXTEEN_OF_THE_MILL + ",16,0", SIXTEEN_OF_THE_MILL + ",15,0"),
     ("TooMany", SIXTEEN_BANDS + ",16,0", SIXTEEN_BANDS + ",16,0,17,0", FIVE_HUNDRED_BANDS),
+    ("TooMany", "leach,h,1,1" + "".join(f",{start}.5,{start}" for start in range(100, 117))),
 ]
 
 
@@ -266,6 +347,9 @@ BANDS = [
 # name. Records past the 10,000th are not looked at, and empty records count.
 EMPTY, TOO_MANY = b",\n", "row 10001: TooMany"
 
+# Of the plan's bytes no row is told.
+TOO_LONG = "TooLong"
+
 MARKED = [
     ("marks_and_nothing: one", MARK + WASTE, TAKEN),
     ("marks_and_nothing: two", MARK + MARK + WASTE, "row 1: Key"),
@@ -274,6 +358,18 @@ MARKED = [
     ("marks_and_nothing: a mark and a blank line", MARK + b"\r\n" + WASTE, TAKEN),
     ("marks_and_nothing: nothing", b"", "row 1: Missing"),
     ("marks_and_nothing: a mark alone", MARK, "row 1: Missing"),
+]
+
+# As many bytes as a plan may have.
+MOST = 1_048_576
+
+LENGTHS = [
+    ("as many as there may be", WASTE.ljust(MOST, b"\n"), TAKEN),
+    ("as many, of which three are a mark", MARK + WASTE.ljust(MOST - 3, b"\n"), TAKEN),
+    ("one more", WASTE.ljust(MOST + 1, b"\n"), TOO_LONG),
+    ("one more, of which three are a mark", MARK + WASTE.ljust(MOST - 2, b"\n"), TOO_LONG),
+    ("three more, the mark", MARK + WASTE.ljust(MOST, b"\n"), TOO_LONG),
+    ("one more, a faulty record", b"pit\n".ljust(MOST + 1, b","), TOO_LONG),
 ]
 
 MANY = [
@@ -290,7 +386,21 @@ MANY = [
 
 def told(name, plan, answer):
     """A plan without a zone file: it is refused, or taken, and then a zone file is lacking."""
-    return refused(name, "settings: Files" if answer is TAKEN else "plan " + answer, given=plan)
+    return refused(short(name), line_of(answer), given=plan)
+
+
+def line_of(answer):
+    """The line of a plan's fault, or that a zone file is lacking."""
+    if answer is TAKEN:
+        return "settings: Files"
+    return "plan: TooLong" if answer is TOO_LONG else "plan " + answer
+
+
+def told_by_compile(name, plan, answer):
+    """The same by `compile`, which is given a zone file too many."""
+    files = {"plan": plan, "zone": HEADER}
+    words = compile_words("plan", "b", ["zone"] * (plan.lower().count(b"zone,") + 1))
+    return refused(short(name) + ", by compile", line_of(answer), words=words, files=files)
 
 
 def last_told(name, before, key, cells, kind=None):
@@ -414,11 +524,17 @@ def trials():
             yield told(f"plan_table: {plan}", lines(plan), f"row {row}: {kind}")
     for plan, answer in PLANS:
         yield told(f"plan_table: {plan}", lines(plan), answer)
+        yield told_by_compile(f"plan_table: {plan}", lines(plan), answer)
     yield from of_the_mill("mills_and_leaches", "", LAST_RECORDS)
     yield from of_the_mill("bands_that_are_refused", "leach,h,1,1,", BANDS)
     yield from records_twice()
     yield from long_records()
     for name, plan, answer in MARKED:
         yield told(name, plan, answer)
+        yield told_by_compile(name, plan, answer)
     for name, plan, answer in MANY:
         yield told(f"ten_thousand_records: {name}", plan, answer)
+        yield told_by_compile(f"ten_thousand_records: {name}", plan, answer)
+    for name, plan, answer in LENGTHS:
+        yield told(f"bytes_of_a_plan: {name}", plan, answer)
+        yield told_by_compile(f"bytes_of_a_plan: {name}", plan, answer)

@@ -9,7 +9,7 @@ import tempfile
 
 from rows import instance, large
 from rows.instance import arcs_of, at, plain_texts, sections, unlisted
-from rows.trial import HEADER, Trial, piped, refused
+from rows.trial import HEADER, MARK, Pieces, Trial, piped, refused
 from shared import CHECKED, ENDINGS, compile_words
 
 ONE_AT_A_TIME = True
@@ -96,7 +96,8 @@ def long_inputs():
     for size in (150_000_000, MOST):
         text = piped(ONE, head).ljust(size - len(end), b"b") + end
         yield Trial(f"input of {size} bytes", given=text, out=sections(TWO_BLOCKS))
-        files = {"plan": ONE, "z": head.ljust(size - len(end), b"b") + end}
+        mark = MARK if size == MOST else b""
+        files = {"plan": ONE, "z": (mark + head).ljust(size - len(end), b"b") + end}
         name, left = f"zone file of {size} bytes", at("b", TWO_BLOCKS)
         yield Trial(name, words=compiles("z"), files=files, out=b"rows 2\n", left=left)
 
@@ -110,12 +111,18 @@ def too_long():
     files = {**OLDER, "plan": TWO, "ore": rows(bench(0, 1, 1)), "long": files["input"]}
     words = compiles("ore", "long")
     yield refused("a zone file that is too long", "file 1: TooLong", words=words, files=files)
+    files["long"] = MARK + bytes(MOST - 2)
+    name = "a zone file that is too long, of which three bytes are a mark"
+    yield refused(name, "file 1: TooLong", words=words, files=files)
     files["ore"] = HEADER + b"0,0,0,1,?\n"
     line = "file 0 row 2 column grade: Number"
     yield refused("a faulty file before one that is too long", line, words=words, files=files)
     name, words = "a file that is too long before a faulty one", compiles("long", "ore")
     yield refused(name, "file 0: TooLong", words=words, files=files)
-    files = at("b", {**ONE_BLOCK, "blocks": files["long"]})
+    marked = (MARK + b"x,y,z,tonnes,grade\n").ljust(MOST + 1, b"\n")
+    name, files = "a file of blank lines, one byte too long", {"plan": ONE, "long": marked}
+    yield refused(name, "file 0: TooLong", words=compiles("long"), files=files)
+    files = at("b", {**ONE_BLOCK, "blocks": bytes(MOST + 1)})
     name = "a block file longer than a zone file may be"
     yield refused(name, "blocks line 1: Fields", words=["check", "b"], files=files)
 
@@ -130,10 +137,16 @@ def long_files():
 
 
 def five_million_blocks():
-    """A model beyond each count at which a list might be taken for full: its texts, and what
-    `check` counts of them."""
+    """A model beyond each count at which a list might be taken for full: its texts by both forms,
+    and what `check` counts of them."""
     files = {f"zone{number}": text for number, text in enumerate(large.zones())}
-    return Trial(
+    yield Trial(
+        "five million blocks, by the pipe form",
+        source="input",
+        files={"input": piped(large.PLAN, *files.values())},
+        out=Pieces(large.sections),
+    )
+    yield Trial(
         "five million blocks",
         files={"plan": large.PLAN, **files},
         before=[compiles(*files)],
@@ -150,7 +163,7 @@ def many_words():
     left = at("b", plain_texts(*files.values()))
     name = "sixty_four_files by as many valuers as are not asked for"
     yield Trial(name, words=compiles(*names), files=files, out=b"rows 64\n", left=left)
-    for count in (90, 300):
+    for count in (90, 300, 450):
         words = compiles(*(names[zone % 64] for zone in range(count)))
         name = f"{count} zone files for 64 zones"
         yield refused(name, "settings: Files", words=words, files=files)
@@ -162,7 +175,7 @@ def trials():
     folder = tempfile.gettempdir()
     if shutil.disk_usage(folder).free < ROOM:
         sys.exit(f"tools/rows/sizes.py: less than {ROOM} bytes are free in {folder}; set TMPDIR")
-    yield five_million_blocks()
+    yield from five_million_blocks()
     yield from many_words()
     yield from million_rows()
     yield two_files()

@@ -8,7 +8,7 @@ from rows.cells import (
     BLANKS, EVERY_BYTE, LETTERS, Cell, bytes_about_a_name, pairs_of_faults, with_cell,
 )
 from rows.instance import LIMITED_TEXTS, NO_BLOCK, ONE_ORE_BLOCK, at, heading
-from rows.trial import MARK, Trial, lines, refused
+from rows.trial import MARK, Trial, lines, refused, short
 from shared import CHECKED, header
 
 
@@ -181,6 +181,22 @@ FAULTS_OF_A_PCPSP = [
     ("LIMITS+2", "Order", "0 1 I 901 900", "0 0 G 1", "0 0 I 1 2", "0 0 I 2 1", "0 0 L 500.5"),
     ("LIMITS+3", "Order", before("LIMITS+3", "0 1 I 0 900"), before("LIMITS+3", "0 0 L 1"),
      before("LIMITS+3", "0 1 L 1")),
+    ("LIMITS+1", "Order", "0 0 I 1000000000000 999999999999.999999",
+     "0 0 I 999999999999999999.999999 999999999999999999.999998",
+     "0 0 I -999999999999.999999 -1000000000000"),
+    # no remark behind a field or a value
+    ("NAME", "Fields", "NAME: one % x", "NAME: one %x", "NAME: one\t% x"),
+    ("TYPE", "Fields", "TYPE: PCPSP % x"),
+    ("RATE", "Fields", "DISCOUNT_RATE: 0.1 % x"),
+    ("OBJECTIVE", "Fields", "OBJECTIVE_FUNCTION: % x"),
+    ("OBJECTIVE+1", "Fields", "0 12000 -2000 %", "0 12000 -2000 % x", "0 12000 % 5 5"),
+    ("OBJECTIVE+1", "Number", "0 12000 %", "0 % -2000", "0 12000 -2000%"),
+    ("COEFFICIENTS+1", "Fields", "0 0 0 1000 % x", "0 0 0 1000 %"),
+    ("COEFFICIENTS+1", "Number", "0 0 0 %"),
+    ("LIMITS+1", "Fields", "0 0 L 500.5 % x", "0 0 L 500.5 %", "0 0 L % 1"),
+    # another number of fields before a line that is not the next
+    ("OBJECTIVE+2", "Fields", "0 12000", "0 12000 -2000 5", "0 12000 -2000 5 5", "0", "5"),
+    ("OBJECTIVE+2", "Order", "0 12000 -2000", "00 12000 -2000", "-0 1 1"),
     ("LIMITS+3", "Key", before("LIMITS+3", "EOF:"), before("LIMITS+3", "OBJECTIVE_FUNCTION:")),
     ("LIMITS+3", "Fields", before("LIMITS+3", "EOF"), before("LIMITS+3", "0 1 I")),
 ]
@@ -199,6 +215,7 @@ FAULTS_OF_ONE_ORE_BLOCK = [
      before("COEFFICIENTS", "1 ?")),
     ("COEFFICIENTS", "Order", before("COEFFICIENTS", "0 0")),
     ("LIMITS+1", "Range", before("LIMITS+1", "0 0 L 1"), before("LIMITS+1", "0 0 I 2 1")),
+    ("COEFFICIENTS", "Fields", before("COEFFICIENTS", "0 12000 5"), before("COEFFICIENTS", "0")),
     ("LIMITS+1", "Fields", before("LIMITS+1", "0 0 I 1"), before("LIMITS+1", "EOF")),
 ]
 
@@ -242,6 +259,15 @@ FAULTS_OF_A_CPIT = [
      Change("OBJECTIVE-1", 2, ["0 12000"])),
     ("OBJECTIVE-1", "Missing", without("RATE")),
     ("OBJECTIVE+1", "Fields", "0 12000 0", "0"),
+    ("OBJECTIVE+2", "Fields", "0 12000 5", "0 12000 5 5", "0", "5"),
+    ("OBJECTIVE+2", "Order", "0 12000", "00 5"),
+    ("NAME", "Fields", "NAME: one % x"),
+    ("TYPE", "Fields", "TYPE: CPIT % x"),
+    ("OBJECTIVE+1", "Fields", "0 12000 % x", "0 12000 %"),
+    ("OBJECTIVE+1", "Number", "0 %"),
+    ("COEFFICIENTS+1", "Fields", "0 0 1000 % x"),
+    ("LIMITS+1", "Fields", "0 0 L 500.5 % x"),
+    ("LIMITS+1", "Order", "0 0 I 1000000000000 999999999999.999999"),
     ("OBJECTIVE+1", "Key", "0:12000", "0 12000:", "NAME: one"),
     ("OBJECTIVE+2", "Missing", without("OBJECTIVE+2")),
     ("OBJECTIVE+2", "Fields", Change("OBJECTIVE+2", 2, ["RESOURCE_CONSTRAINT_COEFFICIENTS: 1"])),
@@ -296,6 +322,15 @@ FAULTS_OF_BLOCKS = [
     ("blocks line 1: TooFine", b"0 0 0 0 1000.0001 5000 0"),
     ("blocks line 1: Number", b"0 0 0 0 1000 1e3 0", b"0 x 0 0 1000.0001 5000 64"),
     ("prec line 1: Range", b"% none\n \t\n"),
+    ("blocks line 1: Fields", b"0 0 0 0 1000 5000 0 % x", b"0 0 0 0 1000 5000 % 0 0"),
+    ("blocks line 1: Number", b"0 0 0 0 1000 5000 %"),
+    ("blocks line 2: Order", b"0 0 0 0 1 0 0\n00 0 0 0 1 0 0\n",
+     b"0 0 0 0 1 0 0\n+0 0 0 0 1 0 0\n"),
+    # lines that are skipped are counted
+    ("blocks line 5: Fields", b"\n\n\n\nx\n", b"%\n \n\t\n\r\nx\n"),
+    ("blocks line 257: Fields", b"\n" * 256 + b"x\n", b"% x\n" * 256 + b"0 0\n"),
+    ("blocks line 65537: Fields", b"\n" * 65_536 + b"x\n"),
+    ("blocks line 300: Fields", b"\n" * 299 + b"x"),
 ]
 
 FAULTS_OF_PRECEDENCES = [
@@ -317,6 +352,20 @@ FAULTS_OF_PRECEDENCES = [
     ("prec line 3: Order", b"0 1 1\n1 0\n0 0\n"),
     ("prec line 3: Fields", b"0 1 1\n1 0\n1\n", b"0 1 1\n1 0\nEOF\n"),
     ("prec line 1: Range", b"0 18446744073709551616\n1 0\n"),
+    # no remark behind a field, and a mark only at the front
+    ("prec line 1: Number", b"0 0 % none\n1 0\n", b"0 1 1 %\n1 0\n", b"0 1 1% x\n1 0\n"),
+    ("prec line 2: Number", b"0 1 1\n1 0 %\n", b"0 1 1\n1 0 % x\n", b"0 1 1\n1 0%\n"),
+    ("prec line 2: Number", b"\n" + MARK + b"0 1 1\n1 0\n", b"% x\n" + MARK + b"0 1 1\n1 0\n"),
+    ("prec line 3: Number", b" \n\n" + MARK + b" 0 1 1\n1 0\n", b"0 1 1\n\n" + MARK + b"1 0\n"),
+    # two spellings of one number
+    ("prec line 1: Twice", b"0 1 00\n1 0\n", b"00 1 0\n1 0\n", b"0 1 -0\n1 0\n"),
+    ("prec line 2: Twice", b"0 1 1\n1 1 01\n", b"0 1 1\n01 1 1\n", b"0 1 1\n1. 01 +1\n"),
+    ("prec line 2: Order", b"0 1 1\n00 0\n", b"0 0\n-0 1 1\n"),
+    # lines that are skipped are counted
+    ("prec line 5: Fields", b"\n\n\n\nx\n1 0\n", b"% 1\n\n% 2\n \n0\n"),
+    ("prec line 257: Range", b"\n" * 256 + b"0 2\n1 0\n", b"%\n" * 256 + b"0 1 2\n1 0\n"),
+    ("prec line 258: Missing", b"\n" * 256 + b"0 1 1\n"),
+    ("prec line 65539: Missing", b"0 1 1\n" + b"%\n" * 65_537),
 ]
 
 # The same of one block.
@@ -327,6 +376,10 @@ HOSTILE_BLOCKS = [
 
 HOSTILE_PRECEDENCES = [
     ("prec line 1: Missing", b""),
+    ("prec line 1: Number", b"0 0 % none\n"),
+    ("prec line 2: Number", b"\n" + MARK + b"0 0\n"),
+    ("prec line 5: Fields", b"\n\n\n\nx"),
+    ("prec line 1: Range", b"0 01\n", b"0 1 00\n"),
     ("prec line 1: Range", b"0 1 0\n", b"0 18446744073709551616\n", b"0 -1\n"),
 ]
 
@@ -363,6 +416,8 @@ LINES_OF_TEN = [
     ("TooFine", "0 2 1.5"),
     ("Twice", "0 2 1 0", "0 2 0 1", "0 3 1 0 2", "0 2 1 1", "0 3 1 2 1", "0 3 1 1 2"),
     ("Twice", "0 3 2 1 1", "0 9 1 2 3 4 5 6 7 8 1"),
+    ("Twice", "0 2 1 01", "0 2 1. 1", "0 3 2 1 02.0", "0 3 9 8 +9", "0 9 1 2 3 4 5 6 7 8 08",
+     "0 1 00", "+0 2 1 -0", "0 3 5 0.0 1"),
     (None, "0 9 1 2 3 4 5 6 7 8 9", "0 9 9 8 7 6 5 4 3 2 1", "0 3 5 1 3", "-0 +1 09.00"),
 ]
 
@@ -374,6 +429,8 @@ TEXTS_OF_NO_BLOCK = [
     (MARK, MARK, "pcpsp line 1: Missing"),
     (b"", MARK + b"\n", "pcpsp line 2: Missing"),
     (b"", MARK + MARK, "pcpsp line 1: Key"),
+    (b"\n" * 255 + b"x", b"", "prec line 256: Fields"),
+    (b"% none\n\n0 0 % none\n", NO_PCPSP, "prec line 3: Range"),
 ]
 
 # Lines that are skipped, and others, which have one field or none of their own, and no colon.
@@ -400,6 +457,37 @@ EDGE_PCPSP = lines(
     "RESOURCE_CONSTRAINT_COEFFICIENTS:|0 0 7 -1|2 0 0 0|"
     "RESOURCE_CONSTRAINT_LIMITS:|0 99 G -5|7 0 I -2 -2|"
 )
+
+
+# Numbers in spellings that other programs take for others, as 010 for 8.
+ELEVEN = ["0.", "+1", "02", "3.0", "004.000", "+05", "6.", "07", "08", "9." + "0" * 1_100, "010"]
+ELEVEN_BLOCKS = lines("".join(f"{number} {number} 0 0 08 .5 00.0|" for number in ELEVEN))
+ABOVE = {7: "1. 02", 9: "02.0 +8. 010"}
+ELEVEN_PREC = lines("".join(
+    f"{number} {ABOVE.get(block, '-0')}|" for block, number in enumerate(ELEVEN)
+))
+ELEVEN_PCPSP = lines(
+    heading("PCPSP", blocks="0011", periods="010", destinations="2.0", resources="+02", rate=".5") +
+    "OBJECTIVE_FUNCTION:|" + "".join(f"{number} 08 -.5|" for number in ELEVEN) +
+    "RESOURCE_CONSTRAINT_COEFFICIENTS:|08 1. +1 5|9. 00 0 5|010 -0 0.0 5|"
+    "RESOURCE_CONSTRAINT_LIMITS:|00 08 L 5|-0 9.0 I 05 5.00|1 +009 G 1|"
+)
+ELEVEN_CPIT = lines(
+    heading("CPIT", blocks="11.", periods="010", resources="02", rate="+0.50") +
+    "OBJECTIVE_FUNCTION:|" + "".join(f"{number} 1|" for number in ELEVEN) +
+    "RESOURCE_CONSTRAINT_COEFFICIENTS:|09 1 5|010 0 5|RESOURCE_CONSTRAINT_LIMITS:|0 9 L 5|"
+)
+
+
+def many_predecessors(count):
+    """A block below so many others."""
+    blocks = "".join(f"{block} 0 0 0 1 0 0\n" for block in range(count + 1))
+    above = " ".join(map(str, [0, count, *range(1, count + 1)]))
+    prec = above + "\n" + "".join(f"{block} 0\n" for block in range(1, count + 1))
+    pcpsp = header("PCPSP", blocks=count + 1) + ["OBJECTIVE_FUNCTION:"]
+    pcpsp += [f"{block} 0" for block in range(count + 1)]
+    pcpsp += ["RESOURCE_CONSTRAINT_COEFFICIENTS:", "RESOURCE_CONSTRAINT_LIMITS:"]
+    return blocks.encode(), prec.encode(), whole(pcpsp)
 
 
 def with_pcpsp(text):
@@ -442,6 +530,17 @@ TAKEN = [
             ("COEFFICIENTS+1", "1 0 1"), ("LIMITS+1", "0 0 G 1"), ("LIMITS+2", "0 1 L 5"),
         ]
     ),
+    # a CPIT has its own periods and resources
+    ("cpit_beside_pcpsp: more of each", with_cpit(
+        ["NPERIODS: 3" if line == "NPERIODS: 2" else line for line in put(
+            "NRESOURCE_SIDE_CONSTRAINTS", "NRESOURCE_SIDE_CONSTRAINTS: 2").of(CPIT)]
+        + ["0 2 L 5", "1 0 L 5", "1 2 I 5 5"]), "blocks 2 arcs 1 coefficients 1 limits 2 cpit 1"),
+    ("spelled_numbers: eleven blocks", (ELEVEN_BLOCKS, ELEVEN_PREC, ELEVEN_PCPSP, ELEVEN_CPIT),
+     "blocks 11 arcs 3 coefficients 3 limits 3 cpit 2"),
+    ("many_predecessors: 8,192", many_predecessors(8_192),
+     "blocks 8193 arcs 8192 coefficients 0 limits 0"),
+    ("many_predecessors: 70,000", many_predecessors(70_000),
+     "blocks 70001 arcs 70000 coefficients 0 limits 0"),
     ("cpit_beside_pcpsp: fewer periods", with_cpit(put("NPERIODS", "NPERIODS: 1").of(
         cut_before("LIMITS+2").of(CPIT))), TWO_BLOCKS + " cpit 1"),
 ]
@@ -451,7 +550,7 @@ def answered(name, texts, place, kind, counts=""):
     """Texts that are refused at a place, such as `prec line 2`, or without a kind taken, with these
     counts."""
     files = at("b", dict(zip(CHECKED, texts)))
-    run = {"words": ["check", "b"], "files": files}
+    name, run = short(name), {"words": ["check", "b"], "files": files}
     if kind:
         return refused(name, f"{place}: {kind}", **run)
     return Trial(name, out=lines(counts + "|"), **run)
@@ -835,7 +934,90 @@ def blocks_and_precedences():
         yield faulty(f"texts_of_no_block: {prec}, {pcpsp[:20]}", (MARK, prec, pcpsp), line)
 
 
+# Lines below a section of a model file without a block or a resource: no number is in range there.
+LINES_OF_NOTHING = [
+    ("pcpsp", NO_PCPSP, "OBJECTIVE+1", "0 5", "5 0"),
+    ("pcpsp", NO_PCPSP, "COEFFICIENTS+1", "5 0 0 1", "0 0 0 1", "0 5 5 5"),
+    ("pcpsp", NO_PCPSP, "LIMITS+1", "0 0 L 5", "0 0 I 5 4", "5 0 G 1"),
+    ("cpit", NO_CPIT, "OBJECTIVE+1", "0 5", "5 0"),
+    ("cpit", NO_CPIT, "COEFFICIENTS+1", "0 0 1", "0 3 1", "5 0 0"),
+    ("cpit", NO_CPIT, "LIMITS+1", "0 0 L 5", "0 0 I 5 4", "5 0 G 1"),
+]
+
+
+def lines_of_nothing():
+    """Lines whose first field has no number in range, and others that have a fault before it; then
+    lines of a CPIT that would be in range of the PCPSP beside it."""
+    for file, good, line, *items in LINES_OF_NOTHING:
+        first = items[0]
+        others = {"x" + first[1:]: "Number", "0": "Fields", first + " 5 5": "Fields",
+                  "0.5" + first[1:]: "TooFine", "-" + first: "Range"}
+        for other, kind in {**dict.fromkeys(items, "Range"), **others}.items():
+            place = f"{file} line {number_of(lines_of(good), line)}"
+            text = whole(before(line, other).of(lines_of(good)))
+            texts = (b"", b"", text) if file == "pcpsp" else (b"", b"", NO_PCPSP, text)
+            yield answered(f"lines_of_nothing: {file} {line}: {other}", texts, place, kind)
+    # beside a PCPSP of two periods and two resources
+    two = whole(put("NRESOURCE_SIDE_CONSTRAINTS", "NRESOURCE_SIDE_CONSTRAINTS: 2").of(PCPSP))
+    no_resource = put("NRESOURCE_SIDE_CONSTRAINTS", "NRESOURCE_SIDE_CONSTRAINTS: 0").of(CPIT)
+    one_period = put("NPERIODS", "NPERIODS: 1").of(CPIT)
+    for name, good, line, other in [
+        ("one resource", CPIT, "COEFFICIENTS+1", "0 1 1"),
+        ("one resource", CPIT, "LIMITS+1", "1 0 L 5"),
+        ("no resource", no_resource, "COEFFICIENTS+1", "0 3 1"),
+        ("no resource", no_resource, "COEFFICIENTS+1", "0 0 1"),
+        ("no resource", without("COEFFICIENTS+1").of(no_resource), "LIMITS+1", "0 0 L 5"),
+        ("one period", one_period, "LIMITS+1", "0 1 L 5"),
+        ("one period", one_period, "LIMITS+1", "0 1 I 5 4"),
+    ]:
+        place, texts = number_of(good, line), whole(put(line, other).of(good))
+        name = f"cpit_beside_pcpsp: {name}: {line}: {other}"
+        yield faulty(name, (BLOCKS, PREC, two, texts), f"cpit line {place}: Range")
+
+
+# Items of a section whose places are one, spelled in two ways.
+SAME_PLACES = [
+    ("pcpsp", "COEFFICIENTS", ["0 0 0", "00 0 0", "0 -0 0", "0 0 +0", "0. 0.0 00"], " 1"),
+    ("pcpsp", "COEFFICIENTS", ["1 1 1", "01 1 1", "1 1. 1", "1 1 +1", "1.0 01 1.00"], " 1"),
+    ("pcpsp", "LIMITS", ["0 1", "00 1", "0 01", "-0 1.0"], " L 1"),
+    ("cpit", "COEFFICIENTS", ["1 0", "01 0", "1 00", "+1 -0"], " 1"),
+    ("cpit", "LIMITS", ["1 1", "01 1", "1 1.", "+1 01"], " G 1"),
+]
+
+
+def same_places():
+    """Two lines for one place: they do not rise, whatever their spelling."""
+    two = put("NRESOURCE_SIDE_CONSTRAINTS", "NRESOURCE_SIDE_CONSTRAINTS: 2")
+    for file, key, spellings, tail in SAME_PLACES:
+        good, texts_of = (PCPSP, with_pcpsp) if file == "pcpsp" else (CPIT, with_cpit)
+        good = two.of(good)
+        count = 1 if key == "COEFFICIENTS" else 2
+        for other in spellings[1:]:
+            for pair in (spellings[0], other), (other, spellings[0]):
+                items = Change(f"{key}+1", count, [place + tail for place in pair])
+                line = f"{file} line {number_of(good, key) + 2}: Order"
+                name = f"same_places: {file} {key}: {pair[0]}, {pair[1]}"
+                yield faulty(name, texts_of(items.of(good)), line)
+
+
+def late_lines():
+    """Faulty lines behind so many that are skipped, of each text."""
+    texts = [BLOCKS, PREC, whole(PCPSP), whole(CPIT)]
+    for (number, file), count in itertools.product(enumerate(CHECKED), (4, 255, 256, 257, 65_536)):
+        text, kind = texts[number], "Fields" if number < 2 else "Key"
+        for skipped in (b"\n", b"% x\n"):
+            changed = [*texts[:number], skipped * count + b"x\n" + text, *texts[number + 1 :]]
+            name = f"late_lines: {file}, {count} {skipped!r}"
+            yield faulty(name, changed, f"{file} line {count + 1}: {kind}")
+        changed = [*texts[:number], text + b"\n" * count + b"x\n", *texts[number + 1 :]]
+        name, place = f"late_lines: {count} behind {file}", len(text.splitlines()) + count + 1
+        yield faulty(name, changed, f"{file} line {place}: Fields")
+
+
 def trials():
+    yield from lines_of_nothing()
+    yield from same_places()
+    yield from late_lines()
     yield from lines_of_blocks()
     yield from model_files()
     yield from bytes_of_lines()

@@ -1,6 +1,7 @@
 """A run of pitc, and what it has to answer and to leave."""
 import hashlib
 import os
+import zlib
 from typing import Callable, Iterable, Mapping, NamedTuple, Sequence, Union
 
 HEADER = b"x,y,z,tonnes,grade\n"
@@ -147,6 +148,13 @@ def difference(name, found, wanted):
 def shown(content):
     """A content, cut where it is long."""
     return repr(content if len(content) <= 200 else content[:200] + b"..")
+
+
+def short(name):
+    """The name of a row; where it is long, its ends, its length and its checksum."""
+    if len(name) <= 160:
+        return name
+    return f"{name[:80]} .. {name[-40:]}, {len(name)} letters, {zlib.crc32(name.encode()):08x}"
 
 
 def lines(text):

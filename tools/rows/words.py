@@ -13,6 +13,45 @@ TAKEN = [
     "compile --plan one.plan --out base --valuers +5 --capacity 007 ore.csv",
     "compile --plan one.plan --out base --valuers 00064 --capacity 0000004096 ore.csv",
     "compile --capacity 1 --valuers 1 --out base --plan one.plan ore.csv",
+    "compile --plan one.plan --out=base --capacity +5 ore.csv",
+    "compile --plan one.plan --out base --valuers +64 --capacity +0004096 -- ore.csv",
+    "compile --plan=one.plan --out base --valuers=+1 --capacity=+1 ore.csv",
+    "compile --plan one.plan --out base ore.csv --",
+    "compile --plan one.plan --valuers 2 --out base ore.csv --",
+    "compile --out base --plan one.plan -- ore.csv",
+]
+
+# Bases of runs, taken as they are spelled, and the words that name them.
+BASES = [
+    ("", ["--out", ""]), ("", ["--out="]), ("-b", ["--out=-b"]), ("--plan", ["--out=--plan"]),
+    ("-", ["--out", "-"]), ("b=c", ["--out=b=c"]), ("b.blocks", ["--out=b.blocks"]),
+    ("B.PREC", ["--out", "B.PREC"]), ("compile", ["--out", "compile"]), (" ", ["--out", " "]),
+]
+
+# Checks of a base behind other words.
+CHECKED_BASES = [
+    ("base", ["check", "--", "base"]), ("base", ["check", "base", "--"]),
+    ("-b", ["check", "--", "-b"]), ("--help", ["check", "--", "--help"]), ("", ["check", ""]),
+    ("-", ["check", "-"]), ("-", ["check", "--", "-"]), ("check", ["check", "check"]),
+    ("b=c", ["check", "b=c"]),
+]
+
+# Words that are taken, and what is refused behind them. A plan is looked at before its zone files.
+ONE, BASE = ["--plan", "one.plan"], ["--out", "base"]
+TOLD = [
+    ("plan: FeedFailed", ["compile", "--plan", "", *BASE, "ore.csv"]),
+    ("plan: FeedFailed", ["compile", "--plan=", *BASE, "ore.csv"]),
+    ("plan: FeedFailed", ["compile", "--plan=-p", *BASE, "ore.csv"]),
+    ("plan: FeedFailed", ["compile", "--plan", "-", *BASE, "ore.csv"]),
+    ("plan: FeedFailed", ["compile", "--plan", "no", *BASE, "--valuers", "64", "ore.csv"]),
+    ("plan: FeedFailed", ["compile", "--plan", "no", *BASE, "--capacity", "+4096", "no"]),
+    ("file 0: FeedFailed", ["compile", *ONE, *BASE, "--", "--"]),
+    ("file 1: FeedFailed", ["compile", *ONE, *BASE, "ore.csv", "--", "--help"]),
+    ("file 0: FeedFailed", ["compile", *ONE, *BASE, "--", "-h", "ore.csv"]),
+    ("file 1: FeedFailed", ["compile", *ONE, *BASE, "ore.csv", "-", "ore.csv"]),
+    ("blocks: FeedFailed", ["check", "--", "--"]),
+    ("blocks: FeedFailed", ["check", "--", "--version"]),
+    ("blocks: FeedFailed", ["check", "help"]), ("blocks: FeedFailed", ["check", "BASE"]),
 ]
 
 ABOUT = "Turns the block models of an open pit mine into a MineLib instance."
@@ -37,6 +76,11 @@ SHOWN = [
     ("help check", ABOUT_CHECK),
     ("check base --help", ABOUT_CHECK),
     ("help compile", "[default: 4]"),
+    ("-h", ABOUT), ("compile -h", ABOUT_COMPILE), ("check -h", ABOUT_CHECK),
+    ("check -h base", ABOUT_CHECK),
+    ("-V", "pitc "), ("--help compile", ABOUT), ("--version check", "pitc "),
+    ("compile --plan one.plan --help", ABOUT_COMPILE), ("compile ore.csv -h", ABOUT_COMPILE),
+    ("compile --plan one.plan --out base ore.csv --help", ABOUT_COMPILE),
 ]
 
 # The words that are refused by a text of their own.
@@ -75,6 +119,64 @@ REFUSED = [
     "compile --plan one.plan --out base ore.csv --valuers 4 --valuers 4",
     "compile --plan one.plan --out base --out base ore.csv",
     "check base --valuers 4",
+    # no front of a word, no other letters, no other hyphens
+    *(
+        f"compile {plan} one.plan {out} base {more} ore.csv".replace("  ", " ")
+        for plan, out, more in [
+            *((plan, "--out", "") for plan in [
+                "--pla", "--p", "-p", "-plan", "--PLAN", "--Plan", "plan", "---plan", "--plans",
+                "\u2013plan", "/plan",
+            ]),
+            *(("--plan", out, "") for out in ["--ou", "-o", "-out", "--OUT", "--output"]),
+            *(("--plan", "--out", more) for more in [
+                "--val 4", "--v 4", "-v 4", "-v4", "--valuer 4", "--VALUERS 4", "--threads 4",
+                "-j4", "--cap 4", "-c 4", "--Capacity 4", "--valuers:4", "--version", "-q",
+                "--help=1", "--capacity 5 --capacity 6", "--capacity 5 --capacity 5",
+                "--capacity=5 --valuers 2 --capacity 6", "--valuers=1 --valuers=2",
+            ]),
+        ]
+    ),
+    "COMPILE --plan one.plan --out base ore.csv",
+    "Compile --plan one.plan --out base ore.csv",
+    "comp --plan one.plan --out base ore.csv",
+    "c --plan one.plan --out base ore.csv",
+    "compiles --plan one.plan --out base ore.csv",
+    "--compile --plan one.plan --out base ore.csv",
+    "--plan one.plan --out base compile ore.csv",
+    "--plan one.plan --out base ore.csv",
+    *(f"{word} base" for word in [
+        "CHECK", "Check", "chec", "ch", "c", "checks", "--check", "-c", "-check"]),
+    "-", "--", "-- check base", "- check base", "-- compile", "--HELP", "-H", "--hel", "-elp",
+    "--Version", "-v", "version", "help nope", "help nope check", "help check nope", "help base",
+    "help --nope", "HELP", "hel", "h",
+    # a value that looks like an option is none, but behind `=`
+    "compile --plan one.plan --out -b ore.csv",
+    "compile --plan one.plan --out --base ore.csv",
+    "compile --plan -p --out base ore.csv",
+    "compile --plan --out base ore.csv",
+    "compile --plan one.plan --out -- ore.csv",
+    "compile --plan one.plan --out base --valuers -- ore.csv",
+    "compile --plan one.plan --out base -x ore.csv",
+    "compile --plan one.plan --out base ore.csv -x",
+    "compile --plan one.plan --out base -1",
+    "check -b",
+    "check --base",
+    "check -1",
+    "check -- base more",
+    "check base -- more",
+    "check --",
+    "compile --plan one.plan --out base --",
+    # the words are looked at before the plan, and the first that is wrong before a later help
+    "compile --nope --help",
+    "compile --plan one.plan --nope --help",
+    "compile --valuers 65 --help",
+    "check --nope --help",
+    "--nope --help",
+    "nope --help",
+    "compile --plan no/such.plan --out base --valuers 65 ore.csv",
+    "compile --plan no/such.plan --out base --capacity 0 no/such.csv",
+    "compile --plan ore.csv --out base ore.csv --valuers 0",
+    "compile --plan one.plan --out no/such/base ore.csv --capacity 4097",
     "compile --plan one.plan --out base --valuers 1 2 ore.csv --capacity",
 ]
 
@@ -88,7 +190,25 @@ REFUSED_WHOLE = [
 NOT_UTF8 = [b"\xFF", b"check \xFF", b"compile --plan one.plan --out base \xFF"]
 
 
+# The files that runs of other bases begin with.
+FEW = {"one.plan": PLAN, "ore.csv": ORE}
+
+
+def of_bases():
+    """Bases of any spelling, the empty one too."""
+    for base, named in BASES:
+        words = ["compile", *ONE, *named, "ore.csv"]
+        given = {"words": words, "files": FEW, "out": b"rows 1\n"}
+        yield Trial(f"of_bases: {words}", left=at(base, ONE_ORE_BLOCK), **given)
+    for base, words in CHECKED_BASES:
+        files, counts = at(base, ONE_ORE_BLOCK), b"blocks 1 arcs 0 coefficients 0 limits 0 cpit 0\n"
+        yield Trial(f"of_bases: {words}", words=words, files=files, out=counts)
+    for line, words in TOLD:
+        yield refused(f"words that are taken: {words}", line, words=words, files=FEW)
+
+
 def trials():
+    yield from of_bases()
     for words in TAKEN:
         left = at("base", ONE_ORE_BLOCK)
         yield Trial(words, words=words.split(), files=FILES, out=b"rows 1\n", left=left)

@@ -4,9 +4,9 @@ What is not written out here follows by a formula of its own, or by the plain co
 """
 import itertools
 
-from rows.cells import spelled
+from rows.cells import CUT, Cell, shortest, spelled, unusual, with_cell
 from rows.instance import arcs_of, heading, plain_texts, plan_of, sections
-from rows.trial import HEADER, Parts, Trial, lines, piped, zone_file
+from rows.trial import HEADER, Parts, Trial, lines, piped, short, zone_file
 
 
 def small(destinations, rest="periods,1|rate,0|", name="n", grid="0,0,0,1,1,1"):
@@ -107,6 +107,48 @@ SHOWN = [
         "1 1 I 0.5 0.5|1 2 I 0 0|== cpit|",
         "COEFFICIENTS:|0 1 1|0 2 1|RESOURCE",
     ),
+    # limits are of the plan: they stand also where no block has a tonnage that counts for them
+    (
+        "limits_without_tonnage",
+        small("dump,d,1|dump,e,1|", "periods,2|rate,0|resource,r,d|resource,s,e|limit,s,1,G,5.0|"
+              "limit,r,0,L,-0|limit,r,1,I,+.0,05.50|"),
+        b"0,0,0,0,5\n1,0,0,0.000,0\n",
+        "OBJECTIVE_FUNCTION:|0 0 0|1 0 0|RESOURCE_CONSTRAINT_COEFFICIENTS:|"
+        "RESOURCE_CONSTRAINT_LIMITS:|0 0 L 0|0 1 I 0 5.5|1 1 G 5|== cpit|",
+        "OBJECTIVE_FUNCTION:|0 0|1 0|RESOURCE_CONSTRAINT_COEFFICIENTS:|RESOURCE_CONSTRAINT_LIMITS:|"
+        "0 0 L 0|0 1 I 0 5.5|1 1 G 5|",
+    ),
+    (
+        "limits_without_a_block",
+        small("dump,d,1|", "periods,010|rate,.50|resource,r,d|limit,r,09,I,00.5,1.|"
+              "limit,r,2.0,L,7|"),
+        b"",
+        "NPERIODS: 10|NDESTINATIONS: 1|NRESOURCE_SIDE_CONSTRAINTS: 1|NGENERAL_SIDE_CONSTRAINTS: 0|"
+        "DISCOUNT_RATE: 0.5|OBJECTIVE_FUNCTION:|RESOURCE_CONSTRAINT_COEFFICIENTS:|"
+        "RESOURCE_CONSTRAINT_LIMITS:|0 2 L 7|0 9 I 0.5 1|== cpit|",
+        "NPERIODS: 10|NRESOURCE_SIDE_CONSTRAINTS: 1|DISCOUNT_RATE: 0.5|OBJECTIVE_FUNCTION:|"
+        "RESOURCE_CONSTRAINT_COEFFICIENTS:|RESOURCE_CONSTRAINT_LIMITS:|0 2 L 7|0 9 I 0.5 1|",
+    ),
+    # a resource that has coefficients in the PCPSP alone, since the dump is best
+    (
+        "limits_of_a_resource_without_coefficients",
+        small("mill,m,0,0,5|dump,d,1|", "periods,1|rate,0|resource,r,m|limit,r,0,L,7|"),
+        b"0,0,0,1,0\n",
+        "OBJECTIVE_FUNCTION:|0 -0.05 -0.01|RESOURCE_CONSTRAINT_COEFFICIENTS:|0 0 0 1|"
+        "RESOURCE_CONSTRAINT_LIMITS:|0 0 L 7|== cpit|",
+        "OBJECTIVE_FUNCTION:|0 -0.01|RESOURCE_CONSTRAINT_COEFFICIENTS:|RESOURCE_CONSTRAINT_LIMITS:|"
+        "0 0 L 7|",
+    ),
+    # narrow_worths by hand: a kilogram costs a cent on the dump and brings two at the mill
+    (
+        "narrow_worths_by_hand",
+        small("dump,d,1000|mill,m,1000,2,0|"),
+        b"0,0,0,0.001,1000000\n1,0,0,0.255,1000000\n2,0,0,0.256,1000000\n3,0,0,0.257,1000000\n"
+        b"4,0,0,65.535,1000000\n5,0,0,65.536,1000000\n6,0,0,1000000,1000000\n",
+        "OBJECTIVE_FUNCTION:|0 -0.01 0.02|1 -2.55 5.1|2 -2.56 5.12|3 -2.57 5.14|4 -655.35 1310.7|"
+        "5 -655.36 1310.72|6 -10000000 20000000|RESOURCE",
+        "OBJECTIVE_FUNCTION:|0 0.02|1 5.1|2 5.12|3 5.14|4 1310.7|5 1310.72|6 20000000|",
+    ),
     # 0.001 t that hold 0.001 g: 0.6 cents less 0.5, and 0.6 less 0.7; floors taken apart give -1
     (
         "one_floor_of_the_difference",
@@ -121,6 +163,26 @@ SHOWN = [
         b"0,0,0,1,1000000\n1,0,0,0.001,1000000\n",
         "OBJECTIVE_FUNCTION:|0 -15 -15 -15|1 -0.02 -0.02 -0.02|RESOURCE",
     ),
+]
+
+# A plan of which one number at a time is spelled in another way, by its place in the record: the
+# texts stay those of its shortest spelling. Each number changes the texts.
+SPELLED_PLAN = [
+    "name,n", "grid,0,0,0,1,1,1", "zone,10,9,10,9,9,10,9,10,10", "mill,m,10,10000000,10",
+    "dump,d,10", "leach,l,10000000,10,0.5,10,2,20", "periods,12", "rate,0.1", "resource,r,m,l",
+    "resource,s,d", "limit,r,10,L,10", "limit,s,9,I,10,11",
+]
+
+# The key of the record, the places of its cells behind the key, and the decimals and numbers that
+# these are given.
+SPELLED = [
+    ("grid", (0, 1, 2), 3, (0, 10_000, *CUT[3])), ("grid", (3, 4, 5), 3, (10_000, *CUT[3])),
+    ("zone", range(8), 0, (10, 12)), ("zone", (8,), 0, (10,)), ("mill", (1, 2, 3), 0, (10,)),
+    ("dump", (1,), 0, (10,)), ("leach", (1, 2, 4, 6), 0, (10,)),
+    ("leach", (3,), 6, (0, 249, 983)), ("leach", (5,), 6, (10**7, 1_000_249)),
+    ("periods", (0,), 0, (12, 100)), ("rate", (0,), 6, (0, 10**6, 249, 983)),
+    ("limit,r", (0,), 0, (10,)), ("limit,r", (2,), 6, (0, 10**7, *CUT[6])),
+    ("limit,s", (2,), 6, (0, 5 * 10**6, *CUT[6])), ("limit,s", (3,), 6, (11 * 10**6, 10**7 + 249)),
 ]
 
 # Destinations whose worths differ only before they are rounded down: the first one is chosen.
@@ -211,6 +273,61 @@ def narrow_worths():
         yield shows(f"narrow_worths: {name}", small(destination), lines(row), part)
 
 
+def of_spelled_plan(key, place, text):
+    """The plan with this text in the place of a cell of its first record with this key."""
+    records = [record.split(",") for record in SPELLED_PLAN]
+    cells = next(cells for cells in records if ",".join(cells).startswith(key + ","))
+    cells[key.count(",") + 1 + place] = text
+    return lines("".join(",".join(cells) + "|" for cells in records))
+
+
+# Grades about those where bands begin.
+STARTS = (249, 983, 500_000, 1_000_249, 2_000_000, 10**7)
+GRADES = [start + more for start in STARTS for more in (-1, 0, 1)]
+
+
+def blocks_about(origin, size):
+    """A zone file of blocks about a column, each of other tonnes and grade, from this place on and
+    of this size in millimetres."""
+    box, column = itertools.product(range(3), range(3), range(2)), ((1, 1, z) for z in range(2, 13))
+    rows = []
+    cells = zip(range(900_000, 10**6), itertools.cycle(GRADES), [*box, *column])
+    for tonnes, grade, indices in cells:
+        metres = (shortest(a + b * c, 3) for a, b, c in zip(origin, indices, size))
+        rows.append(",".join([*metres, str(tonnes), shortest(grade, 6)]))
+    return zone_file(*rows)
+
+
+def spellings_of_a_plan():
+    """Each number of a plan in each unusual spelling."""
+    for key, places, decimals, numbers in SPELLED:
+        for place, number in itertools.product(places, numbers):
+            grid = [0, 0, 0, 1_000, 1_000, 1_000]
+            if key == "grid":
+                grid[place] = number
+            usual = of_spelled_plan(key, place, shortest(number, decimals))
+            zone = blocks_about(grid[:3], grid[3:])
+            texts = sections(plain_texts(usual, zone))
+            for text in unusual(number, decimals):
+                given = piped(of_spelled_plan(key, place, text), zone)
+                name = f"spellings_of_a_plan: {key}, cell {place + 1}: {text}"
+                yield Trial(short(name), given=given, out=texts)
+
+
+def spellings_of_rows():
+    """Each number of a row of a zone file in each unusual spelling."""
+    plan = small("mill,m,1000,1000000,10|", grid="0,0,0,0.001,0.001,0.001")
+    usual = ["0.01", "0.01", "0.01", "10", "10"]
+    for place, decimals in enumerate([3, 3, 3, 3, 6]):
+        for number in (0, 8 * 10 ** (decimals - 2), 10**decimals, *CUT[decimals]):
+            good = with_cell(map(Cell, usual), place, shortest(number, decimals))
+            texts = sections(plain_texts(plan, zone_file(",".join(good))))
+            for text in unusual(number, decimals):
+                row = ",".join(with_cell(map(Cell, usual), place, text))
+                name = f"spellings_of_rows: cell {place + 1}: {text}"
+                yield Trial(short(name), given=piped(plan, zone_file(row)), out=texts)
+
+
 def destinations_in_order():
     """A mill, a leach and a dump in each order, which their values, coefficients and the numbers of
     a CPIT's choice follow; then as many dumps as there may be, of which each in turn is best."""
@@ -275,19 +392,38 @@ def numbers_and_names():
         yield shows(f"rates_as_written: {rate}", plan, b"", *(part + "OBJECTIVE" for part in parts))
 
 
+# The limits of all_limits for two resources and three periods, by hand: those of the plan in their
+# order there, and those of the texts.
+LIMITS_OF_A_PLAN = (
+    "limit,a,2,L,1.5|limit,a,1,I,0,1.5|limit,a,0,G,1.5|"
+    "limit,b,2,I,0,2.5|limit,b,1,G,0.5|limit,b,0,L,0.5|"
+)
+LIMITS_BY_HAND = "0 0 L 0.5|0 1 G 0.5|0 2 I 0 2.5|1 0 G 1.5|1 1 I 0 1.5|1 2 L 1.5|"
+
+
+def limits_of(resources, periods):
+    """A limit of each resource in each period, with each letter in turn: those of a plan, the last
+    ones first, and those of the texts."""
+    names, of_plan, written = "hgfedcba"[-resources:], [], []
+    for number, period in itertools.product(range(resources), range(periods)):
+        letter = "LGI"[(number + period) % 3]
+        ends = ["0", f"{period}.5"] if letter == "I" else [f"{number}.5"]
+        of_plan.append(",".join(["limit", names[number], str(period), letter, *ends]) + "|")
+        written.append(" ".join([str(number), str(period), letter, *ends]) + "|")
+    return "".join(reversed(of_plan)), "".join(written)
+
+
 def all_limits():
-    """A limit of each resource in each period, the last ones first: each letter in turn."""
-    resources = "".join(f"resource,{name},d|" for name in "hgfedcba")
-    places = list(itertools.product(range(8), range(100)))
-    kinds = [f"{'LGI'[(a + b) % 3]},{a}.5" + f",{b}.5" * ((a + b) % 3 == 2) for a, b in places]
-    kinds = [kind if "I" not in kind else "I,0," + kind.split(",")[2] for kind in kinds]
-    limits = [f"limit,{'hgfedcba'[a]},{b},{kind}|" for (a, b), kind in zip(places, kinds)]
-    plan = small("dump,d,1|", f"periods,100|rate,0|{resources}{''.join(reversed(limits))}")
-    written = "".join(
-        f"{a} {b} {kind.replace(',', ' ')}|" for (a, b), kind in zip(places, kinds)
-    )
-    part = f"RESOURCE_CONSTRAINT_LIMITS:|{written}"
-    yield shows("all_limits", plan, ONE_BLOCK, part + "== cpit|", part)
+    """A limit of each of eight resources in each of a hundred periods."""
+    assert limits_of(2, 3) == (LIMITS_OF_A_PLAN, LIMITS_BY_HAND)
+    for count, periods, of_plan, written in [
+        (2, 3, LIMITS_OF_A_PLAN, LIMITS_BY_HAND), (8, 100, *limits_of(8, 100)),
+    ]:
+        resources = "".join(f"resource,{name},d|" for name in "hgfedcba"[-count:])
+        plan = small("dump,d,1|", f"periods,{periods}|rate,0|{resources}{of_plan}")
+        part = f"RESOURCE_CONSTRAINT_LIMITS:|{written}"
+        name = "all_limits" if count == 8 else "all_limits, a few by hand"
+        yield shows(name, plan, ONE_BLOCK, part + "== cpit|", part)
     counts = "blocks 1 arcs 0 coefficients 8 limits 800 cpit 8"
     yield arcs_of("all_limits, checked", counts, plan, HEADER + ONE_BLOCK)
 
@@ -305,6 +441,8 @@ def trials():
     yield at_every_edge("the greatest start", [(10**6, 300), (2_500_000, 450), (10**12, 0)])
     yield at_every_edge("the least start", [(0, 1000)])
     yield from narrow_worths()
+    yield from spellings_of_a_plan()
+    yield from spellings_of_rows()
     yield from destinations_in_order()
     yield from equal_worths()
     yield from numbers_and_names()

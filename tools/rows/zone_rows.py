@@ -1,12 +1,13 @@
 """Zone files by the pipe form: their records, headers and cells, the edges of the grid, and the
-most rows."""
+most rows; then the same as the second file of two, by `compile` too."""
 import itertools
 
 from rows.cells import (
     BLANKS, EVERY_BYTE, Cell, pairs_of_faults, quoted, shortest, with_cell,
 )
-from rows.instance import OTHER_ORE, WASTE, plan_of
-from rows.trial import HEADER, MARK, Part, Trial, lines, piped, refused
+from rows.instance import OTHER_ORE, WASTE, at, plan_of
+from rows.trial import ANY, HEADER, MARK, Part, Trial, lines, piped, refused
+from shared import ENDINGS, compile_words
 
 # Blocks are cubes of a millimetre, the first of them at this place in millimetres.
 FIRST = (-5000, 0, 7)
@@ -44,7 +45,8 @@ HEADERS = [
     ("x: MissingColumn", "'x',y,z,tonnes,grade"),
     ("x: MissingColumn", "\u00a0x,y,z,tonnes,grade", "x\u00a0,y,z,tonnes,grade"),
     ("x: TwiceColumn", "x, x,y,z,tonnes,grade", "x,y,z,tonnes,grade,X,X"),
-    ("grade: TwiceColumn", "x,y,z,tonnes,grade,grade\t"),
+    ("grade: TwiceColumn", "x,y,z,tonnes,grade,grade\t", "x,y,z,tonnes,GRADE,Grade"),
+    ("tonnes: MissingColumn", "X,Y,Z,GRADE", "zone,X,Y,Z,TONNE,Grade"),
     ("tonnes: TwiceColumn", "tonnes,y,z,Tonnes,x,grade"),
     ("x: MissingColumn", "0,0,0,1,0", "x;y;z;tonnes;grade", "x\ty\tz\ttonnes\tgrade", " ,,,,"),
 ]
@@ -101,6 +103,29 @@ ROWS = {
             ]),
         ),
         ("row 2 column tonnes: Number", b"0,0,0,'1',0", b"0,0,0,'1,0'"),
+        # what some programs take for numbers
+        (
+            "row 2 column tonnes: Number",
+            *(b"0,0,0," + text + b",0" for text in [
+                b"(5)", b"( 5 )", b"5-", b"0 m", b"0m", b"1 kt", b"-inf", b"-Infinity", b"<", b">1",
+                b"<1", b"~1", b"$1", b"1%", b"1/2", b"1:2", b"1e", b"1d0", b"0b1", b"true", b"-",
+                b"+.", b"-.", b"++1", b"+-1", b"1+", b"1..", b".1.",
+            ]),
+        ),
+        ("row 2 column x: Number", b"(0),0,0,1,0", b"0 m,0,0,1,0", b"-inf,0,0,1,0", b"<0,0,0,1,0"),
+        ("row 2 column grade: Number", b"0,0,0,1,(1)", b"0,0,0,1,1 g/t", b"0,0,0,1,<0.01",
+         b"0,0,0,1,+.", b"0,0,0,1,<", b"0,0,0,1,-inf"),
+        ("0 0 0 0 5 7 0|", b"0,0,0,+5.,7.", b"+.0,-.0,-0.,5.,+7", b"00,-00,+00,005.000,07.0"),
+        # more zeros behind the point than any count of digits holds
+        (
+            "0 0 0 0 5 7 0|",
+            *(b"0,0,0,5." + b"0" * zeros + b",7"
+              for zeros in (39, 40, 64, 255, 300, 1_003, 70_000)),
+            b"0.%s,0,0,5,7.%s" % (b"0" * 1_500, b"0" * 2_000),
+        ),
+        ("row 2 column tonnes: TooFine", b"0,0,0,5." + b"0" * 1_500 + b"1,7"),
+        ("row 2 column grade: TooFine", b"0,0,0,5,7." + b"0" * 5_000 + b"1"),
+        ("0 0 0 0 5 7.25 0|", b"0,0,0,5,7.25" + b"0" * 40, b"0,0,0,5,7.25" + b"0" * 5_000),
         ("row 2 column whole: Width", b"0,0,0,1,000,0", b"0;0;0;1;0", b"0\t0\t0\t1\t0"),
         ("row 2 column x: Range", b"1" + b"0" * 100 + b",0,0,1,0"),
         ("row 2 column x: TooFine", b"1" + b"0" * 100 + b".0001,0,0,1,0"),
@@ -122,6 +147,15 @@ ORDER_IN_A_CELL = [
     ("OffGrid", "99999.999", "99990.001", "0.001", "5"),
 ]
 
+# Blocks of 100 m: a coordinate is off the grid by a millimetre, whatever part of a block that is.
+HUNDREDS = plan_of("dump,dump,200|", name="waste", grid="0,0,0,100,100,100")
+ABOUT_HUNDREDS = [
+    ("0.001", "OffGrid"), ("99.999", "OffGrid"), ("100", "1"), ("100.001", "OffGrid"),
+    ("999899.999", "OffGrid"), ("999900", "9999"), ("999900.001", "OffGrid"),
+    ("999999.999", "OffGrid"), ("1000000", "Range"), ("-0.001", "Range"), ("0.0001", "TooFine"),
+    ("100.0000001", "TooFine"),
+]
+
 # The lines of one block and of two.
 ONE, TWO = "0 0 0 0 1 2 0|", "0 0 0 0 1 2 0|1 1 0 0 3 4 0|"
 
@@ -139,6 +173,8 @@ RECORDS_OF_TEXTS = [
     (b'x,y,z,"b""bb",tonnes,"c,c",grade\n0,0,0,"b""bb",1,"c,c",2', ONE),
     (b'x,y,z,tonnes,grade,rock\n0,0,0,1,2,"a"",b"\n10,0,0,3,4,",""\n"""\n', TWO),
     (b'"a"",b",x,y,z,tonnes,grade\n-,0,0,0,1,2\n', ONE),
+    (b'rock,x,y,z,tonnes,grade\n"b""",0,0,0,1,2\n"""b",10,0,0,3,4\n', TWO),
+    (b'x,"""","y",z,tonnes,grade\n0,"""""",0,0,1,2\n10,"","0",0,3,4', TWO),
     (b'"x\n",y,z,tonnes,grade\n', NO_X),
     (b'"x""",y,z,tonnes,grade\n', NO_X),
     (HEADER + b'0,0,0,"1,",2\n', "row 2 column tonnes: Number"),
@@ -146,12 +182,37 @@ RECORDS_OF_TEXTS = [
     (b"x,y,z,rock,tonnes,grade\n0,0,0,'a,b',1,2\n", "row 2 column whole: Width"),
     (b"x,y,z,rock,tonnes,grade\n0,0,0,'a',1,2\n10,0,0,`b`,3,4\n", TWO),
     (b"x,y,z,tonnes,grade,rock\n0,0,0,1,2,'b\n10,0,0,3,4,d'\n", TWO),
+    # what some programs take for the end of a line, or for a blank one, is a byte of its cell
+    *(
+        (b"x,y,z,tonnes,grade,rock\n0,0,0,1,2,a%sb\n10,0,0,3,4,%s\n" % (byte, byte), TWO)
+        for byte in [b"\v", b"\f", b"\x1C", b"\x1D", b"\x1E", b"\x1F", b"\x85", b"\xC2\x85",
+                     b"\xE2\x80\xA8", b"\x1A", b"\0"]
+    ),
+    (b"rock,x,y,z,tonnes,grade\na\vb,0,0,0,1,2\n\x85,10,0,0,3,4\n", TWO),
+    (HEADER + b"0,0,0,1,2\v10,0,0,3,4\n", "row 2 column whole: Width"),
+    (HEADER + b"0,0,0,1,2\n\f\n", "row 3 column whole: Width"),
+    # a comma behind a backslash is a comma
+    (b"x,y,z,tonnes,grade,rock\n0,0,0,1,2,a\\,b\n", "row 2 column whole: Width"),
+    (b"rock,x,y,z,tonnes,grade\na\\,0,0,0,1,2\n", ONE),
+    (b"x\\,y,z,tonnes,grade\n0,0,0,1,2\n", NO_X),
     # what stands before the header is the header
     (b"x and y\n" + HEADER + b"0,0,0,1,2\n", NO_X),
     (b"# the model of May\n" + HEADER, NO_X),
     (b",,,,\n" + HEADER, NO_X),
     (b'""\n' + HEADER, NO_X),
     (HEADER + HEADER + b"0,0,0,1,2\n", "row 2 column x: Number"),
+    (HEADER + b"0,0,0,1,2\n" + HEADER + b"10,0,0,3,4\n", "row 3 column x: Number"),
+    (HEADER + b"0,0,0,1,2\n10,0,0,3,4\n" + HEADER, "row 4 column x: Number"),
+    (b"rock,x,y,z,tonnes,grade\na,0,0,0,1,2\nrock,x,y,z,tonnes,grade\n", "row 3 column x: Number"),
+    # rows are counted, and not lines, behind blank lines and behind line breaks in cells
+    (HEADER + b"\n\n0,0,0,1,2\n\n10,0,0,3,x\n", "row 3 column grade: Number"),
+    (b'x,y,z,tonnes,grade,rock\n0,0,0,1,2,"a\nb"\n10,0,0,x,4,c\n', "row 3 column tonnes: Number"),
+    (b'"ro\r\nck\n",x,y,z,tonnes,grade\n"\n\n",0,0,0,1,2\n,10,5,0,3,4', "row 3 column y: OffGrid"),
+    (b'x,y,z,tonnes,grade,rock\n0,0,0,1,2,"\r\r"\r"10\n",0,0,3,4,c', "row 3 column x: Number"),
+    # a column is told by its own name, however the header spells it
+    (b"X,Y,Z,TONNES,Grade\n0,0,0,1,?\n", "row 2 column grade: Number"),
+    (b"X,Y,Z,Tonnes,GRADE\n0,0,0,-1,?\n", "row 2 column tonnes: Range"),
+    (b" X\t,Y,Z,TONNES,GRADE\n5,0,0,1,2\n", "row 2 column x: OffGrid"),
     # records of other lengths, and blank lines, which are none
     (HEADER + b"0,0,0,1,2\n10,0,0,3,4,5", "row 3 column whole: Width"),
     (HEADER + b"\n0,0,0,1,2\n\r\n\r10,0,0,3", "row 3 column whole: Width"),
@@ -165,6 +226,8 @@ RECORDS_OF_TEXTS = [
     (HEADER + b'0,0,0, "1" ,2\n', "row 2 column tonnes: Number"),
     (b"x,y,z,tonnes,grade,zone\n0,0,0,1,2,7\n10,0,0,3,4,x\n", TWO),
     (b"zone,x,y,z,tonnes,grade\n63,0,0,0,1,2\n-1,10,0,0,3,4\n", TWO),
+    (b"Zone,x,y,z,tonnes,grade,file\n0,0,0,0,1,2,1\n1,10,0,0,3,4,0\n", TWO),
+    (b"x,y,z,tonnes,grade,ZONE,zone\n0,0,0,1,2,1,0\n10,0,0,3,4,0,1\n", TWO),
     (b'x,y,z,rock,tonnes,grade\n0,0,0,a"b"c,1,2\n10,0,0,d",3,4\n', TWO),
     (HEADER + b'0,0,0,1"5",2\n', "row 2 column tonnes: Number"),
     # what stands behind a closing quote belongs to the cell
@@ -230,6 +293,47 @@ def says(name, text, answer, plan=WASTE):
     return Trial(name, given=given, out=Part(lines(f"== blocks|{answer}== prec|")))
 
 
+# A file of one block high above all others, whose columns stand in another order, and the plan of
+# two zones.
+HIGH = b"grade,tonnes,z,y,x\n6,5,99990,980,970\n"
+TWO_ZONES = plan_of("dump,dump,200|", ["1,1,1"] * 2, "waste")
+
+
+def as_second(name, text, answer):
+    """The same as the second of two files, by both forms."""
+    is_fault, count = answer.startswith("row "), answer.count("|") + 1
+    blocks = answer.replace(" 0|", " 1|") + f"{count - 1} 97 98 9999 5 6 0|"
+    given = {"given": piped(TWO_ZONES, HIGH, text)}
+    words = compile_words("plan", "b", ["high", "text"])
+    files = {"words": words, "files": {"plan": MARK + TWO_ZONES, "high": MARK + HIGH, "text": text}}
+    if is_fault:
+        yield refused(f"{name}, by the pipe form", "file 1 " + answer, **given)
+        yield refused(f"{name}, by compile", "file 1 " + answer, **files)
+        return
+    part = Part(lines(f"== blocks|{blocks}== prec|"))
+    yield Trial(f"{name}, by the pipe form", out=part, **given)
+    left = at("b", {**dict.fromkeys(ENDINGS, ANY), "blocks": lines(blocks)})
+    yield Trial(f"{name}, by compile", out=b"rows %d\n" % count, left=left, **files)
+
+
+def second_files():
+    """What a file may be and what may be wrong with it, of the second file of two."""
+    for name, text, answer in FILES:
+        yield from as_second(f"second_files: {name}", text, answer)
+    for text, answer in RECORDS_OF_TEXTS:
+        yield from as_second(f"second_files: {text!r}", text, answer)
+    for fault, *texts in HEADERS:
+        for text in texts:
+            row = "|" + ",".join(["0"] * (text.count(",") + 1)) + "|"
+            answer = f"row 1 column {fault}" if fault else "0 0 0 0 0 0 0|"
+            yield from as_second(f"second_files: {text}", text.encode() + lines(row), answer)
+    for name, table in ROWS.items():
+        for answer, *rows in table:
+            for row in rows[:6]:
+                named = f"second_files: {name}: {row[:40]!r}, {len(row)} bytes"
+                yield from as_second(named, HEADER + row, answer)
+
+
 def faulty(name, text, column, kind, row=1, plan=WASTE):
     """A zone file, of which a column is faulty."""
     return says(name, text, f"row {row} column {column}: {kind}", plan)
@@ -280,6 +384,18 @@ def first_fault(cells):
     """The leftmost of the five cells that is not good, and its kind."""
     at = next(at for at, cell in enumerate(CELLS) if cells[at] != cell.good)
     return COLUMNS[at], dict(CELLS[at].faults())[cells[at]]
+
+
+def about_hundreds():
+    """Coordinates about multiples of 100 m, along each axis."""
+    for (axis, column), (text, answer) in itertools.product(enumerate("xyz"), ABOUT_HUNDREDS):
+        cells, indices = with_cell([Cell("0")] * 3, axis, text), ["0"] * 3
+        name, row = f"about_hundreds: {column}: {text}", HEADER + ",".join(cells).encode() + b",1,0"
+        if answer.isdecimal():
+            indices[axis] = answer
+            yield says(name, row, f"0 {' '.join(indices)} 1 0 0|", HUNDREDS)
+        else:
+            yield faulty(name, row, column, answer, 2, HUNDREDS)
 
 
 def headers():
@@ -358,6 +474,7 @@ def bytes_about_cells():
 def trials():
     yield from numbers()
     yield from faults()
+    yield from about_hundreds()
     yield from headers()
     yield from bytes_about_cells()
     yield from wide_files()
@@ -372,3 +489,4 @@ def trials():
     for text, answer in RECORDS_OF_TEXTS:
         yield says(f"records_of_texts: {text!r}", text, answer)
     yield says("cell_of_a_million_bytes", LONG_CELL, TWO)
+    yield from second_files()
