@@ -45,7 +45,9 @@ def answer(program, library, trial, nth=0):
     os.dup2(writes, TOLD, inheritable=True)
     os.close(writes)
     surroundings = dict(os.environ, LD_PRELOAD=library, REFUSE_NTH=str(nth))
-    given = driver.answer(program, trial, env=surroundings, pass_fds=[TOLD])
-    os.close(TOLD)
+    try:
+        given = driver.answer(program, trial, env=surroundings, pass_fds=[TOLD])
+    finally:
+        os.close(TOLD)
     with open(reads, "rb") as pipe:
         return given, [(word, int(size)) for word, size in map(bytes.split, pipe)]

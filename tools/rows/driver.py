@@ -3,9 +3,15 @@ import os
 import subprocess
 import sys
 import tempfile
-from typing import NamedTuple
+from typing import Callable, Iterable, List, NamedTuple
 
 from rows.trial import Folder, Link
+
+# How long a run may take.
+SECONDS = 120
+
+# How many bytes the name of a row may have.
+LONGEST_NAME = 200
 
 
 class Answer(NamedTuple):
@@ -45,7 +51,7 @@ def found(path):
 
 def run(program, words, trial, folder, **how):
     """One run in the folder of a row, with its standard input; `how` is given to it beside them."""
-    how = {"cwd": folder, "capture_output": True, "timeout": 120, **how}
+    how = {"cwd": folder, "capture_output": True, "timeout": SECONDS, **how}
     if not trial.source:
         return subprocess.run([program, *words], input=trial.given, **how)
     source = os.open(os.path.join(folder, trial.source), os.O_RDONLY)
@@ -67,9 +73,17 @@ def answer(program, trial, **how):
     return Answer(ran.returncode, ran.stdout, ran.stderr, files)
 
 
+def in_time(differ: Callable[[], Iterable[str]]) -> List[str]:
+    """What is wrong of a run: that it took too long, or what is told of its answer."""
+    try:
+        return list(differ())
+    except subprocess.TimeoutExpired as slow:
+        return [f"it took more than {slow.timeout:.0f} seconds, and was ended"]
+
+
 def differences(program, trial, **how):
     """What a row's run answered or left that it should not have."""
-    return list(trial.differences(*answer(program, trial, **how)))
+    return in_time(lambda: trial.differences(*answer(program, trial, **how)))
 
 
 class Register:
@@ -79,9 +93,12 @@ class Register:
         self.places = {}
 
     def each_once(self, table, trials):
-        """The rows of a table; it ends the program where one has the name or input of another."""
+        """The rows of a table; it ends the program where one has the name or input of another, or a
+        name that is too long."""
         for trial in trials:
             place = f"{table}: {trial.name}"
+            if len(trial.name.encode()) > LONGEST_NAME:
+                sys.exit(f"{place}: its name has more than {LONGEST_NAME} bytes")
             for mark, what in ((place, "name"), (trial.input(), "input")):
                 if mark in self.places:
                     sys.exit(f"{place}: it has the {what} of {self.places[mark]}")
