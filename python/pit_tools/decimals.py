@@ -1,0 +1,82 @@
+"""Decimals held as whole numbers, as `pitc` holds them: texts to numbers and back without binary fractions.
+
+A decimal with `places` decimals is an int64 of so many parts: 2700.5 t with 3 places is 2700500 kg.
+"""
+from __future__ import annotations
+
+from decimal import ROUND_HALF_UP, Decimal, InvalidOperation
+from typing import Optional, Sequence, Union
+
+import numpy as np
+import pandas as pd
+
+from pit_tools.errors import UserError
+
+# What a float of 53 bits may be off of the decimal that was written, relative to it, with some room.
+ROOM = 1e-14
+
+
+def rounded(text: Union[str, Decimal, int], places: int) -> int:
+    """One decimal as a number of parts, rounded half away from zero. It raises ValueError for a text
+    that is no number."""
+    try:
+        value = Decimal(text)
+        return int(value.scaleb(places).quantize(Decimal(1), rounding=ROUND_HALF_UP))
+    except InvalidOperation:
+        raise ValueError(f"`{text}` is no number") from None
+
+
+def parts_of(texts: pd.Series, places: int) -> tuple[np.ndarray, np.ndarray]:
+    """Decimals, as texts with a point, as whole numbers of 10**-places, rounded half away from zero.
+
+    Each is rounded by a float where that is far enough from the middle of two numbers for the float's
+    error to say nothing, and by a decimal where it is not: so the answer is always that of decimals.
+
+    It answers two arrays of the same length: int64, and bool, where a text is no number (there the
+    first is 0; a missing text, as None, is none too)."""
+    floats = pd.to_numeric(texts, errors="coerce").to_numpy(np.float64, na_value=np.nan)
+    scaled = floats * 10.0 ** places
+    wrong = ~np.isfinite(scaled)
+    scaled[wrong] = 0
+    room = np.abs(scaled) * ROOM + 1e-9
+    down = np.floor(scaled)
+    near = np.abs(scaled - down - 0.5) <= room
+    parts = np.where(scaled - down < 0.5, down, down + 1).astype(np.int64)
+    for at in np.flatnonzero(near | (room > 0.25)):
+        parts[at] = 0 if wrong[at] else rounded(texts.iloc[at].strip(), places)
+    return parts, wrong
+
+
+def texts_of(parts: Union[np.ndarray, Sequence[int]], places: int) -> np.ndarray:
+    """Whole numbers of 10**-places as texts with exactly so many decimals, an object array of str."""
+    parts = np.asarray(parts, np.int64)
+    if not places:
+        return parts.astype(str).astype(object)
+    sign = np.where(parts < 0, "-", "")
+    whole, rest = np.divmod(np.abs(parts), 10 ** places)
+    texts = np.char.add(np.char.add(sign, whole.astype(str)), ".")
+    return np.char.add(texts, np.char.zfill(rest.astype(str), places)).astype(object)
+
+
+def shortest(parts: int, places: int) -> str:
+    """One such number as the shortest text: no needless zero, and no point without a fraction."""
+    text = str(texts_of([parts], places)[0])
+    return text.rstrip("0").rstrip(".") if "." in text else text
+
+
+def plain(value: Union[Decimal, int]) -> str:
+    """A Decimal as the shortest text, without an exponent."""
+    text = f"{Decimal(value):f}"
+    text = text.rstrip("0").rstrip(".") if "." in text else text
+    return "0" if text in ("-0", "") else text
+
+
+def decimal_of(text: str, what: str) -> Decimal:
+    """A decimal of a plan or a word, exact. It raises UserError, which names what it was for."""
+    try:
+        value: Optional[Decimal] = Decimal(text.strip())
+    except InvalidOperation:
+        value = None
+    if value is None or not value.is_finite():
+        raise UserError(f"{what}: `{text}` is no number")
+    return value

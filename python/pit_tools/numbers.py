@@ -1,0 +1,100 @@
+"""Decimals as the texts of an instance spell them: whole lines of many rows at once.
+
+A decimal is written as its shortest text: a minus only below zero, a digit before the point, no
+needless zero. Numbers are given as whole multiples of a power of ten, so nothing is rounded here.
+"""
+from __future__ import annotations
+
+from typing import Optional, Sequence
+
+import numpy as np
+
+_ZERO, _MINUS, _POINT, _BLANK, _LINE_END = b"0"[0], b"-"[0], b"."[0], b" "[0], b"\n"[0]
+
+#: Rows that are spelled at a time: some tens of megabytes.
+_ROWS = 1 << 18
+
+#: The greatest whole number up to which each one has a float of its own.
+EXACT = 2**53
+
+
+def scaled(values: np.ndarray, decimals: int) -> np.ndarray:
+    """The values as whole multiples of 10^-decimals, int64.
+
+    Raises OverflowError where one is too great for its decimals to be told apart as a float.
+    """
+    multiples = np.rint(np.asarray(values, dtype=float) * 10**decimals)
+    if multiples.size and not np.abs(multiples).max() < EXACT:
+        raise OverflowError(f"a number above {EXACT // 10**decimals:,} with {decimals} decimals")
+    return multiples.astype(np.int64)
+
+
+def nearest(values: np.ndarray, decimals: int) -> np.ndarray:
+    """The floats that are nearest to these values' decimals, where a reader was off by a bit."""
+    return scaled(values, decimals) / 10**decimals
+
+
+def fewest_decimals(values: np.ndarray, choices: Sequence[int] = (0, 2, 3, 6)) -> int:
+    """The first of these numbers of decimals that holds all the values, else the last."""
+    for decimals in choices[:-1]:
+        multiples = np.asarray(values, dtype=float) * 10**decimals
+        if np.all(np.abs(multiples - np.rint(multiples)) <= 1e-9 * np.maximum(1, np.abs(multiples))):
+            return decimals
+    return choices[-1]
+
+
+def _spelled(multiples: np.ndarray, decimals: int) -> tuple[np.ndarray, np.ndarray]:
+    """Characters (n, width) of the decimals, and which of them are to be kept."""
+    magnitude = np.abs(multiples)
+    whole, fraction = (magnitude, None) if decimals == 0 else np.divmod(magnitude, 10**decimals)
+    if whole.size and whole.max() < 2**31:
+        whole = whole.astype(np.uint32)
+    digits = len(str(int(whole.max(initial=0))))
+    width = 1 + digits + (decimals + 1 if decimals else 0)
+    characters = np.empty((len(multiples), width), dtype=np.uint8)
+    kept = np.empty((len(multiples), width), dtype=bool)
+    characters[:, 0], kept[:, 0] = _MINUS, multiples < 0
+    for place in range(digits, 0, -1):
+        kept[:, place] = (whole > 0) | (place == digits)
+        whole, digit = np.divmod(whole, 10)
+        characters[:, place] = digit + _ZERO
+    if decimals:
+        is_needed = np.zeros(len(multiples), dtype=bool)
+        fraction = fraction.astype(np.uint32)
+        for place in range(width - 1, digits + 1, -1):
+            fraction, digit = np.divmod(fraction, 10)
+            is_needed |= digit > 0
+            characters[:, place], kept[:, place] = digit + _ZERO, is_needed
+        characters[:, digits + 1], kept[:, digits + 1] = _POINT, is_needed
+    return characters, kept
+
+
+def lines_of(columns: Sequence[tuple[np.ndarray, int]], ends: Optional[np.ndarray] = None) -> bytes:
+    """Lines of n rows, their fields with one blank between.
+
+    A column is n whole numbers and how many decimals these count: (array([25]), 1) is 2.5. Where
+    `ends` is given, the byte behind row i is ends[i] in place of a line end.
+    """
+    pieces = []
+    for at in range(0, len(columns[0][0]), _ROWS):
+        characters, kept = [], []
+        for multiples, decimals in columns:
+            shown, needed = _spelled(np.asarray(multiples[at:at + _ROWS], dtype=np.int64), decimals)
+            characters += [shown, np.full((len(shown), 1), _BLANK, dtype=np.uint8)]
+            kept += [needed, np.ones((len(shown), 1), dtype=bool)]
+        characters[-1][:, 0] = _LINE_END if ends is None else ends[at:at + _ROWS]
+        pieces.append(np.concatenate(characters, axis=1)[np.concatenate(kept, axis=1)].tobytes())
+    return b"".join(pieces)
+
+
+def shortest(value: float, decimals: int = 6) -> str:
+    """One number as its shortest decimal: 0.08, 12, -3.5."""
+    text = f"{value:.{decimals}f}"
+    text = text.rstrip("0").rstrip(".") if "." in text else text
+    return "0" if text == "-0" else text
+
+
+def with_commas(value: float, decimals: int = 0) -> str:
+    """One number with commas between thousands; a zero has no minus."""
+    text = f"{value:,.{decimals}f}"
+    return text[1:] if text.startswith("-") and not text.strip("-0.,") else text

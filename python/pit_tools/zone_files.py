@@ -1,0 +1,100 @@
+"""Reads and writes the zone files of `pitc` (docs/formats.md).
+
+In memory a row is x, y and z in millimetres, tonnes in kilograms and the grade in millionths of g/t,
+all int64, as `pitc` holds them."""
+from __future__ import annotations
+
+import os
+from typing import Sequence
+
+import numpy as np
+import pandas as pd
+
+from pit_tools.decimals import parts_of, texts_of
+from pit_tools.errors import UserError
+
+# The columns of a zone file, and how many decimals each may have.
+PLACES = {"x": 3, "y": 3, "z": 3, "tonnes": 3, "grade": 6}
+
+COLUMNS = list(PLACES)
+
+# How many rows are texts at a time.
+CHUNK = 200_000
+
+
+def read_zone_file(path: str) -> pd.DataFrame:
+    """The rows of a zone file: columns x, y, z (mm), tonnes (kg) and grade (millionths of g/t), int64,
+    the index being the number of the row in its file, counted from 1 with the header as row 1.
+
+    Columns are found by name, in any order and in upper or lower case; others are ignored. It raises
+    UserError for a missing column or a cell that is no number, with its row, and OSError."""
+    chunks = []
+    try:
+        # Without a header, a row with more cells than the first is a fault and not an index.
+        with pd.read_csv(path, dtype=str, header=None, keep_default_na=False, encoding="utf-8-sig",
+                         chunksize=CHUNK) as reader:
+            for table in reader:
+                if not chunks:
+                    at = _columns_of(table.iloc[0], path)
+                    table = table.iloc[1:]
+                chunks.append(_numbers_of(table, at, path))
+    except pd.errors.EmptyDataError:
+        raise UserError(f"{path}: it is empty") from None
+    except (pd.errors.ParserError, UnicodeDecodeError) as error:
+        raise UserError(f"{path}: {' '.join(str(error).split())}") from None
+    return pd.concat(chunks)
+
+
+def _columns_of(header: pd.Series, path: str) -> dict[str, int]:
+    """Where each column stands, by the cells of the header."""
+    names = [str(name).strip(" \t").lower() for name in header]
+    for column in COLUMNS:
+        if names.count(column) != 1:
+            raise UserError(f"{path}: {'two columns' if column in names else 'no column'} `{column}`")
+    return {column: names.index(column) for column in COLUMNS}
+
+
+def _numbers_of(table: pd.DataFrame, at: dict[str, int], path: str) -> pd.DataFrame:
+    """The numbers of some rows, whose index counts records from 0."""
+    if table[table.columns[-1]].isna().any():
+        row = table.index[table[table.columns[-1]].isna()][0] + 1
+        raise UserError(f"{path}: row {row} has fewer cells than the header")
+    found = {}
+    for column, places in PLACES.items():
+        found[column], wrong = parts_of(table[at[column]], places)
+        if wrong.any():
+            row = int(np.flatnonzero(wrong)[0])
+            text = table[at[column]].iloc[row]
+            raise UserError(f"{path}: row {table.index[row] + 1}: column {column} has `{text}`")
+    return pd.DataFrame(found, index=table.index + 1)
+
+
+def read_zone_files(paths: Sequence[str]) -> pd.DataFrame:
+    """The rows of several zone files, in the order of a plan's `zone` records, with a column `zone`,
+    counted from 0. The index counts rows from 0."""
+    tables = [read_zone_file(path).assign(zone=zone) for zone, path in enumerate(paths)]
+    return pd.concat(tables, ignore_index=True)
+
+
+def write_zone_file(path: str, rows: pd.DataFrame) -> None:
+    """Writes rows, as `read_zone_file` answers them, with 3 decimals, grades with 6."""
+    with open(path, "w", encoding="ascii", newline="\n") as file:
+        file.write(",".join(COLUMNS) + "\n")
+        append_rows(file, rows)
+
+
+def append_rows(file, rows: pd.DataFrame) -> None:
+    """Writes rows behind those that stand in an open text file."""
+    texts = pd.DataFrame({name: texts_of(rows[name].to_numpy(), places) for name, places in PLACES.items()})
+    texts.to_csv(file, header=False, index=False, lineterminator="\n")
+
+
+def count_lines(path: str) -> int:
+    """How many lines a zone file has below its header, blank ones left out."""
+    with open(path, "rb") as file:
+        return max(sum(1 for line in file if line.strip()) - 1, 0)
+
+
+def name_of(path: str) -> str:
+    """The name of a zone by its file: `from-east.csv` is told as from-east.csv."""
+    return os.path.basename(path)

@@ -1,0 +1,105 @@
+"""Plans and zone files, as docs/formats.md has them."""
+from decimal import Decimal
+
+import numpy as np
+import pandas as pd
+import pytest
+
+from pit_tools.decimals import parts_of, plain, rounded, shortest, texts_of
+from pit_tools.errors import UserError
+from pit_tools.plan_file import Slope, plan_of
+from pit_tools.zone_files import read_zone_file, write_zone_file
+
+PLAN = """name,pit
+grid,1000.5,2000,-300,20,20,10
+zone,1,1,9
+zone,3,2,1,1,5,4,4,3,13,,
+mill,mill,920,5800000,1650
+leach,heap,5800000,620,0.2,300,0.6,480
+DUMP, dump ,180
+
+periods,2
+rate,0.08
+resource,fleet,mill,heap,dump
+limit,fleet,0,I,1000,2000.5
+limit,fleet,1,L,3000
+"""
+
+
+def test_a_plan_is_read_with_its_units_and_written_as_it_was():
+    plan = plan_of(PLAN)
+    assert plan.grid.origin == (Decimal("1000.5"), Decimal(2000), Decimal(-300))
+    assert plan.grid.volume == 4000
+    assert plan.zones[0].slopes == (Slope(1, 1),) * 4
+    assert plan.zones[1].slopes == (Slope(3, 2), Slope(1, 1), Slope(5, 4), Slope(4, 3))
+    assert [zone.benches for zone in plan.zones] == [9, 13]
+    assert [one.kind for one in plan.destinations] == ["mill", "leach", "dump"]
+    assert [plan.destinations[1].recovery(Decimal(grade)) for grade in ("0.1", "0.2", "0.6")] == [0, 300, 480]
+    assert plan.destinations[0].break_even == pytest.approx(0.30922, abs=1e-5)
+    assert plan.destinations[2].break_even is None
+    assert plan.limits_of(0, 0).upper == Decimal("2000.5")
+    assert plan.limits_of(0, 1).lower is None
+    tidy = PLAN.replace(",,\n", "\n").replace("DUMP, dump ,", "dump,dump,").replace("\n\n", "\n")
+    assert plan.text() == tidy
+
+
+@pytest.mark.parametrize("edit, told", [
+    (("zone,1,1,9", "zone,1,1"), "record 3: a zone has p, q, K"),
+    (("rate,0.08\n", ""), "no record rate"),
+    (("mill,mill,920", "mill,mill,0.92"), "record 5: `0.92` is no whole number"),
+    (("resource,fleet,mill", "resource,fleet,plant"), "`plant` stands in no earlier record"),
+    (("name,pit", "x,y,z"), "record 1: `x` is no key of a plan"),
+    (("20,20,10", "20,0,10"), "a size of the grid is not above 0"),
+    (("name,pit", "name,pit\nname,pit"), "record 2: `name` stands twice"),
+])
+def test_a_plan_that_cannot_be_understood_names_its_record(edit, told):
+    with pytest.raises(UserError, match=told):
+        plan_of(PLAN.replace(*edit))
+
+
+# Where the nearest float lies on the other side of the middle, a rounding by floats is wrong.
+@pytest.mark.parametrize("text, places, parts", [
+    ("0.0005", 3, 1), ("1.0005", 3, 1001), ("2.6745", 3, 2675), ("-0.0005", 3, -1), ("1.005", 2, 101),
+    ("10935.537999900", 3, 10935538), ("999999.9994999999", 3, 999999999), ("0.0000005", 6, 1),
+    ("123456789012.3456785", 6, 123456789012345679), ("+5.", 3, 5000), (".5", 3, 500),
+])
+def test_decimals_are_rounded_as_decimals(text, places, parts):
+    assert rounded(text, places) == parts
+    found, wrong = parts_of(pd.Series([text]), places)
+    assert found.tolist() == [parts] and not wrong.any()
+
+
+def test_what_is_no_number_is_told():
+    found, wrong = parts_of(pd.Series(["1.5", "", None, "n/a", "inf"]), 3)
+    assert wrong.tolist() == [False, True, True, True, True]
+    assert found[0] == 1500
+
+
+def test_numbers_are_written_with_their_decimals():
+    assert texts_of([0, -1, 2700500, 10 ** 12], 3).tolist() == ["0.000", "-0.001", "2700.500", "1000000000.000"]
+    assert shortest(2700500, 3) == "2700.5" and shortest(-20000, 3) == "-20"
+    assert plain(Decimal("1E+3")) == "1000" and plain(Decimal("-0.0")) == "0"
+
+
+def test_a_zone_file_is_read_by_names_and_written_back(tmp_path):
+    path = tmp_path / "zone.csv"
+    path.write_text('rock,Grade,"TONNES",z,y,x\n"ore, rich",1.8,2700.0005,-10,0.25,20\nwaste,0,0,0,0,0\n')
+    rows = read_zone_file(str(path))
+    assert rows.index.tolist() == [2, 3]
+    assert rows.iloc[0].to_dict() == {"x": 20000, "y": 250, "z": -10000, "tonnes": 2700001, "grade": 1800000}
+    write_zone_file(str(path), rows)
+    first = path.read_text().splitlines()[1]
+    assert first == "20.000,0.250,-10.000,2700.001,1.800000"
+    assert np.array_equal(read_zone_file(str(path)), rows)
+
+
+@pytest.mark.parametrize("text, told", [
+    ("x,y,z,tonnes\n", "no column `grade`"),
+    ("x,y,z,tonnes,grade\n0,0,0,1,2\n0,0,0,NA,2\n", "row 3: column tonnes has `NA`"),
+    ("x,y,z,tonnes,grade\n0,0,0,1,2\n0,0,0,1,2,3\n", "line 3"),
+])
+def test_a_zone_file_that_cannot_be_read_names_its_row(tmp_path, text, told):
+    path = tmp_path / "zone.csv"
+    path.write_text(text)
+    with pytest.raises(UserError, match=told):
+        read_zone_file(str(path))
