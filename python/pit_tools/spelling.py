@@ -5,14 +5,14 @@ needless zero. Numbers are given as whole multiples of a power of ten, so nothin
 """
 from __future__ import annotations
 
-from typing import Optional, Sequence
+from typing import Iterator, Optional, Sequence
 
 import numpy as np
 
 _ZERO, _MINUS, _POINT, _BLANK, _LINE_END = b"0"[0], b"-"[0], b"."[0], b" "[0], b"\n"[0]
 
 #: Rows that are spelled at a time: some tens of megabytes.
-_ROWS = 1 << 18
+_ROWS = 1 << 17
 
 #: The greatest whole number up to which each one has a float of its own.
 EXACT = 2**53
@@ -69,13 +69,12 @@ def _spelled(multiples: np.ndarray, decimals: int) -> tuple[np.ndarray, np.ndarr
     return characters, kept
 
 
-def lines_of(columns: Sequence[tuple[np.ndarray, int]], ends: Optional[np.ndarray] = None) -> bytes:
-    """Lines of n rows, their fields with one blank between.
+def lines_of(columns: Sequence[tuple[np.ndarray, int]], ends: Optional[np.ndarray] = None) -> Iterator[bytes]:
+    """Lines of n rows, their fields with one blank between, some hundred thousand rows a piece.
 
     A column is n whole numbers and how many decimals these count: (array([25]), 1) is 2.5. Where
     `ends` is given, the byte behind row i is ends[i] in place of a line end.
     """
-    pieces = []
     for at in range(0, len(columns[0][0]), _ROWS):
         characters, kept = [], []
         for multiples, decimals in columns:
@@ -83,8 +82,7 @@ def lines_of(columns: Sequence[tuple[np.ndarray, int]], ends: Optional[np.ndarra
             characters += [shown, np.full((len(shown), 1), _BLANK, dtype=np.uint8)]
             kept += [needed, np.ones((len(shown), 1), dtype=bool)]
         characters[-1][:, 0] = _LINE_END if ends is None else ends[at:at + _ROWS]
-        pieces.append(np.concatenate(characters, axis=1)[np.concatenate(kept, axis=1)].tobytes())
-    return b"".join(pieces)
+        yield np.concatenate(characters, axis=1)[np.concatenate(kept, axis=1)].tobytes()
 
 
 def shortest(value: float, decimals: int = 6) -> str:

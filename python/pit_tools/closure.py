@@ -1,0 +1,160 @@
+"""The ultimate pit: blocks of greatest value in all, each with all that it waits for.
+
+    from pit_tools.closure import ultimate_pit
+    in_pit = ultimate_pit(mine.upit.values, mine.precedence)         # bool, (n,)
+
+A program of C++ (closure.cpp), which a C++ compiler of this machine makes once, finds it: a million
+blocks at K = 1 in a second or two. Where there is no compiler, HiGHS of scipy solves the linear
+program, which takes minutes beyond some ten thousand blocks. Both are exact: values are counted in
+cents. Of several pits of greatest value the smallest is taken by the program; HiGHS may take another.
+"""
+from __future__ import annotations
+
+import ctypes
+import hashlib
+import os
+import shutil
+import subprocess
+import tempfile
+from functools import lru_cache
+from typing import Optional
+
+import numpy as np
+from scipy import optimize, sparse
+
+from pit_tools.cones import Places, cone_offsets, size_in_millimetres
+from pit_tools.errors import UserError
+from pit_tools.instance import Blocks, cents
+from pit_tools.plan_file import Plan
+
+SOURCE = os.path.join(os.path.dirname(__file__), "closure.cpp")
+
+#: Arcs up to which HiGHS is asked where there is no compiler.
+MOST_ARCS_OF_HIGHS = 2_000_000
+
+
+def compiler() -> Optional[str]:
+    """The C++ compiler of this machine: that of CXX, or the first of g++, c++ and clang++."""
+    names = [os.environ.get("CXX", ""), "g++", "c++", "clang++"]
+    return next((found for name in names if name and (found := shutil.which(name))), None)
+
+
+def _folder() -> str:
+    """Where the compiled program is kept."""
+    home = os.environ.get("XDG_CACHE_HOME") or os.path.join(os.path.expanduser("~"), ".cache")
+    folder = os.path.join(home, "pit-tools")
+    try:
+        os.makedirs(folder, exist_ok=True)
+    except OSError:
+        return tempfile.gettempdir()
+    return folder if os.access(folder, os.W_OK) else tempfile.gettempdir()
+
+
+@lru_cache(None)
+def _library() -> Optional[ctypes.CDLL]:
+    """The program, compiled where it was not yet; None where there is no compiler."""
+    with open(SOURCE, "rb") as file:
+        name = hashlib.sha256(file.read()).hexdigest()[:16]
+    path = os.path.join(_folder(), f"closure-{name}-{os.getuid() if hasattr(os, 'getuid') else 0}.so")
+    if not os.path.exists(path):
+        program = compiler()
+        if program is None:
+            return None
+        made = f"{path}.{os.getpid()}"
+        done = subprocess.run([program, "-O2", "-std=c++17", "-shared", "-fPIC", "-o", made, SOURCE],
+                              capture_output=True, text=True)
+        if done.returncode:
+            return None
+        os.replace(made, path)
+    return ctypes.CDLL(path)
+
+
+def is_compiled() -> bool:
+    """Whether the program of C++ is there, or could be made."""
+    return _library() is not None
+
+
+def _pointer(array: np.ndarray) -> ctypes.c_void_p:
+    return ctypes.c_void_p(array.ctypes.data)
+
+
+def _called(function: str, *arguments) -> None:
+    if getattr(_library(), function)(*arguments):
+        raise UserError("memory was refused")
+
+
+def ultimate_pit(values: np.ndarray, precedence: sparse.csr_matrix) -> np.ndarray:
+    """Which blocks are in the pit, bool (n,), by their values (n,), in units of 100 cents, and all
+    arcs (n, n).
+
+    Raises UserError where memory was refused, and where there is no C++ compiler and there are more
+    arcs than HiGHS would end with.
+    """
+    worth = cents(values)
+    if len(worth) != precedence.shape[0]:
+        raise UserError(f"there are {len(worth)} values and {precedence.shape[0]} blocks")
+    if not is_compiled():
+        return _pit_by_highs(worth, precedence)
+    starts = np.ascontiguousarray(precedence.indptr, dtype=np.int64)
+    above = np.ascontiguousarray(precedence.indices, dtype=np.int32)
+    in_pit = np.empty(len(worth), dtype=np.uint8)
+    _called("closure", ctypes.c_int64(len(worth)), *map(_pointer, (worth, starts, above, in_pit)))
+    return in_pit.astype(bool)
+
+
+def _pit_by_highs(worth: np.ndarray, precedence: sparse.csr_matrix) -> np.ndarray:
+    if precedence.nnz > MOST_ARCS_OF_HIGHS:
+        raise UserError(f"{precedence.nnz:,} arcs want the program of C++, and no compiler is there: "
+                        "apt-get install g++")
+    arcs = precedence.tocoo()
+    count = precedence.nnz
+    rows = np.concatenate([np.arange(count)] * 2)
+    columns = np.concatenate([arcs.row, arcs.col])
+    signs = np.concatenate([np.ones(count), -np.ones(count)])
+    waits = sparse.csr_matrix((signs, (rows, columns)), shape=(count, len(worth)))
+    scale = max(1, int(np.abs(worth).max(initial=1)))
+    found = optimize.linprog(-worth / scale, waits if count else None, np.zeros(count) if count else None,
+                             bounds=(0, 1), method="highs-ds")
+    if found.x is None:
+        raise UserError(f"HiGHS found no pit: {found.message}")
+    return found.x > 0.5
+
+
+def pit_of_plan(values: np.ndarray, blocks: Blocks, plan: Plan) -> tuple[np.ndarray, int]:
+    """The same of blocks whose arcs follow from a plan's cones, without listing all of them: bool (n,),
+    and how many arcs there are that no others imply.
+
+    Raises UserError where memory was refused, or there is no C++ compiler.
+    """
+    if not is_compiled():
+        raise UserError("no C++ compiler is there: apt-get install g++")
+    places, size = Places(blocks), size_in_millimetres(plan.grid)
+    reach = [length - 1 for length in places.shape]
+    cones = [cone_offsets(size, zone, min(zone.benches, reach[2]), reach[:2]) for zone in plan.zones]
+    bounds = np.cumsum([0, *map(len, cones)]).astype(np.int64)
+    offsets = np.ascontiguousarray(np.concatenate(cones), dtype=np.int32)
+    worth, shape = cents(values), np.array(places.shape, dtype=np.int32)
+    at = np.ascontiguousarray(np.stack([places.x, places.y, places.z], axis=1), dtype=np.int32)
+    zones, taken = np.ascontiguousarray(blocks.zone, dtype=np.int32), np.ascontiguousarray(places.at)
+    in_pit, arcs = np.empty(len(blocks), dtype=np.uint8), ctypes.c_int64()
+    _called("closure_of_cones", ctypes.c_int64(len(blocks)), *map(_pointer, (worth, shape, taken, at, zones)),
+            ctypes.c_int32(len(cones)), *map(_pointer, (bounds, offsets, in_pit)), ctypes.byref(arcs))
+    return in_pit.astype(bool), arcs.value
+
+
+def immediate(precedence: sparse.csr_matrix) -> sparse.csr_matrix:
+    """The arcs without those that others imply, to a predecessor of a predecessor: the same pits and
+    schedules by fewer arcs. Predecessors have to come behind their block, as in files of `pitc`.
+
+    Raises UserError where they do not, where memory was refused, or there is no C++ compiler.
+    """
+    if not is_compiled():
+        raise UserError("no C++ compiler is there: apt-get install g++")
+    arcs = precedence.sorted_indices()
+    rows = np.repeat(np.arange(arcs.shape[0]), np.diff(arcs.indptr))
+    if np.any(arcs.indices <= rows):
+        raise UserError("a block comes behind one that it waits for")
+    starts, kept = arcs.indptr.astype(np.int64), np.empty(arcs.nnz, dtype=np.uint8)
+    _called("immediate", ctypes.c_int64(arcs.shape[0]), *map(_pointer, (starts, arcs.indices, kept)))
+    kept = kept.astype(bool)
+    return sparse.csr_matrix((arcs.data[kept], (rows[kept], arcs.indices[kept])), shape=arcs.shape)

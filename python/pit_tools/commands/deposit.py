@@ -1,0 +1,59 @@
+"""`pit-tools deposit`: deposits by seed, size and shape."""
+from __future__ import annotations
+
+import argparse
+
+HELP = """\
+Makes deposits in three zones with their plans, in the current folder: NAME.plan, NAME-oxide.csv,
+NAME-west.csv and NAME-east.csv, which go to `pitc compile` in this order.
+
+    pit-tools deposit
+    pit-tools deposit --seed 7 --size 40,30,20 --shape vein --name seven
+    pit-tools deposit --seed 1-100 --size 12,9,6 --shape lens,vein --list LIST
+
+The last line makes two hundred, lens1, vein1, lens2 and so on, and writes the list that `batch`
+reads. A name, a seed, a size and a shape always make the same files to the byte.
+
+shapes: lens, flat, and dips to the east; pipe, upright and round; vein, steep and thin, along y.
+"""
+
+
+def add_arguments(parser: argparse.ArgumentParser) -> None:
+    parser.add_argument("--name", default=None, help="the name, `deposit` where none is given; before the seed where there are several")
+    parser.add_argument("--seed", default=None, help="1 to 1000000, or a span as 1-100: it moves the ore and draws its width and grade")
+    parser.add_argument("--size", default="24,18,12", help="numbers of blocks of 20 x 20 x 10 m along x, y and z (24,18,12)")
+    parser.add_argument("--shape", default="lens", help="lens, pipe or vein, or several with commas (lens)")
+    parser.add_argument("--folder", default=".", help="where the files go")
+    parser.add_argument("--list", metavar="FILE", help="writes a line for each deposit, its plan and its zone files")
+
+
+def _numbers(text: str, what: str) -> list[int]:
+    from pit_tools.errors import UserError
+
+    if not all(part.isdigit() for part in text.split(",")):
+        raise UserError(f"{what}: `{text}` is no list of whole numbers")
+    return list(map(int, text.split(",")))
+
+
+def _seeds(text: str) -> list[int]:
+    first, _, last = text.partition("-")
+    ends = _numbers(f"{first},{last or first}", "a seed is a whole number from 1 to 1000000")
+    return list(range(ends[0], ends[1] + 1))
+
+
+def run(args: argparse.Namespace) -> int:
+    from pit_tools.deposits import Deposit
+
+    size = tuple(_numbers(args.size, "a size is three numbers of blocks, as 24,18,12"))
+    shapes = args.shape.split(",")
+    seeds = [None] if args.seed is None else _seeds(args.seed)
+    is_one = len(seeds) == len(shapes) == 1
+    lines = []
+    for seed in seeds:
+        for shape in shapes:
+            name = (args.name or "deposit") if is_one else f"{args.name or ''}{shape}{'' if seed is None else seed}"
+            lines.append(" ".join(Deposit(name, seed, size, shape).write(args.folder)))
+    if args.list:
+        with open(args.list, "w", encoding="ascii") as file:
+            file.write("".join(line + "\n" for line in lines))
+    return 0

@@ -1,0 +1,61 @@
+"""`pit-tools read`: the files of an instance, read into arrays, counted, and written again."""
+from __future__ import annotations
+
+import argparse
+
+HELP = """\
+Reads the files of an instance into arrays and sparse matrices, and prints the counts that
+`pitc check` prints.
+
+    pit-tools read deposit
+    pit-tools read deposit --write copy              the same files again, to the byte
+    pit-tools read deposit --arrays deposit.npz      for numpy.load
+    pit-tools read deposit --immediate fewer         the files without arcs that others imply
+
+A program of your own calls pit_tools.instance.read_instance.
+"""
+
+
+def add_arguments(parser: argparse.ArgumentParser) -> None:
+    parser.add_argument("base", help="the instance: BASE.blocks, BASE.prec, BASE.upit, BASE.pcpsp, BASE.cpit")
+    parser.add_argument("--write", metavar="BASE", help="writes the files at another base")
+    parser.add_argument("--arrays", metavar="FILE", help="writes blocks, values, uses and the precedences' "
+                        "indptr and indices into a .npz file")
+    parser.add_argument("--immediate", metavar="BASE", help="writes the files with fewer arcs at another base: "
+                        "no pit and no schedule changes")
+
+
+def run(args: argparse.Namespace) -> int:
+    from dataclasses import replace
+
+    from pit_tools.instance import read_instance, write_instance
+
+    mine = read_instance(args.base)
+    print(mine.counts())
+    if args.write:
+        write_instance(mine, args.write)
+    if args.arrays:
+        _write_arrays(mine, args.arrays)
+    if args.immediate:
+        from pit_tools.closure import immediate
+
+        fewer = replace(mine, precedence=immediate(mine.precedence))
+        print(fewer.counts())
+        write_instance(fewer, args.immediate)
+    return 0
+
+
+def _write_arrays(mine, path: str) -> None:
+    import numpy as np
+
+    parts = {f"block_{name}": array for name, array in vars(mine.blocks).items()}
+    parts |= {"precedence_indptr": mine.precedence.indptr, "precedence_indices": mine.precedence.indices}
+    if mine.upit:
+        parts["upit_values"] = mine.upit.values
+    for problem in filter(None, (mine.pcpsp, mine.cpit)):
+        name = problem.kind.lower()
+        limits = [(limit.resource, limit.period, limit.least, limit.most) for limit in problem.limits]
+        parts |= {f"{name}_values": problem.values, f"{name}_rate": problem.rate, f"{name}_periods": problem.periods,
+                  f"{name}_limits": np.array(limits, dtype=float).reshape(-1, 4)}
+        parts |= {f"{name}_use_{part}": array for part, array in vars(problem.uses).items()}
+    np.savez(path, **parts)

@@ -1,0 +1,603 @@
+"""The files of an instance as arrays and sparse matrices, and back to the byte.
+
+    from pit_tools.instance import read_instance, write_instance
+    mine = read_instance("deposit")              # deposit.blocks, .prec, .upit, .pcpsp, .cpit
+    mine.precedence                              # CSR, (b, p) where block b waits for block p
+    mine.pcpsp.values                            # (blocks, destinations), in units of 100 cents
+    mine.pcpsp.uses.matrix(0)                    # tonnes of resource 0, (blocks, destinations)
+    write_instance(mine, "copy")
+
+What each line of the files means stands in docs/formats.md. Files that `pitc check` accepts are
+read too, with blank lines, comments and tabs. Values are floats nearest to their decimals: sums in
+whole cents are exact by `cents(values)`.
+"""
+from __future__ import annotations
+
+import io
+import os
+from dataclasses import dataclass, field
+from itertools import chain
+from typing import BinaryIO, Iterable, Iterator, Optional, Sequence
+
+import numpy as np
+import pandas as pd
+from scipy import sparse
+
+from pit_tools import spelling
+from pit_tools.errors import UserError
+
+TEXTS = ("blocks", "prec", "upit", "pcpsp", "cpit")
+
+OBJECTIVE = "OBJECTIVE_FUNCTION"
+COEFFICIENTS = "RESOURCE_CONSTRAINT_COEFFICIENTS"
+LIMITS = "RESOURCE_CONSTRAINT_LIMITS"
+
+#: Bytes that are read at a time.
+_PIECE = 1 << 23
+
+
+class BadInstance(UserError):
+    """A file of an instance that cannot be read: its message names the file and what is wrong."""
+
+
+@dataclass(frozen=True)
+class Blocks:
+    """The block file: arrays of n, in order of identifier."""
+
+    x: np.ndarray  #: grid indices, int32
+    y: np.ndarray
+    z: np.ndarray  #: upward
+    tonnes: np.ndarray  #: float64, to 3 decimals
+    grade: np.ndarray  #: g/t, float64, to 6 decimals
+    zone: np.ndarray  #: numbers of zones in the plan's order, int32
+
+    def __len__(self) -> int:
+        return len(self.x)
+
+
+@dataclass(frozen=True)
+class Uses:
+    """What a block uses of a resource at a destination: arrays of m lines, which rise by (block,
+    destination, resource). In a CPIT every destination is 0."""
+
+    block: np.ndarray  #: int32
+    destination: np.ndarray  #: int8
+    resource: np.ndarray  #: int8
+    amount: np.ndarray  #: float64, tonnes in files of `pitc`
+
+    def __len__(self) -> int:
+        return len(self.block)
+
+    def matrix(self, resource: int, shape: Optional[tuple[int, int]] = None) -> sparse.csr_matrix:
+        """The uses of one resource, (blocks, destinations)."""
+        lines = self.resource == resource
+        return sparse.csr_matrix(
+            (self.amount[lines], (self.block[lines], self.destination[lines])), shape=shape)
+
+
+@dataclass(frozen=True)
+class Limit:
+    """What is used of a resource in a period lies from `least` to `most`; either may be infinite."""
+
+    resource: int
+    period: int
+    letter: str  #: `L` at most, `G` at least, `I` from least to most
+    least: float
+    most: float
+
+    @classmethod
+    def of(cls, resource: int, period: int, letter: str, ends: Sequence[float]) -> "Limit":
+        least = -np.inf if letter == "L" else ends[0]
+        return cls(resource, period, letter, least, np.inf if letter == "G" else ends[-1])
+
+    @property
+    def ends(self) -> list[float]:
+        """The one or two numbers that stand in its line."""
+        return [end for end in (self.least, self.most) if np.isfinite(end)]
+
+
+@dataclass(frozen=True)
+class UltimatePit:
+    """A UPIT: the value of each block, (n,)."""
+
+    name: str
+    values: np.ndarray
+
+
+@dataclass(frozen=True)
+class Problem:
+    """A PCPSP, or a CPIT, which has one destination."""
+
+    kind: str  #: `PCPSP` or `CPIT`
+    name: str
+    periods: int
+    resources: int
+    rate: float
+    values: np.ndarray  #: (blocks, destinations), undiscounted
+    uses: Uses
+    limits: list[Limit] = field(default_factory=list)
+
+    @property
+    def destinations(self) -> int:
+        return self.values.shape[1]
+
+    def use_matrix(self, resource: int) -> sparse.csr_matrix:
+        """What is used of a resource, (blocks, destinations)."""
+        return self.uses.matrix(resource, self.values.shape)
+
+    def discounts(self) -> np.ndarray:
+        """What a value of each period counts, (periods,): 1, 1 / (1 + rate), .."""
+        return (1 + self.rate) ** -np.arange(self.periods, dtype=float)
+
+
+@dataclass(frozen=True)
+class Instance:
+    """The texts of an instance; a part that was not read is None."""
+
+    blocks: Optional[Blocks] = None
+    precedence: Optional[sparse.csr_matrix] = None  #: (n, n), int8, 1 where row b waits for p
+    upit: Optional[UltimatePit] = None
+    pcpsp: Optional[Problem] = None
+    cpit: Optional[Problem] = None
+
+    def counts(self) -> str:
+        """The line of `pitc check`: blocks, arcs, coefficients, limits, those of the CPIT."""
+        told = f"blocks {len(self.blocks)} arcs {self.precedence.nnz}"
+        if self.pcpsp:
+            told += f" coefficients {len(self.pcpsp.uses)} limits {len(self.pcpsp.limits)}"
+        return told + (f" cpit {len(self.cpit.uses)}" if self.cpit else "")
+
+
+def cents(values: np.ndarray) -> np.ndarray:
+    """Values in whole cents, int64: their sums are exact."""
+    return spelling.scaled(values, 2)
+
+
+# Reading
+
+
+def _plain(piece: bytes) -> bytes:
+    """The lines that count, with LF behind them."""
+    if b"\r" in piece:
+        piece = piece.replace(b"\r\n", b"\n")
+    if b"%" in piece:
+        lines = piece.split(b"\n")
+        piece = b"\n".join(line for line in lines if not line.lstrip(b" \t").startswith(b"%"))
+    return piece
+
+
+def _pieces(file: BinaryIO) -> Iterator[bytes]:
+    """The bytes of a file, cut at line ends; without a byte order mark, comments and CR."""
+    rest = file.read(3)
+    rest = b"" if rest == b"\xef\xbb\xbf" else rest
+    while piece := file.read(_PIECE):
+        piece = rest + piece
+        cut = piece.rfind(b"\n") + 1
+        rest = piece[cut:]
+        if cut:
+            yield _plain(piece[:cut])
+    if rest:
+        yield _plain(rest + b"\n")
+
+
+def _table(piece: bytes, path: str, types: dict) -> pd.DataFrame:
+    """The fields of lines that have as many as there are types."""
+    try:
+        table = pd.read_csv(io.BytesIO(piece), sep=r"\s+", header=None, dtype=types,
+                            names=range(len(types)), index_col=False, na_filter=False)
+    except (ValueError, OverflowError, pd.errors.ParserError) as error:
+        raise BadInstance(f"{path}: {_first_line(error)}") from None
+    return table
+
+
+def _first_line(error: Exception) -> str:
+    return (str(error).strip().splitlines() or ["it cannot be read"])[0]
+
+
+def _opened(path: str) -> BinaryIO:
+    try:
+        return open(path, "rb")
+    except OSError as error:
+        raise BadInstance(f"cannot open {path}: {error.strerror}") from None
+
+
+def _rounded(values: np.ndarray, path: str) -> np.ndarray:
+    """The floats nearest to the decimals that stand there; a fast reader may be off by a bit."""
+    for decimals in (6, 3, 2):
+        try:
+            return spelling.nearest(values, decimals)
+        except OverflowError as error:
+            told = error
+    raise BadInstance(f"{path}: {told} cannot be held")
+
+
+def read_blocks(path: str) -> Blocks:
+    """A block file, `id x y z tonnes grade zone`.
+
+    Raises BadInstance where a line has other fields or identifiers are not 0, 1, 2, ..
+    """
+    types = dict.fromkeys(range(7), np.int32) | {4: float, 5: float}
+    parts: list[list[np.ndarray]] = []
+    count = 0
+    with _opened(path) as file:
+        for piece in _pieces(file):
+            if not piece.strip():
+                continue
+            if len(_first(piece).split()) != 7:
+                raise BadInstance(f"{path}: no line of a block file: {_shown(piece)}")
+            table = _table(piece, path, types)
+            if not np.array_equal(table[0], np.arange(count, count + len(table))):
+                raise BadInstance(f"{path}: no line of a block file: identifiers are not 0, 1, 2, ..")
+            count += len(table)
+            columns = [table[column].to_numpy() for column in range(1, 7)]
+            parts.append([_rounded(column, path) if column.dtype == float else column for column in columns])
+    if not parts:
+        raise BadInstance(f"{path}: there are no blocks")
+    x, y, z, tonnes, grade, zone = (np.concatenate(column) for column in zip(*parts))
+    return Blocks(x, y, z, tonnes, grade, zone)
+
+
+def _first(piece: bytes) -> bytes:
+    """The first line that has fields."""
+    return piece.lstrip().split(b"\n", 1)[0].strip()
+
+
+def _shown(piece: bytes) -> str:
+    return f"`{_first(piece)[:60].decode('utf-8', 'replace')}`"
+
+
+def _line_lengths(piece: bytes) -> np.ndarray:
+    """How many fields each line has that has one."""
+    text = np.frombuffer(piece, dtype=np.uint8)
+    is_blank = text <= 32
+    begins = ~is_blank
+    begins[1:] &= is_blank[:-1]
+    line_ends = np.flatnonzero(text == 10)
+    so_far = np.searchsorted(np.flatnonzero(begins), line_ends)
+    lengths = np.diff(so_far, prepend=0)
+    return lengths[lengths > 0]
+
+
+def precedence_pieces(path: str) -> Iterator[tuple[np.ndarray, np.ndarray]]:
+    """Of each piece of a precedence file how many predecessors its lines have, and these in turn.
+
+    Raises BadInstance where a line is no `id k p1 .. pk`, or identifiers are not 0, 1, 2, ..
+    """
+    done = 0
+    with _opened(path) as file:
+        for piece in _pieces(file):
+            lengths = _line_lengths(piece)
+            if not len(lengths):
+                continue
+            try:
+                fields = np.fromstring(piece, dtype=np.int64, sep=" ")
+            except ValueError:
+                fields = np.empty(0, dtype=np.int64)
+            starts = np.cumsum(lengths) - lengths
+            if len(fields) != lengths.sum() or lengths.min() < 2 \
+                    or not np.array_equal(fields[starts], np.arange(done, done + len(starts))) \
+                    or not np.array_equal(fields[starts + 1], lengths - 2):
+                raise BadInstance(f"{path}: no line of the precedence file of these blocks")
+            is_predecessor = np.ones(len(fields), dtype=bool)
+            is_predecessor[starts] = is_predecessor[starts + 1] = False
+            done += len(starts)
+            yield lengths - 2, fields[is_predecessor]
+
+
+def read_precedence(path: str, blocks: Optional[int] = None) -> sparse.csr_matrix:
+    """A precedence file as a matrix (n, n), 1 at (b, p) where block b waits for block p.
+
+    It takes 5 bytes an arc. Raises BadInstance as `precedence_pieces` does, where there are not as
+    many lines as blocks, and where a predecessor is none of them.
+    """
+    counts, above = [], []
+    for count, predecessors in precedence_pieces(path):
+        counts.append(count)
+        if len(predecessors) and not 0 <= predecessors.min() <= predecessors.max() < 2**31:
+            raise BadInstance(f"{path}: a predecessor is no block")
+        above.append(predecessors.astype(np.int32))
+    starts = np.concatenate([[0], np.cumsum(np.concatenate(counts))]) if counts else np.zeros(1, int)
+    n = len(starts) - 1
+    indices = np.concatenate(above) if above else np.empty(0, np.int32)
+    if blocks is not None and n != blocks:
+        raise BadInstance(f"{path}: it has {n} lines, and there are {blocks} blocks")
+    if len(indices) and indices.max() >= n:
+        raise BadInstance(f"{path}: a predecessor is no block: {indices.max()}")
+    starts = starts.astype(np.int32 if starts[-1] < 2**31 else np.int64)
+    matrix = sparse.csr_matrix((n, n), dtype=np.int8)
+    matrix.indptr, matrix.indices = starts, indices
+    matrix.data = np.ones(len(indices), dtype=np.int8)
+    return matrix
+
+
+def count_predecessors(path: str) -> np.ndarray:
+    """How many predecessors each line of a precedence file names by its second field, (n,).
+
+    What follows that field is skipped, so a file of hundreds of millions of arcs takes seconds.
+    Raises BadInstance where identifiers are not 0, 1, 2, ..
+    """
+    counts, done = [], 0
+    with _opened(path) as file:
+        for piece in _pieces(file):
+            heads = _heads(piece)
+            try:
+                fields = np.fromstring(heads, dtype=np.int64, sep=" ").reshape(-1, 2)
+            except ValueError:
+                raise BadInstance(f"{path}: no line of the precedence file of these blocks") from None
+            if not np.array_equal(fields[:, 0], np.arange(done, done + len(fields))):
+                raise BadInstance(f"{path}: no line of the precedence file of these blocks")
+            done += len(fields)
+            counts.append(fields[:, 1])
+    return np.concatenate(counts) if counts else np.empty(0, dtype=np.int64)
+
+
+def _heads(piece: bytes) -> bytes:
+    """The first two fields of each line."""
+    text = np.frombuffer(piece, dtype=np.uint8)
+    ends = np.flatnonzero(text == 10)
+    starts = np.concatenate([[0], ends[:-1] + 1])
+    # An identifier and a count have at most 8 digits each, so that 18 bytes hold both.
+    window = starts[:, None] + np.arange(19)
+    inside = window <= ends[:, None]
+    shown = np.where(inside, text[np.minimum(window, len(text) - 1)], 10)
+    blanks = np.cumsum((shown == 32) | (shown == 9), axis=1)
+    head = np.where((blanks < 2) & (shown > 32), shown, 32).astype(np.uint8)
+    head[:, -1] = 10
+    return head.tobytes()
+
+
+class _Model:
+    """The header and the sections of a model file, as they come."""
+
+    def __init__(self, path: str):
+        self.path = path
+        self.header: dict[str, str] = {}
+
+    def sections(self) -> Iterator[tuple[str, bytes]]:
+        """Pieces of lines, each with the section that has them. Header lines are taken on the way."""
+        section = ""
+        with _opened(self.path) as file:
+            for piece in _pieces(file):
+                while (colon := piece.find(b":")) >= 0:
+                    start = piece.rfind(b"\n", 0, colon) + 1
+                    end = piece.find(b"\n", colon)
+                    if start and piece[:start].strip():
+                        yield section, piece[:start]
+                    key = piece[start:colon].strip().decode("utf-8", "replace")
+                    value = piece[colon + 1:end].strip().decode("utf-8", "replace")
+                    if value:
+                        self.header[key] = value
+                    else:
+                        section = key
+                        yield section, b""
+                    piece = piece[end + 1:]
+                if piece.strip():
+                    yield section, piece
+
+    def number(self, key: str) -> float:
+        try:
+            return float(self.header[key])
+        except (KeyError, ValueError):
+            raise BadInstance(f"{self.path}: no number behind {key}") from None
+
+    def count(self, key: str) -> int:
+        return int(self.number(key))
+
+
+def _objective_part(model: _Model, piece: bytes, destinations: int, done: int) -> np.ndarray:
+    types = {0: np.int32, **dict.fromkeys(range(1, destinations + 1), float)}
+    if len(_first(piece).split()) != destinations + 1:
+        raise BadInstance(f"{model.path}: no values of these blocks at {destinations} destinations: "
+                          f"{_shown(piece)}")
+    table = _table(piece, model.path, types)
+    if not np.array_equal(table[0], np.arange(done, done + len(table))):
+        raise BadInstance(f"{model.path}: the objective's blocks are not 0, 1, 2, ..")
+    return _rounded(table[list(range(1, destinations + 1))].to_numpy(), model.path)
+
+
+def _uses_part(model: _Model, piece: bytes, fields: int) -> list[np.ndarray]:
+    whole = [np.int32, np.int8, np.int8] if fields == 4 else [np.int32, np.int8]
+    table = _table(piece, model.path, dict(enumerate([*whole, float])))
+    columns = [table[at].to_numpy() for at in range(fields)]
+    columns[-1] = _rounded(columns[-1], model.path)
+    return columns if fields == 4 else [columns[0], np.zeros(len(table), np.int8), *columns[1:]]
+
+
+def _limits_of(model: _Model, pieces: Iterable[bytes]) -> list[Limit]:
+    limits = []
+    for line in b"".join(pieces).decode("utf-8", "replace").splitlines():
+        fields = line.split()
+        if not fields:
+            continue
+        try:
+            resource, period, letter = int(fields[0]), int(fields[1]), fields[2]
+            ends = list(map(float, fields[3:]))
+        except (ValueError, IndexError):
+            raise BadInstance(f"{model.path}: no limit: `{line}`") from None
+        if len(ends) != {"L": 1, "G": 1, "I": 2}.get(letter):
+            raise BadInstance(f"{model.path}: no limit: `{line}`")
+        limits.append(Limit.of(resource, period, letter, ends))
+    return limits
+
+
+def _values_decimals(values: np.ndarray) -> int:
+    return 2 if spelling.fewest_decimals(values, (2, 6)) == 2 else 6
+
+
+def _read_model(path: str, kind: str):
+    """A model file: its header, values, uses and limits."""
+    model = _Model(path)
+    values, uses, limits = [], [], []
+    done, destinations = 0, 1
+    for section, piece in model.sections():
+        if section == OBJECTIVE and not piece:
+            if model.header.get("TYPE") != kind:
+                raise BadInstance(f"{path}: TYPE is `{model.header.get('TYPE', '')}` and not {kind}")
+            destinations = model.count("NDESTINATIONS") if kind == "PCPSP" else 1
+        elif section == OBJECTIVE:
+            values.append(_objective_part(model, piece, destinations, done))
+            done += len(values[-1])
+        elif section == COEFFICIENTS and piece:
+            uses.append(_uses_part(model, piece, 4 if kind == "PCPSP" else 3))
+        elif section == LIMITS and piece:
+            limits.append(piece)
+        elif piece:
+            raise BadInstance(f"{path}: no line of a {kind} file: {_shown(piece)}")
+    if "NAME" not in model.header:
+        raise BadInstance(f"{path}: no line of a {kind} file: it has no NAME")
+    whole = np.concatenate(values) if values else np.empty((0, destinations))
+    if model.count("NBLOCKS") != len(whole):
+        raise BadInstance(f"{path}: NBLOCKS is {model.count('NBLOCKS')}, and {len(whole)} blocks have values")
+    return model, whole, uses, limits
+
+
+def read_upit(path: str) -> UltimatePit:
+    """A UPIT file. Raises BadInstance where it is none."""
+    model, values, _, _ = _read_model(path, "UPIT")
+    return UltimatePit(model.header["NAME"], values[:, 0])
+
+
+def read_problem(path: str, kind: Optional[str] = None) -> Problem:
+    """A PCPSP or a CPIT file; the kind is that of the file's ending where none is given.
+
+    Raises BadInstance where it is none, or its parts do not fit.
+    """
+    kind = kind or os.path.splitext(path)[1][1:].upper()
+    if kind not in ("PCPSP", "CPIT"):
+        kind = _kind_of(path)
+    model, values, uses, limits = _read_model(path, kind)
+    columns = [np.concatenate(part) for part in zip(*uses)] if uses else \
+        [np.empty(0, np.int32), np.empty(0, np.int8), np.empty(0, np.int8), np.empty(0)]
+    problem = Problem(kind, model.header["NAME"], model.count("NPERIODS"),
+                      model.count("NRESOURCE_SIDE_CONSTRAINTS"), model.number("DISCOUNT_RATE"),
+                      values, Uses(*columns), _limits_of(model, limits))
+    _look_at_ranges(problem, path)
+    return problem
+
+
+def _kind_of(path: str) -> str:
+    with _opened(path) as file:
+        head = file.read(4096).decode("utf-8", "replace")
+    for line in head.splitlines():
+        key, _, value = line.partition(":")
+        if key.strip() == "TYPE" and value.strip() in ("PCPSP", "CPIT"):
+            return value.strip()
+    raise BadInstance(f"{path}: its TYPE is neither PCPSP nor CPIT")
+
+
+def _look_at_ranges(problem: Problem, path: str) -> None:
+    uses = problem.uses
+    for what, column, end in (("block", uses.block, len(problem.values)),
+                              ("destination", uses.destination, problem.destinations),
+                              ("resource", uses.resource, problem.resources)):
+        if len(column) and not 0 <= column.min() <= column.max() < end:
+            raise BadInstance(f"{path}: a coefficient's {what} is not below {end}")
+    for limit in problem.limits:
+        if not (0 <= limit.resource < problem.resources and 0 <= limit.period < problem.periods):
+            raise BadInstance(f"{path}: a limit's resource or period is not there: "
+                              f"{limit.resource} {limit.period}")
+
+
+def read_instance(base: str, texts: Sequence[str] = TEXTS) -> Instance:
+    """The files BASE.blocks and so on, those of `texts`; BASE.upit and BASE.cpit may be lacking.
+
+    Raises BadInstance where a file is none, or they are of other numbers of blocks.
+    """
+    readers = {"blocks": read_blocks, "prec": read_precedence, "upit": read_upit,
+               "pcpsp": lambda path: read_problem(path, "PCPSP"),
+               "cpit": lambda path: read_problem(path, "CPIT")}
+    parts = {}
+    for text in texts:
+        path = f"{base}.{text}"
+        if text in ("upit", "cpit") and not os.path.exists(path):
+            continue
+        parts["precedence" if text == "prec" else text] = readers[text](path)
+    sizes = {"blocks": lambda part: len(part), "precedence": lambda part: part.shape[0]}
+    counts = {name: sizes.get(name, lambda part: len(part.values))(part) for name, part in parts.items()}
+    if len(set(counts.values())) > 1:
+        told = ", ".join(f"{name} {count}" for name, count in counts.items())
+        raise BadInstance(f"{base}: the files are not of as many blocks: {told}")
+    return Instance(**parts)
+
+
+# Writing
+
+
+def write_blocks(blocks: Blocks, path: str) -> None:
+    """A block file."""
+    columns = [(np.arange(len(blocks)), 0), (blocks.x, 0), (blocks.y, 0), (blocks.z, 0),
+               (spelling.scaled(blocks.tonnes, 3), 3), (spelling.scaled(blocks.grade, 6), 6), (blocks.zone, 0)]
+    _write(path, spelling.lines_of(columns))
+
+
+def write_precedence(precedence: sparse.csr_matrix, path: str) -> None:
+    """A precedence file: a line `id k p1 .. pk` for each row."""
+    def pieces(rows: int = 1 << 16) -> Iterator[bytes]:
+        starts = precedence.indptr
+        for first in range(0, precedence.shape[0], rows):
+            last = min(first + rows, precedence.shape[0])
+            counts = np.diff(starts[first:last + 1]).astype(np.int64)
+            heads = np.cumsum(counts + 2) - (counts + 2)
+            fields = np.empty(int((counts + 2).sum()), dtype=np.int64)
+            is_predecessor = np.ones(len(fields), dtype=bool)
+            is_predecessor[heads] = is_predecessor[heads + 1] = False
+            fields[heads], fields[heads + 1] = np.arange(first, last), counts
+            fields[is_predecessor] = precedence.indices[starts[first]:starts[last]]
+            ends = np.full(len(fields), 32, dtype=np.uint8)
+            ends[heads + counts + 1] = 10
+            yield from spelling.lines_of([(fields, 0)], ends)
+    _write(path, pieces())
+
+
+def write_upit(upit: UltimatePit, path: str) -> None:
+    """A UPIT file."""
+    head = f"NAME: {upit.name}\nTYPE: UPIT\nNBLOCKS: {len(upit.values)}\n{OBJECTIVE}:\n"
+    _write(path, chain([head.encode()], _objective_lines(upit.values[:, None])))
+
+
+def write_problem(problem: Problem, path: str) -> None:
+    """A PCPSP or a CPIT file, by the problem's kind."""
+    is_pcpsp = problem.kind == "PCPSP"
+    keys = {"NAME": problem.name, "TYPE": problem.kind, "NBLOCKS": len(problem.values),
+            "NPERIODS": problem.periods, "NDESTINATIONS": problem.destinations,
+            "NRESOURCE_SIDE_CONSTRAINTS": problem.resources, "NGENERAL_SIDE_CONSTRAINTS": 0,
+            "DISCOUNT_RATE": spelling.shortest(problem.rate)}
+    if not is_pcpsp:
+        del keys["NDESTINATIONS"], keys["NGENERAL_SIDE_CONSTRAINTS"]
+    head = "".join(f"{key}: {value}\n" for key, value in keys.items()) + f"{OBJECTIVE}:\n"
+    limits = "".join(f"{limit.resource} {limit.period} {limit.letter} "
+                     f"{' '.join(map(spelling.shortest, limit.ends))}\n" for limit in problem.limits)
+    _write(path, chain([head.encode()], _objective_lines(problem.values), [f"{COEFFICIENTS}:\n".encode()],
+                       _uses_lines(problem.uses, is_pcpsp), [f"{LIMITS}:\n{limits}".encode()]))
+
+
+def _objective_lines(values: np.ndarray) -> Iterator[bytes]:
+    decimals = _values_decimals(values)
+    columns = [(spelling.scaled(column, decimals), decimals) for column in values.T]
+    return spelling.lines_of([(np.arange(len(values)), 0), *columns])
+
+
+def _uses_lines(uses: Uses, with_destination: bool) -> Iterator[bytes]:
+    decimals = spelling.fewest_decimals(uses.amount, (3, 6))
+    destination = [(uses.destination, 0)] if with_destination else []
+    return spelling.lines_of([(uses.block, 0), *destination, (uses.resource, 0),
+                             (spelling.scaled(uses.amount, decimals), decimals)])
+
+
+def _write(path: str, pieces: Iterable[bytes]) -> None:
+    try:
+        with open(path, "wb") as file:
+            for piece in pieces:
+                file.write(piece)
+    except OSError as error:
+        raise BadInstance(f"cannot write {path}: {error.strerror}") from None
+
+
+def write_instance(instance: Instance, base: str) -> None:
+    """The parts of an instance that are there, to BASE.blocks and so on: the bytes of `pitc`."""
+    writers = {"blocks": (instance.blocks, write_blocks), "prec": (instance.precedence, write_precedence),
+               "upit": (instance.upit, write_upit), "pcpsp": (instance.pcpsp, write_problem),
+               "cpit": (instance.cpit, write_problem)}
+    for text, (part, write) in writers.items():
+        if part is not None:
+            write(part, f"{base}.{text}")

@@ -1,0 +1,43 @@
+"""Pits as files: the identifier of a block on each line; and what a pit holds and is worth."""
+from __future__ import annotations
+
+from typing import Optional
+
+import numpy as np
+
+from pit_tools.errors import UserError
+from pit_tools.instance import Blocks, cents
+
+
+def read_pit(path: str, blocks: Optional[int] = None) -> np.ndarray:
+    """The blocks of a pit's file in rising order, int64. Further fields of a line are left out.
+
+    Raises UserError where a line begins with no identifier below `blocks`, or one stands twice.
+    """
+    found = []
+    with open(path, encoding="utf-8", errors="replace") as file:
+        for number, line in enumerate(file, 1):
+            fields = line.split()
+            if not fields:
+                continue
+            if not fields[0].isdigit() or (blocks is not None and int(fields[0]) >= blocks):
+                raise UserError(f"{path}: line {number}: `{fields[0]}` is no block")
+            found.append(int(fields[0]))
+    taken = np.unique(np.array(found, dtype=np.int64))
+    if len(taken) != len(found):
+        raise UserError(f"{path}: a block stands twice")
+    return taken
+
+
+def write_pit(in_pit: np.ndarray, path: str) -> None:
+    """Writes the identifiers of the blocks that are in the pit, bool (n,)."""
+    np.savetxt(path, np.flatnonzero(in_pit), fmt="%d")
+
+
+def told(in_pit: np.ndarray, blocks: Blocks, values: np.ndarray) -> str:
+    """What a pit, bool (n,), holds and is worth, in a line."""
+    worth = int(cents(values)[in_pit].sum())
+    kilograms = int(np.rint(blocks.tonnes[in_pit] * 1000).astype(np.int64).sum())
+    sign = "-" if worth < 0 else ""
+    return f"{in_pit.sum()} blocks, {kilograms // 1000}.{kilograms % 1000:03d} t, " \
+           f"worth {sign}{abs(worth) // 100}.{abs(worth) % 100:02d}"

@@ -1,0 +1,113 @@
+"""The ultimate pit against HiGHS and against all closures of small mines."""
+import itertools
+
+import numpy as np
+import pytest
+from scipy import sparse
+
+import mines
+from pit_tools import closure
+from pit_tools.commands import pit as pit_command
+from pit_tools.instance import cents, read_instance
+from pit_tools.pits import read_pit, told
+from pit_tools.plan_file import read_plan
+
+pytestmark = pytest.mark.skipif(closure.compiler() is None, reason="no C++ compiler is here")
+
+
+def random_arcs(random, blocks, share):
+    """Arcs from a block to later ones."""
+    upper = np.triu(random.random((blocks, blocks)) < share, 1)
+    return sparse.csr_matrix(upper.astype(np.int8))
+
+
+def is_closed(in_pit, precedence):
+    rows = np.repeat(np.arange(precedence.shape[0]), np.diff(precedence.indptr))
+    return not np.any(in_pit[rows] & ~in_pit[precedence.indices])
+
+
+def greatest(values, precedence):
+    """The greatest value of all closed sets of a few blocks."""
+    sets = (np.array(bits, dtype=bool) for bits in itertools.product([0, 1], repeat=len(values)))
+    return max(int(cents(values)[bits].sum()) for bits in sets if is_closed(bits, precedence))
+
+
+@pytest.mark.parametrize("seed", range(40))
+def test_a_pit_of_few_blocks_is_worth_most_of_all(seed):
+    random = np.random.default_rng(seed)
+    values = random.integers(-500, 500, 11) / 100
+    arcs = random_arcs(random, 11, random.choice([0.05, 0.2, 0.5]))
+    in_pit = closure.ultimate_pit(values, arcs)
+    assert is_closed(in_pit, arcs)
+    assert cents(values)[in_pit].sum() == greatest(values, arcs)
+
+
+@pytest.mark.parametrize("seed", range(12))
+def test_a_pit_is_worth_what_highs_finds(seed):
+    random = np.random.default_rng(100 + seed)
+    blocks = int(random.integers(50, 400))
+    values = random.integers(-90000, 70000, blocks) / 100
+    arcs = random_arcs(random, blocks, 5 / blocks)
+    in_pit = closure.ultimate_pit(values, arcs)
+    by_highs = closure._pit_by_highs(cents(values), arcs)
+    assert is_closed(in_pit, arcs) and is_closed(by_highs, arcs)
+    assert cents(values)[in_pit].sum() == cents(values)[by_highs].sum()
+
+
+@pytest.mark.parametrize("make", [
+    lambda folder: mines.deposit(folder, 1, (12, 9, 6), "lens", 3),
+    lambda folder: mines.deposit(folder, 2, (12, 9, 6), "pipe", 6),
+    lambda folder: mines.deposit(folder, None, (14, 9, 8), "vein"),
+])
+def test_arcs_that_others_imply_change_no_pit(tmp_path, make):
+    base = make(tmp_path)
+    mine = read_instance(base)
+    all_arcs = closure.ultimate_pit(mine.upit.values, mine.precedence)
+    fewer = closure.immediate(mine.precedence)
+    assert fewer.nnz < mine.precedence.nnz and 0 < all_arcs.sum() < len(all_arcs)
+    assert np.array_equal(closure.ultimate_pit(mine.upit.values, fewer), all_arcs)
+    by_cones, left = closure.pit_of_plan(mine.upit.values, mine.blocks, read_plan(base + ".plan"))
+    assert np.array_equal(by_cones, all_arcs) and left <= mine.precedence.nnz
+
+
+def reaches(precedence):
+    """All that each block waits for, by way of others too."""
+    far = precedence.toarray().astype(bool)
+    for block in range(len(far) - 1, -1, -1):
+        for other in np.flatnonzero(far[block]):
+            far[block] |= far[other]
+    return far
+
+
+def test_arcs_that_are_left_imply_all_others(tmp_path):
+    mine = read_instance(mines.deposit(tmp_path, K=5))
+    fewer = closure.immediate(mine.precedence)
+    assert fewer.nnz < mine.precedence.nnz
+    assert np.array_equal(reaches(fewer), reaches(mine.precedence))
+
+
+def test_values_beyond_32_bits_are_counted_to_the_cent():
+    values = np.array([12345678901.01, -12345678901.0, 5.0, -5.01])
+    arcs = sparse.csr_matrix(np.array([[0, 1, 0, 0], [0, 0, 0, 0], [0, 0, 0, 1], [0, 0, 0, 0]], np.int8))
+    assert closure.ultimate_pit(values, arcs).tolist() == [True, True, False, False]
+
+
+def test_the_command_finds_the_pit_of_the_deposit(tmp_path, capsys):
+    """The pit of the example deposit at K = 1, as GLPK and cbc found it too."""
+    base = mines.deposit(tmp_path, size=(24, 18, 12), K=1)
+    parser = pit_command.argparse.ArgumentParser()
+    pit_command.add_arguments(parser)
+    out = str(tmp_path / "k")
+    pit_command.run(parser.parse_args([base, "--plan", base + ".plan", "--K", "1,9", "--out", out]))
+    pit_command.run(parser.parse_args([base, "--out", str(tmp_path / "all.pit")]))
+    assert capsys.readouterr().out.splitlines() == [
+        "K = 1: 2150 blocks, 22915240.976 t, worth 1514494469.90",
+        "K = 9: 2337 blocks, 24847300.449 t, worth 1511167919.27",
+        "2150 blocks, 22915240.976 t, worth 1514494469.90"]
+    assert len(read_pit(out + "9.pit")) == 2337
+
+
+def test_a_pit_is_told_in_whole_cents(tmp_path):
+    mine = read_instance(mines.six_blocks(tmp_path))
+    in_pit = np.array([True, False, False, True, True, False])
+    assert told(in_pit, mine.blocks, mine.upit.values) == "3 blocks, 8000.000 t, worth 241285.00"

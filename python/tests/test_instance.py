@@ -1,0 +1,128 @@
+"""An instance as arrays, and back to the byte."""
+import numpy as np
+import pytest
+
+import mines
+from pit_tools import instance
+from pit_tools.cones import precedence_of
+from pit_tools.errors import UserError
+from pit_tools.instance import Limit, read_instance, write_instance
+from pit_tools.plan_file import read_plan
+from pit_tools.valuation import blocks_of, instance_of
+from pit_tools.zone_files import read_zone_files
+
+
+@pytest.mark.parametrize("make", [
+    mines.six_blocks,
+    mines.deposit,
+    lambda folder: mines.deposit(folder, 3, (6, 5, 4), "vein", 4),
+    lambda folder: mines.six_blocks(folder, ("rate,0.08", "rate,0.000001"), ("L,60000", "L,60000.5"), ("limit,fleet,0,I,0,", "limit,fleet,0,I,0.25,")),
+])
+def test_an_instance_is_written_as_it_was_read(tmp_path, make):
+    base = make(tmp_path)
+    write_instance(read_instance(base), str(tmp_path / "copy"))
+    for text in instance.TEXTS:
+        assert (tmp_path / f"copy.{text}").read_bytes() == open(f"{base}.{text}", "rb").read(), text
+
+
+def test_small_pieces_are_read_as_large_ones(tmp_path, monkeypatch):
+    base = mines.deposit(tmp_path, K=3)
+    monkeypatch.setattr(instance, "_PIECE", 700)
+    write_instance(read_instance(base), str(tmp_path / "copy"))
+    for text in instance.TEXTS:
+        assert (tmp_path / f"copy.{text}").read_bytes() == open(f"{base}.{text}", "rb").read(), text
+
+
+def test_arrays_of_the_six_blocks(tmp_path):
+    mine = read_instance(mines.six_blocks(tmp_path))
+    assert mine.counts() == "blocks 6 arcs 7 coefficients 24 limits 4 cpit 10"
+    assert mine.blocks.tonnes.tolist() == [2700, 2700, 2700, 2650, 2650, 2650]
+    assert mine.blocks.grade.tolist() == [1.8, 2.4, 0.7, 0.2, 0.45, 0]
+    assert mine.precedence.toarray()[:3].tolist() == [[0, 0, 0, 1, 1, 0], [0, 0, 0, 1, 1, 1], [0, 0, 0, 0, 1, 1]]
+    assert mine.precedence[3:].nnz == 0
+    assert mine.upit.values.tolist() == [221940, 309420, 61560, -5300, 24645, -5300]
+    assert mine.pcpsp.values[4].tolist() == [24645, 9142.5, -5300]
+    assert mine.pcpsp.use_matrix(0).toarray().tolist() == [[t, 0, 0] for t in [2700] * 3 + [2650] * 3]
+    assert mine.pcpsp.use_matrix(1).toarray()[3].tolist() == [2650] * 3
+    assert mine.cpit.use_matrix(0).toarray().ravel().tolist() == [2700, 2700, 2700, 0, 2650, 0]
+    assert mine.cpit.limits[-1] == Limit(1, 0, "I", 0, 120000)
+    assert mine.pcpsp.discounts().tolist() == pytest.approx([1, 1 / 1.08, 1 / 1.08**2])
+
+
+def test_files_that_check_accepts_are_read(tmp_path):
+    base = mines.six_blocks(tmp_path)
+    write_instance(read_instance(base), str(tmp_path / "plain"))
+    for text in instance.TEXTS:
+        lines = (tmp_path / f"plain.{text}").read_text().splitlines()
+        mended = [f" \t{line.replace(' ', '  ')} \r\n\r\n% a comment: 1\r\n" for line in lines]
+        (tmp_path / f"odd.{text}").write_bytes(b"\xef\xbb\xbf" + "".join(mended).encode().rstrip())
+    write_instance(read_instance(str(tmp_path / "odd")), str(tmp_path / "copy"))
+    for text in instance.TEXTS:
+        assert (tmp_path / f"copy.{text}").read_bytes() == (tmp_path / f"plain.{text}").read_bytes(), text
+
+
+@pytest.mark.parametrize("text, old, new, told", [
+    ("blocks", "1 1 0 0", "7 1 0 0", "identifiers are not 0, 1, 2"),
+    ("blocks", "1.8 0", "1.8", "no line of a block file"),
+    ("blocks", "1.8 0", "x 0", "mine.blocks"),
+    ("prec", "0 2 3 4", "0 3 3 4", "no line of the precedence file"),
+    ("prec", "0 2 3 4", "0 2 3 9", "a predecessor is no block"),
+    ("prec", "5 0\n", "", "5 lines, and there are 6 blocks"),
+    ("pcpsp", "TYPE: PCPSP", "TYPE: CPIT", "TYPE is `CPIT`"),
+    ("pcpsp", "NBLOCKS: 6", "NBLOCKS: 7", "NBLOCKS is 7"),
+    ("pcpsp", "1 309420 197640 -5400", "1 309420 197640", "mine.pcpsp"),
+    ("pcpsp", "0 0 L 60000", "0 0 X 60000", "no limit"),
+    ("pcpsp", "0 0 L 60000", "0 9 L 60000", "a limit's resource or period"),
+    ("cpit", "0 0 2700", "0 5 2700", "a coefficient's resource"),
+    ("upit", "0 221940", "0 99999999999999999999", "cannot be held"),
+])
+def test_a_damaged_file_is_refused_by_its_name(tmp_path, text, old, new, told):
+    base = mines.six_blocks(tmp_path)
+    path = tmp_path / f"mine.{text}"
+    whole = path.read_text()
+    assert old in whole
+    path.write_text(whole.replace(old, new, 1))
+    with pytest.raises(UserError, match=told) as error:
+        if text == "prec":
+            instance.read_precedence(f"{base}.prec", 6)
+        else:
+            read_instance(base)
+    assert f"mine.{text}" in str(error.value) and "\n" not in str(error.value)
+
+
+def test_a_file_that_is_not_there_is_named(tmp_path):
+    with pytest.raises(UserError, match="cannot open .*gone.blocks"):
+        read_instance(str(tmp_path / "gone"))
+
+
+def test_predecessors_are_counted_without_reading_them(tmp_path):
+    base = mines.deposit(tmp_path, K=3)
+    mine = read_instance(base)
+    counts = instance.count_predecessors(f"{base}.prec")
+    assert counts.tolist() == np.diff(mine.precedence.indptr).tolist()
+
+
+@pytest.mark.parametrize("zone", ["zone,1,1,3", "zone,3,2,1,1,5,4,5,4,4", "zone,839,1000,2", "zone,1000,701,4", "zone,2,1,1,3,1,2,7,5,3"])
+def test_arcs_by_cones_are_those_of_the_files(tmp_path, zone):
+    base = mines.six_blocks(tmp_path, ("zone,1,1,1", zone), ("10,10,10", "10,5,10"))
+    rows = "x,y,z,tonnes,grade\n" + "".join(
+        f"{10 * x},{5 * y},{10 * z},1,0\n" for z in range(5) for y in range(7) for x in range(6) if (x + 2 * y + 3 * z) % 7)
+    base = mines.compiled(tmp_path, (tmp_path / "mine.plan").read_text(), [rows])
+    mine = read_instance(base)
+    assert mine.precedence.nnz > 200
+    found = precedence_of(mine.blocks, read_plan(f"{base}.plan"))
+    assert (found != mine.precedence).nnz == 0
+
+
+@pytest.mark.parametrize("make", [
+    mines.six_blocks,
+    lambda folder: mines.deposit(folder, 5, (8, 6, 5), "pipe", 3),
+    lambda folder: mines.six_blocks(folder, ("6000000,1500", "99999999,9999999"), ("dump,200", "dump,1")),
+])
+def test_the_instance_that_a_plan_defines_is_that_of_the_plain_computation(tmp_path, make):
+    base = make(tmp_path)
+    plan = read_plan(base + ".plan")
+    zones = [f"{base}-{number}.csv" for number in range(len(plan.zones))]
+    write_instance(instance_of(plan, blocks_of(plan, read_zone_files(zones))), str(tmp_path / "copy"))
+    for text in instance.TEXTS:
+        assert (tmp_path / f"copy.{text}").read_bytes() == open(f"{base}.{text}", "rb").read(), text
