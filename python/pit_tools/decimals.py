@@ -15,6 +15,9 @@ from pit_tools.errors import UserError
 # What a float of 53 bits may be off of the decimal that was written, relative to it, with some room.
 ROOM = 1e-14
 
+# Numbers of parts beyond this, as of -1e30, are held as this: no file of pitc has them.
+MOST = 1e18
+
 
 def rounded(text: Union[str, Decimal, int], places: int) -> int:
     """One decimal as a number of parts, rounded half away from zero. It raises ValueError for a text
@@ -38,12 +41,13 @@ def parts_of(texts: pd.Series, places: int) -> tuple[np.ndarray, np.ndarray]:
     scaled = floats * 10.0 ** places
     wrong = ~np.isfinite(scaled)
     scaled[wrong] = 0
+    scaled = np.clip(scaled, -MOST, MOST)
     room = np.abs(scaled) * ROOM + 1e-9
     down = np.floor(scaled)
     near = np.abs(scaled - down - 0.5) <= room
     parts = np.where(scaled - down < 0.5, down, down + 1).astype(np.int64)
-    for at in np.flatnonzero(near | (room > 0.25)):
-        parts[at] = 0 if wrong[at] else rounded(texts.iloc[at].strip(), places)
+    for at in np.flatnonzero((near | (room > 0.25)) & ~wrong & (np.abs(scaled) < MOST)):
+        parts[at] = rounded(texts.iloc[at].strip(), places)
     return parts, wrong
 
 

@@ -1,0 +1,269 @@
+"""The words that say what an export's columns are, and the formulas that they are for its header."""
+from __future__ import annotations
+
+from dataclasses import dataclass, field
+from decimal import Decimal
+from typing import Optional, Sequence
+
+import pandas as pd
+
+from pit_tools.errors import UserError
+from pit_tools.formulas import Formula, Lacking, formula_of, number_columns, plain_name
+from pit_tools.units import factor_of, is_factor, is_money_a_tonne, named_in
+
+# What each word is in, for the unit behind it.
+KINDS = {"x": "length", "y": "length", "z": "length", "i": "", "j": "", "k": "", "tonnes": "mass", "density": "density",
+         "waste_density": "density", "volume": "volume", "share": "share", "ore_share": "share", "grade": "grade",
+         "size_x": "length", "size_y": "length", "size_z": "length"}
+
+
+@dataclass
+class Words:
+    """What is said of an export; an empty word is not said. Names are those of the options of `pit-tools import`.
+
+    `x` to `ore_share` are columns or formulas, with a unit behind them; `sub_size` has three of them; `zone` names columns; `where`
+    are filters; `density_by` and `zones` are tables. The others say how the text is written, what the grid is, and what to do."""
+
+    x: str = ""
+    y: str = ""
+    z: str = ""
+    i: str = ""
+    j: str = ""
+    k: str = ""
+    tonnes: str = ""
+    density: str = ""
+    waste_density: str = ""
+    volume: str = ""
+    share: str = ""
+    ore_share: str = ""
+    grade: str = ""
+    sub_size: str = ""
+    zone: Sequence[str] = ()
+    zones: str = ""
+    density_by: str = ""
+    where: Sequence[str] = ()
+    names: Sequence[str] = ()
+    separator: str = ""
+    decimal: str = ""
+    thousands: str = ""
+    missing: Sequence[str] = ()
+    encoding: str = ""
+    sheet: str = ""
+    size: str = ""
+    first: str = ""
+    blocks: str = ""
+    order: str = "x,y,z"
+    index_from: Optional[int] = None
+    from_top: bool = False
+    parents: str = ""
+    corner: str = ""
+    merge: bool = False
+    x_bearing: Optional[float] = None
+    y_azimuth: Optional[float] = None
+    about: str = ""
+    holes: bool = False
+    in_feet: bool = False
+
+    @property
+    def is_listed(self) -> bool:
+        """Whether rows have no coordinates, and lie in an order."""
+        return not (self.x or self.i)
+
+    @property
+    def is_indexed(self) -> bool:
+        return bool(self.i)
+
+    @property
+    def is_turned(self) -> bool:
+        return self.x_bearing is not None or self.y_azimuth is not None
+
+    @property
+    def is_merged(self) -> bool:
+        """Whether several rows may be one block."""
+        return self.merge or bool(self.parents)
+
+    def formulas(self) -> dict[str, str]:
+        """The texts of formulas, by what they are."""
+        texts = {key: getattr(self, key) for key in KINDS if getattr(self, key, "")}
+        if self.sub_size:
+            cells = self.sub_size.split(",")
+            if len(cells) != 3:
+                raise UserError(f"--sub-size: give three columns, as XINC,YINC,ZINC, and not `{self.sub_size}`")
+            texts.update(zip(("size_x", "size_y", "size_z"), cells))
+        return texts
+
+    def judge(self) -> None:
+        """Refuses words that do not go together."""
+        if bool(self.x) != bool(self.y) or bool(self.x) != bool(self.z):
+            raise UserError("give --x, --y and --z together")
+        if bool(self.i) != bool(self.j) or bool(self.i) != bool(self.k):
+            raise UserError("give --i, --j and --k together")
+        if self.x and self.i:
+            raise UserError("give coordinates (--x) or indices (--i), not both")
+        if self.is_listed and not (self.blocks and self.first and self.size):
+            raise UserError("give --x, --y and --z; or --i, --j and --k with --first and --size; or, for rows without either, --blocks, "
+                            "--first and --size")
+        if self.is_indexed and not (self.first and self.size):
+            raise UserError("indices need --first, the centroid of the first block, and --size")
+        if bool(self.tonnes) == bool(self.density or self.density_by):
+            raise UserError("give --tonnes, or a density: --density, --density-by")
+        if not self.grade:
+            raise UserError("give --grade")
+        if bool(self.ore_share) != bool(self.waste_density):
+            raise UserError("give --ore-share and --waste-density together: the rest of a block is waste, and has a mass")
+        if self.ore_share and self.tonnes:
+            raise UserError("--ore-share goes with --density, which is that of the ore")
+        if self.x_bearing is not None and self.y_azimuth is not None:
+            raise UserError("give --x-bearing or --y-azimuth, not both")
+
+
+@dataclass(frozen=True)
+class Measure:
+    """A formula with what its unit is in the unit of `pitc`; `divides` where it is a volume for a mass."""
+
+    formula: Formula
+    factor: Decimal = Decimal(1)
+    unit: str = ""
+    divides: bool = False
+
+    @property
+    def plain_column(self) -> Optional[int]:
+        """The column whose cells go through digit for digit, or None."""
+        return self.formula.plain_column if self.factor == 1 and not self.divides else None
+
+
+@dataclass
+class Table:
+    """Rows of texts by which values are found: columns of the export, and of each row their texts (`*` is any) and a value."""
+
+    columns: list[int]
+    rows: list[tuple[list[str], str]]
+    source: str
+
+    def find(self, key: Sequence[str]) -> Optional[str]:
+        """The value of the first row that fits."""
+        for texts, value in self.rows:
+            if all(text in ("*", cell) for text, cell in zip(texts, map(plain_name, key))):
+                return value
+        return None
+
+
+@dataclass
+class Columns:
+    """The formulas of an export, by its header."""
+
+    measures: dict[str, Measure]
+    filters: list[tuple[Formula, set[int], set[int]]]
+    zone: list[int]
+    zones: Optional[Table]
+    densities: Optional[Table]
+    is_money: bool = False
+    told_units: list[str] = field(default_factory=list)
+
+    @property
+    def needed(self) -> list[int]:
+        """The columns that are read."""
+        wanted = {at for measure in self.measures.values() for at in measure.formula.columns}
+        wanted |= {at for formula, _, _ in self.filters for at in formula.columns} | set(self.zone)
+        for table in (self.zones, self.densities):
+            wanted |= set(table.columns) if table else set()
+        return sorted(wanted)
+
+    @property
+    def numeric(self) -> list[int]:
+        """The columns that are read as numbers by formulas."""
+        return sorted({at for measure in self.measures.values() for at in measure.formula.columns})
+
+
+def measure_of(text: str, kind: str, names: Sequence[str]) -> tuple[Measure, bool]:
+    """A formula with or without a unit behind it, and whether the unit is money a tonne."""
+    try:
+        return Measure(formula_of(text, names)), False
+    except UserError as whole:
+        front, _, unit = text.strip().rpartition(" ")
+        if not front or not kind:
+            raise
+        if kind == "grade" and is_money_a_tonne(unit):
+            return Measure(formula_of(front, names), unit=unit), True
+        factor = factor_of(unit, kind)
+        if factor is None:
+            try:
+                formula_of(front, names)
+            except UserError:
+                raise whole from None
+            raise UserError(f"`{unit}` behind `{front}` is no unit of a {kind} that is known, and no formula") from None
+        divides = kind == "density" and is_factor(unit)
+        return Measure(formula_of(front, names), factor, unit, divides), False
+
+
+def table_of(text: str, value: str, names: Sequence[str]) -> Table:
+    """A table in a file, whose columns are some of the export's and one called `value`; or in words, as `ROCK: ore=2.7, *=2.5`."""
+    name, colon, rest = text.partition(":")
+    if colon and "=" in rest:
+        at = column_of(name, names)
+        pairs = [pair.rpartition("=") for pair in rest.split(",")]
+        return Table([at], [([plain_name(key)], found.strip()) for key, _, found in pairs], text)
+    try:
+        table = pd.read_csv(text, dtype=str, keep_default_na=False, sep=None, engine="python", encoding="utf-8-sig")
+    except (OSError, ValueError, pd.errors.ParserError) as error:
+        raise UserError(f"{text}: {' '.join(str(error).split())}") from None
+    keys = [name for name in table.columns if plain_name(name) != value]
+    if len(keys) == len(table.columns) or not keys:
+        raise UserError(f"{text}: its columns have to be `{value}` and some of the export's")
+    given = next(name for name in table.columns if plain_name(name) == value)
+    rows = [([plain_name(row[key]) for key in keys], str(row[given]).strip()) for _, row in table.iterrows()]
+    return Table([column_of(key, names) for key in keys], rows, text)
+
+
+def column_of(name: str, names: Sequence[str]) -> int:
+    """The place of one column by its name."""
+    formula = formula_of(f"`{name.strip()}`", names)
+    return formula.columns[0]
+
+
+def columns_of(words: Words, names: Sequence[str]) -> Columns:
+    """The formulas for the columns of a header. It raises Lacking where one has a name that is none of them."""
+    measures: dict[str, Measure] = {}
+    is_money, hits = False, 0
+    try:
+        for key, text in words.formulas().items():
+            measures[key], money = measure_of(text, KINDS[key], names)
+            is_money |= money
+            hits += bool(measures[key].formula.columns)
+        zone = [column_of(name, names) for name in words.zone]
+        filters = []
+        for text in words.where:
+            formula = formula_of(text, names)
+            filters.append((formula, *number_columns(formula)))
+        zones = table_of(words.zones, "zone", names) if words.zones else None
+        densities = table_of(words.density_by, "density", names) if words.density_by else None
+    except Lacking as lacking:
+        lacking.hits = hits
+        raise
+    return Columns(measures, filters, zone, zones, densities, is_money)
+
+
+def unit_doubts(columns: Columns, names: Sequence[str], units: Sequence[Sequence[str]]) -> list[str]:
+    """Where a header or a row of units names another unit than the one by which a column is read."""
+    doubts = []
+    for key, measure in columns.measures.items():
+        at, kind = measure.plain_column, KINDS[key]
+        if at is None or not kind or measure.unit:
+            continue
+        texts = [names[at], *(row[at] for row in units if at < len(row))]
+        for text in texts:
+            unit = named_in(text, kind)
+            try:
+                factor = factor_of(unit, kind) if unit else None
+            except UserError as error:
+                doubts.append(f"`{' '.join(text.split())}` of the column {names[at]}: {error}; it is read as {TAKEN[kind]}")
+                break
+            if factor not in (None, 1):
+                doubts.append(f"the column {names[at]} says `{unit}`, and is read as {TAKEN[kind]}: if it is in {unit}, give "
+                              f"--{key.replace('_', '-')} '{names[at]} {unit}'")
+                break
+    return doubts
+
+
+TAKEN = {"length": "metres", "mass": "tonnes", "density": "tonnes a cubic metre", "volume": "cubic metres", "grade": "grams a tonne",
+         "share": "a share"}

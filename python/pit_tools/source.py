@@ -1,0 +1,309 @@
+"""Opens an export and finds how it is written: packed, its encoding, its separator, its header, rows of units; a workbook, a GSLIB
+file or a list without a header too. Rows are given as texts, in pieces, by pandas."""
+from __future__ import annotations
+
+import bz2
+import codecs
+import csv
+import gzip
+import io
+import lzma
+import re
+import zipfile
+from dataclasses import dataclass, field
+from typing import BinaryIO, Callable, Iterator, Optional, Sequence
+
+import pandas as pd
+
+from pit_tools.errors import UserError
+from pit_tools.formulas import Lacking
+
+# How many rows are texts at a time.
+CHUNK = 100_000
+
+# Among how many lines the header is looked for.
+HEAD_LINES = 100
+
+SEPARATORS = {",": "commas", ";": "semicolons", "\t": "tabs", "|": "bars", " ": "blanks"}
+
+NUMBER = re.compile(r"\s*[-+(]?[\d.,'’\s]*\d[\d.,'’\s]*([eEdD][-+]?\d+)?[-)%]?\s*")
+
+
+def is_number_like(text: str) -> bool:
+    """Whether a cell is a number in some spelling."""
+    return bool(NUMBER.fullmatch(text))
+
+
+def opened(path: str) -> BinaryIO:
+    """The bytes of a file, unpacked where it is a gzip, bzip2, xz or zip file of one text."""
+    with open(path, "rb") as file:
+        front = file.read(6)
+    if front.startswith(b"\x1f\x8b"):
+        return gzip.open(path)
+    if front.startswith(b"BZh"):
+        return bz2.open(path)
+    if front.startswith(b"\xfd7zXZ"):
+        return lzma.open(path)
+    if front.startswith(b"PK"):
+        archive = zipfile.ZipFile(path)
+        names = [name for name in archive.namelist() if not name.endswith("/")]
+        if len(names) != 1:
+            raise UserError(f"{path}: the archive has {len(names)} files: unpack it, and name one")
+        return archive.open(names[0])
+    return open(path, "rb")
+
+
+def is_workbook(path: str) -> bool:
+    """Whether a file is a workbook of the kind .xlsx."""
+    if not zipfile.is_zipfile(path):
+        return False
+    with zipfile.ZipFile(path) as archive:
+        return "xl/workbook.xml" in archive.namelist()
+
+
+def encoding_of(path: str) -> tuple[str, str]:
+    """The encoding of a text, and what to tell of it: by its mark, by its zero bytes, or by trying UTF-8 over all of it."""
+    with opened(path) as file:
+        front = file.read(4096)
+        if front.startswith(codecs.BOM_UTF8):
+            return "utf-8-sig", "UTF-8"
+        for mark, name in ((codecs.BOM_UTF16_LE, "utf-16"), (codecs.BOM_UTF16_BE, "utf-16")):
+            if front.startswith(mark):
+                return name, "UTF-16"
+        if len(front) > 3 and front[1::2].count(0) > len(front) // 3:
+            return "utf-16-le", "UTF-16 without a mark"
+        if len(front) > 3 and front[::2].count(0) > len(front) // 3:
+            return "utf-16-be", "UTF-16 without a mark"
+        if front.startswith(b"\xd0\xcf\x11\xe0"):
+            raise UserError(f"{path}: it is a workbook of the old kind (.xls): save it as .xlsx or as CSV")
+        if front.count(0):
+            raise UserError(f"{path}: it has zero bytes, so it is no text: export it as CSV")
+        decoder = codecs.getincrementaldecoder("utf-8")()
+        try:
+            while front:
+                decoder.decode(front)
+                front = file.read(1 << 20)
+            decoder.decode(b"", final=True)
+        except UnicodeDecodeError:
+            return "cp1252", "no UTF-8, and read as cp1252 (Western Windows); --encoding names another"
+    return "utf-8", "UTF-8"
+
+
+@dataclass
+class Source:
+    """An export: how it is written, and its columns.
+
+    `names` are those of the header, or of `--names`. `above` is how many lines stand above the header or, where there is none,
+    above the first row; `units` are the rows between the header and the first number."""
+
+    path: str
+    encoding: str
+    encoding_told: str
+    separator: str
+    names: list[str]
+    above: int
+    has_header: bool
+    header_line: int
+    kind: str = "text"
+    units: list[list[str]] = field(default_factory=list)
+    sheet: Optional[pd.DataFrame] = None
+    sheet_name: str = ""
+
+    def told(self) -> str:
+        """How the export is written, in words."""
+        if self.kind == "workbook":
+            how = f"sheet `{self.sheet_name}` of a workbook"
+        elif self.kind == "GSLIB":
+            how = f"GSLIB, {self.encoding_told}"
+        else:
+            how = f"cells between {SEPARATORS.get(self.separator, repr(self.separator))}, {self.encoding_told}"
+        header = f"header in line {self.header_line}" if self.has_header else "no header"
+        units = f"; {len(self.units)} between it and the first number left out" if self.units else ""
+        return f"{self.path}: {how}; {header}{units}"
+
+    def handle(self) -> io.TextIOWrapper:
+        """The text from the header on, or from the first row."""
+        text = io.TextIOWrapper(opened(self.path), encoding=self.encoding, errors="replace", newline="")
+        for _ in range(self.above):
+            text.readline()
+        return text
+
+    def chunks(self, columns: Sequence[int]) -> Iterator[pd.DataFrame]:
+        """The rows as texts, the columns being numbers of the header's; the index counts records from 0, the header being
+        record 0 where there is one. It raises UserError for a row of another width."""
+        wanted = sorted({*columns, len(self.names) - 1})
+        if self.sheet is not None:
+            yield self.sheet.iloc[1 if self.has_header else 0:][wanted].reset_index(drop=True).rename(lambda at: at + self.has_header)
+            return
+        blank = self.separator == " "
+        try:
+            with self.handle() as text, pd.read_csv(
+                    text, sep=r"\s+" if blank else self.separator, header=None, dtype=str, usecols=wanted, keep_default_na=False,
+                    na_values=[], chunksize=CHUNK, skipinitialspace=True, engine="c") as reader:
+                for number, table in enumerate(reader):
+                    if not number and self.has_header:
+                        table = table.iloc[1:]
+                    short = table[wanted[-1]].isna()
+                    if short.any():
+                        row = table.index[short][0]
+                        raise UserError(f"{self.path}: line {self.line_of(row)} has fewer cells than the header, which has "
+                                        f"{len(self.names)}")
+                    yield table
+        except pd.errors.ParserError as error:
+            found = re.search(r"Expected (\d+) fields in line (\d+), saw (\d+)", str(error))
+            if not found:
+                raise UserError(f"{self.path}: {' '.join(str(error).split())}") from None
+            raise UserError(f"{self.path}: line {int(found[2]) + self.above} has {found[3]} cells, and the header {found[1]}: is a "
+                            "comma in a cell without quotes, or a separator at the ends of lines?") from None
+        except pd.errors.EmptyDataError:
+            raise UserError(f"{self.path}: there is no row") from None
+
+    def line_of(self, record: int) -> int:
+        """The line on which a record ends, counted from 1 in the file: blank lines and line breaks within quotes count."""
+        if self.sheet is not None:
+            return record + self.header_line if self.has_header else record + 1
+        count = -1
+        with self.handle() as text:
+            if self.separator == " ":
+                for line, row in enumerate(text):
+                    count += bool(row.strip())
+                    if count == record:
+                        return line + 1 + self.above
+                return 0
+            reader = csv.reader(text, delimiter=self.separator)
+            for row in reader:
+                count += bool(row) and (len(row) > 1 or bool(row[0].strip()))
+                if count == record:
+                    return reader.line_num + self.above
+        return 0
+
+
+def head_of(path: str, encoding: str) -> str:
+    """The first lines of a text, enough for any header."""
+    with io.TextIOWrapper(opened(path), encoding=encoding, errors="replace", newline="") as text:
+        head = text.read(1 << 18)
+    if not head.strip():
+        raise UserError(f"{path}: there is no text")
+    if len(head) == 1 << 18 and "\n" in head:
+        head = head[:head.rindex("\n") + 1]
+    return head
+
+
+def records_of(head: str, separator: str) -> list[tuple[list[str], int, int]]:
+    """The first records of a text, each with how many lines stand above it and the line on which it ends."""
+    if separator == " ":
+        lines = head.splitlines()[:HEAD_LINES]
+        return [(line.split(), at, at + 1) for at, line in enumerate(lines)]
+    records, above = [], 0
+    reader = csv.reader(io.StringIO(head, newline=""), delimiter=separator)
+    try:
+        for row in reader:
+            records.append((row, above, reader.line_num))
+            above = reader.line_num
+            if len(records) == HEAD_LINES:
+                break
+    except csv.Error:
+        pass
+    return records
+
+
+def gslib_of(path: str, head: str, encoding: str, told: str) -> Optional[Source]:
+    """A GSLIB file: a title, a number of columns, a name on each of so many lines, and then rows of so many numbers."""
+    lines = head.splitlines()
+    count = re.match(r"\s*(\d+)(\s|$)", lines[1]) if len(lines) > 3 else None
+    columns = int(count[1]) if count else 0
+    if not 1 <= columns <= 200 or len(lines) < columns + 3:
+        return None
+    first = lines[columns + 2].split()
+    if len(first) != columns or not all(map(is_number_like, first)):
+        return None
+    names = [line.strip() for line in lines[2:columns + 2]]
+    if all(is_number_like(name) for name in names):
+        return None
+    return Source(path, encoding, told, " ", names, columns + 2, False, 0, kind="GSLIB")
+
+
+def source_of(path: str, resolve: Callable[[Sequence[str]], object], *, encoding: str = "", separator: str = "",
+              names: Sequence[str] = (), sheet: str = "") -> Source:
+    """Opens an export. `resolve` is called with the names of a header that may be one, and raises Lacking where a column is not
+    among them: the first line that it accepts is the header.
+
+    It raises UserError where no line has all the columns, and tells what the closest one has."""
+    if is_workbook(path):
+        return workbook_of(path, resolve, names, sheet)
+    told = encoding
+    if not encoding:
+        encoding, told = encoding_of(path)
+    try:
+        head = head_of(path, encoding)
+    except LookupError:
+        raise UserError(f"no encoding `{encoding}`: there are utf-8, cp1252, latin-1, utf-16 and others") from None
+    if names:
+        return headerless(path, resolve, head, encoding, told, separator, names)
+    gslib = gslib_of(path, head, encoding, told)
+    if gslib and not separator:
+        resolve(gslib.names)
+        return gslib
+    closest: tuple[int, str] = (-1, "")
+    for one in [separator] if separator else SEPARATORS:
+        for row, above, line in records_of(head, one):
+            if not any(cell.strip() for cell in row):
+                continue
+            try:
+                resolve(row)
+                return Source(path, encoding, told, one, row, above, True, line)
+            except Lacking as lacking:
+                shared = len(row) + 1000 * lacking.hits - 500 * (sum(map(is_number_like, row)) > len(row) / 2)
+                if shared > closest[0]:
+                    named = " ".join(f"`{' '.join(name.split())}`" for name in row)
+                    closest = shared, f"{lacking} in line {line}, which has {named}"
+    first = records_of(head, separator or closest_separator(head))[0][0]
+    if len(first) > 3 and sum(map(is_number_like, first)) > len(first) / 2:
+        raise UserError(f"{path}: there is no header, since line 1 has numbers: name its {len(first)} columns by --names X,Y,..")
+    raise UserError(f"{path}: {closest[1]}")
+
+
+def closest_separator(head: str) -> str:
+    """The separator that cuts the first lines most."""
+    lines = [line for line in head.splitlines()[:20] if line.strip()]
+    return max(SEPARATORS, key=lambda one: min(len(line.split() if one == " " else line.split(one)) for line in lines) - (one == " "))
+
+
+def headerless(path: str, resolve: Callable, head: str, encoding: str, told: str, separator: str, names: Sequence[str]) -> Source:
+    """A list without a header, whose columns are named."""
+    resolve(names)
+    tried = [separator] if separator else list(SEPARATORS)
+    for one in tried:
+        for row, above, _ in records_of(head, one):
+            if len(row) == len(names) and sum(map(is_number_like, row)) >= min(3, len(row)):
+                return Source(path, encoding, told, one, list(names), above, False, 0)
+    widths = sorted({len(row) for row, _, _ in records_of(head, separator or closest_separator(head)) if row})
+    raise UserError(f"{path}: --names has {len(names)} names, and lines have {', '.join(map(str, widths))} cells")
+
+
+def workbook_of(path: str, resolve: Callable, names: Sequence[str], sheet: str) -> Source:
+    """A sheet of a workbook: the one that is named, or the first that has all the columns."""
+    sheets = pd.read_excel(path, sheet_name=sheet or None, header=None, dtype=object)
+    if not isinstance(sheets, dict):
+        sheets = {sheet: sheets}
+    told = ""
+    for name, table in sheets.items():
+        texts = table.apply(lambda column: column.map(_cell_text))
+        for at in range(min(HEAD_LINES, len(texts))) if not names else [0]:
+            row = list(names) or texts.iloc[at].tolist()
+            try:
+                resolve(row)
+            except Lacking as lacking:
+                told = told or f"{lacking} in sheet `{name}`"
+                continue
+            if len(row) != texts.shape[1]:
+                raise UserError(f"{path}: --names has {len(row)} names, and the sheet `{name}` {texts.shape[1]} columns")
+            return Source(path, "", "", "", row, at, not names, at + 1, kind="workbook", sheet=texts.iloc[at:], sheet_name=name)
+    raise UserError(f"{path}: {told or 'the workbook is empty'}")
+
+
+def _cell_text(cell: object) -> str:
+    """A cell of a workbook as the text that it stands for."""
+    if cell is None or cell is pd.NaT or (isinstance(cell, float) and cell != cell):
+        return ""
+    return repr(cell) if isinstance(cell, float) else str(cell)

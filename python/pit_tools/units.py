@@ -1,0 +1,90 @@
+"""Names of units behind a column or a number, as `AU oz/st` or `1804 USD/oz`, and what they are in the units of `pitc`.
+
+`pitc` takes metres, tonnes and grams a tonne. A name that is read in two ways stands in AMBIGUOUS, and is refused."""
+from __future__ import annotations
+
+from decimal import Decimal
+from typing import Optional
+
+from pit_tools.errors import UserError
+
+POUND = Decimal("0.45359237")          # kilograms
+SHORT_TON = POUND * 2000 / 1000        # tonnes
+LONG_TON = POUND * 2240 / 1000         # tonnes
+TROY_OUNCE = Decimal("31.1034768")     # grams
+FOOT = Decimal("0.3048")               # metres
+CUBIC_FOOT = FOOT ** 3                 # cubic metres
+
+LENGTHS = {"m": Decimal(1), "ft": FOOT, "cm": Decimal("0.01"), "mm": Decimal("0.001"), "km": Decimal(1000)}
+
+MASSES = {"t": Decimal(1), "kt": Decimal(1000), "kg": Decimal("0.001"),
+          "st": SHORT_TON, "kst": SHORT_TON * 1000, "lt": LONG_TON, "lb": POUND / 1000}
+
+VOLUMES = {"m3": Decimal(1), "ft3": CUBIC_FOOT, "bcm": Decimal(1), "bcy": CUBIC_FOOT * 27, "yd3": CUBIC_FOOT * 27}
+
+# Tonnes a cubic metre. A tonnage factor in cubic feet a short ton is divided: see is_factor.
+DENSITIES = {"t/m3": Decimal(1), "g/cm3": Decimal(1), "g/cc": Decimal(1), "kg/m3": Decimal("0.001"),
+             "lb/ft3": POUND / 1000 / CUBIC_FOOT, "st/ft3": SHORT_TON / CUBIC_FOOT,
+             "st/yd3": SHORT_TON / (CUBIC_FOOT * 27), "ft3/st": SHORT_TON / CUBIC_FOOT, "m3/t": Decimal(1)}
+
+# Grams a tonne.
+GRADES = {"g/t": Decimal(1), "gpt": Decimal(1), "ppm": Decimal(1), "g/tonne": Decimal(1), "ppb": Decimal("0.001"),
+          "mg/t": Decimal("0.001"), "kg/t": Decimal(1000), "%": Decimal(10_000), "pct": Decimal(10_000),
+          "oz/st": TROY_OUNCE / SHORT_TON, "oz/tonne": TROY_OUNCE, "lb/st": POUND * 1000 / SHORT_TON}
+
+# Parts of a whole.
+SHARES = {"%": Decimal("0.01"), "pct": Decimal("0.01"), "share": Decimal(1)}
+
+# The value of a tonne, where the grade is a net smelter return.
+MONEY = ("usd", "aud", "cad", "eur", "gbp", "zar", "clp", "pen", "brl", "cny", "$", "€")
+
+AMBIGUOUS = {
+    "oz/t": "an ounce a tonne is `oz/tonne`, an ounce a short ton `oz/st`",
+    "opt": "an ounce a tonne is `oz/tonne`, an ounce a short ton `oz/st`",
+    "oz/ton": "an ounce a tonne is `oz/tonne`, an ounce a short ton `oz/st`",
+    "mt": "a tonne is `t`, a million of them 1000 `kt`",
+    "ton": "a tonne is `t`, a short ton `st`, a long ton `lt`",
+    "tons": "a tonne is `t`, a short ton `st`, a long ton `lt`",
+    "lb/t": "a pound a short ton is `lb/st`; a pound a tonne is 453.59237 g/t",
+    "lb/ton": "a pound a short ton is `lb/st`; a pound a tonne is 453.59237 g/t",
+}
+
+TABLES = {"length": LENGTHS, "mass": MASSES, "volume": VOLUMES, "density": DENSITIES, "grade": GRADES, "share": SHARES}
+
+
+def plain_name(name: str) -> str:
+    """A unit's name without case, brackets and the signs for a power."""
+    name = name.strip().strip("()[]").casefold().replace("³", "3").replace("^", "").replace("tonnes", "t")
+    return {"feet": "ft", "foot": "ft", "'": "ft", "metres": "m", "meters": "m", "percent": "%", "tonne": "t",
+            "g/tonne": "g/t", "dollars": "usd"}.get(name, name)
+
+
+def is_factor(name: str) -> bool:
+    """Whether it is a volume for a mass, by which a volume is divided: a tonnage factor."""
+    return plain_name(name) in ("ft3/st", "m3/t")
+
+
+def factor_of(name: str, kind: str) -> Optional[Decimal]:
+    """What a unit of this kind (a key of TABLES) is in the unit of `pitc`, or None for no name of one.
+
+    It raises UserError for a name that is read in two ways."""
+    name = plain_name(name)
+    if name in AMBIGUOUS and kind in ("grade", "mass"):
+        raise UserError(f"`{name}` is read in two ways: {AMBIGUOUS[name]}")
+    return TABLES[kind].get(name)
+
+
+def is_money_a_tonne(name: str) -> bool:
+    """Whether it is money a tonne, as `USD/t`: then a grade is a net smelter return."""
+    money, _, mass = plain_name(name).partition("/")
+    return money in MONEY and mass == "t"
+
+
+def named_in(text: str, kind: str) -> Optional[str]:
+    """The unit that a header's cell, as `AU_PPB` or `Cu (%)`, names at its end, or None."""
+    words = text.replace("_", " ").replace("(", " ").replace(")", " ").replace("[", " ").replace("]", " ").split()
+    last = plain_name(words[-1]) if words else ""
+    last = "ft" if last in ("ft", "feet") else last
+    if last in TABLES[kind] or (last in AMBIGUOUS and kind in ("grade", "mass")):
+        return last
+    return None
