@@ -60,52 +60,41 @@ class Marks:
         text = re.sub(r"(?<=[\d.])[dD](?=[-+]?\d)", "E", text)
         return text if PLAIN.fullmatch(text) else None
 
-    def plain_texts(self, cells: pd.Series) -> pd.Series:
-        """Cells as plain decimals: an empty text for what is missing, None for what is no number."""
-        cells = cells.str.strip()
+    def spelled(self, cells: pd.Series) -> Spelled:
+        """Cells as plain decimals. Most are plain already, and are taken as they are; each odd spelling is looked at once."""
+        texts, count = cells, len(cells)
+        floats = np.full(count, np.nan)
         if self.decimal == ".":
-            # Most cells are plain already, and are taken as they are.
-            odd = pd.to_numeric(cells, errors="coerce").isna()
-            if not odd.any():
-                return cells
+            floats = pd.to_numeric(cells, errors="coerce").to_numpy(float).copy()
+        odd = ~np.isfinite(floats)
+        missing, wrong = np.zeros(count, bool), np.zeros(count, bool)
+        if odd.any():
             found = cells[odd]
-            cells = cells.copy()
-            cells[odd] = found.map({text: self.plain(text) for text in found.unique()})
-            return cells
-        return cells.map({text: self.plain(text) for text in cells.unique()})
+            found = found.map({text: self.plain(text) for text in found.unique()})
+            missing[odd], wrong[odd] = (found == "").to_numpy(), found.isna().to_numpy()
+            floats[odd] = pd.to_numeric(found, errors="coerce").to_numpy(float)
+            texts = cells.copy()
+            texts[odd] = found
+        if self.missing_numbers:
+            missing |= np.isin(floats, self.missing_numbers)
+        wrong |= np.isinf(floats)
+        floats[missing | wrong] = np.nan
+        return Spelled(texts, floats, missing, wrong)
 
 
 @dataclass
-class Numbers:
-    """The numbers of a column: `parts` are int64 of 10**-places, 0 where missing; `missing` and `wrong` are bool, for cells that say
-    that nothing is known and for such as are no number."""
+class Spelled:
+    """Cells of a column: plain decimals, with a point; their floats, NaN where there is none; where they say that nothing is known;
+    and where they are no number."""
 
-    parts: np.ndarray
+    texts: pd.Series
+    floats: np.ndarray
     missing: np.ndarray
     wrong: np.ndarray
 
-
-def numbers_of(cells: pd.Series, places: int, marks: Marks) -> Numbers:
-    """Texts of a column as exact decimals, rounded to so many places."""
-    texts = marks.plain_texts(cells)
-    parts, none = parts_of(texts, places)
-    wrong = texts.isna().to_numpy() | (none & (texts != "").to_numpy())
-    missing = none & ~wrong
-    if marks.missing_numbers:
-        values = pd.to_numeric(texts, errors="coerce").to_numpy(float)
-        marked = np.isin(values, marks.missing_numbers)
-        missing |= marked
-        parts[marked] = 0
-    return Numbers(parts, missing, wrong)
-
-
-def floats_of(cells: pd.Series, marks: Marks) -> tuple[np.ndarray, np.ndarray]:
-    """Texts of a column as floats, NaN where missing or wrong, and where they are no number."""
-    texts = marks.plain_texts(cells)
-    values = pd.to_numeric(texts, errors="coerce").to_numpy(float)
-    wrong = texts.isna().to_numpy() | (np.isnan(values) & (texts != "").to_numpy()) | np.isinf(values)
-    values[np.isinf(values) | np.isin(values, marks.missing_numbers)] = np.nan
-    return values, wrong
+    def parts(self, places: int) -> np.ndarray:
+        """The decimals as whole numbers of 10**-places, rounded as decimals; 0 where there is none."""
+        return parts_of(self.texts, places, self.floats)[0]
 
 
 def marks_of(columns: Iterable[pd.Series], *, decimal: str = "", thousands: str = "", missing: Sequence[str] = ()) -> Marks:
@@ -114,7 +103,7 @@ def marks_of(columns: Iterable[pd.Series], *, decimal: str = "", thousands: str 
     It raises UserError where a mark may be read in two ways, or cells contradict one another."""
     known = frozenset([*MISSING, *(text.strip().casefold() for text in missing)])
     numbers = tuple(float(text) for text in missing if PLAIN.fullmatch(text.strip()))
-    cells = [text for column in columns for text in column.str.strip().unique() if re.search(r"[.,]", text)]
+    cells = [text for column in columns for text in _telling(column) if "." in text or "," in text]
     cells = [text for text in cells if text.casefold() not in known and re.fullmatch(rf"[-+(]?[\d.,{BLANKS}{APOSTROPHES}]+[-)]?", text)]
     if decimal and decimal not in ".,":
         raise UserError(f"--decimal is a point or a comma, and not `{decimal}`")
@@ -124,6 +113,12 @@ def marks_of(columns: Iterable[pd.Series], *, decimal: str = "", thousands: str 
         other = "." if decimal == "," else ","
         thousands = other if any(other in text for text in cells) else ""
     return Marks(decimal, thousands.replace("blank", " "), known, numbers)
+
+
+def _telling(column: pd.Series) -> list[str]:
+    """Cells that show a column's marks: some of its first ones, and all that are no plain number."""
+    odd = column[pd.to_numeric(column, errors="coerce").isna()]
+    return [text.strip() for text in pd.concat([column.head(500), odd]).unique()]
 
 
 def _decimal_of(cells: Sequence[str], thousands: str) -> str:

@@ -29,15 +29,17 @@ def rounded(text: Union[str, Decimal, int], places: int) -> int:
         raise ValueError(f"`{text}` is no number") from None
 
 
-def parts_of(texts: pd.Series, places: int) -> tuple[np.ndarray, np.ndarray]:
+def parts_of(texts: pd.Series, places: int, floats: Optional[np.ndarray] = None) -> tuple[np.ndarray, np.ndarray]:
     """Decimals, as texts with a point, as whole numbers of 10**-places, rounded half away from zero.
 
     Each is rounded by a float where that is far enough from the middle of two numbers for the float's
     error to say nothing, and by a decimal where it is not: so the answer is always that of decimals.
 
     It answers two arrays of the same length: int64, and bool, where a text is no number (there the
-    first is 0; a missing text, as None, is none too)."""
-    floats = pd.to_numeric(texts, errors="coerce").to_numpy(np.float64, na_value=np.nan)
+    first is 0; a missing text, as None, is none too). `floats` are those of the texts, where these are
+    known already; where one is NaN, the text is taken for none."""
+    if floats is None:
+        floats = pd.to_numeric(texts, errors="coerce").to_numpy(np.float64, na_value=np.nan)
     scaled = floats * 10.0 ** places
     wrong = ~np.isfinite(scaled)
     scaled[wrong] = 0

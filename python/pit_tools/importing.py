@@ -13,7 +13,7 @@ import numpy as np
 import pandas as pd
 
 from pit_tools import VERSION
-from pit_tools.cells import Marks, floats_of, marks_of, numbers_of
+from pit_tools.cells import Marks, marks_of
 from pit_tools.decimals import plain, shortest
 from pit_tools.errors import UserError
 from pit_tools.export_words import Columns, Measure, Words, columns_of, unit_doubts
@@ -249,7 +249,7 @@ class _Piece:
             self.reading.counts["empty lines"] += int((~kept).sum())
             self.table = self.table[kept]
         key = _key_column(self.columns)
-        again = (self.table[key].str.strip() == self.source.names[key].strip()).to_numpy()
+        again = (self.table[key] == self.source.names[key]).to_numpy()
         if again.any():
             self.reading.counts["headers that stand again"] += int(again.sum())
             self.table = self.table[~again]
@@ -268,8 +268,8 @@ class _Piece:
         """Leaves out the rows that a filter does not let through."""
         kept = np.ones(len(self.table), bool)
         for formula, numbers, texts in self.columns.filters:
-            values = {column_name(at): floats_of(self.table[at], self.marks)[0] for at in numbers}
-            values.update({column_name(at): self.table[at].str.strip() for at in texts})
+            values = {column_name(at): self.marks.spelled(self.table[at]).floats for at in numbers}
+            values.update({column_name(at): self.keys_of([at]) for at in texts})
             kept &= formula.holds(pd.DataFrame(values, index=self.table.index)).to_numpy()
         self.reading.counts["filtered"] += int((~kept).sum())
         self.table = self.table[kept]
@@ -278,8 +278,9 @@ class _Piece:
         """A formula's values, in its own unit, NaN where a cell is missing. Negative ones of a measure are those of marks as -99."""
         values = {}
         for at in measure.formula.columns:
-            numbers, wrong = floats_of(self.table[at], self.marks)
-            self.refuse(wrong, at)
+            cells = self.marks.spelled(self.table[at])
+            numbers = cells.floats
+            self.refuse(cells.wrong, at)
             if what not in COORDINATES and what not in "ijk":
                 self.count_missing(at, np.isnan(numbers) | (numbers < 0))
                 numbers[numbers < 0] = np.nan
@@ -310,9 +311,9 @@ class _Piece:
         measure = self.columns.measures[key]
         at = measure.formula.plain_column
         if at is not None:
-            numbers = numbers_of(self.table[at], 3, self.marks)
-            self.refuse(numbers.wrong | numbers.missing, at)
-            return numbers.parts
+            cells = self.marks.spelled(self.table[at])
+            self.refuse(cells.wrong | cells.missing, at)
+            return cells.parts(3)
         values = self.floats(measure, key)
         if np.isnan(values).any():
             raise UserError(f"{self.line(int(np.flatnonzero(np.isnan(values))[0]))}: {key} cannot be computed: a cell is missing, or it is "
@@ -324,11 +325,12 @@ class _Piece:
         measure = self.columns.measures[key]
         at = measure.plain_column
         if at is not None:
-            numbers = numbers_of(self.table[at], places, self.marks)
-            self.refuse(numbers.wrong, at)
-            missing = numbers.missing | (numbers.parts < 0)
+            cells = self.marks.spelled(self.table[at])
+            self.refuse(cells.wrong, at)
+            parts = cells.parts(places)
+            missing = cells.missing | (parts < 0)
             self.count_missing(at, missing)
-            return np.where(missing, 0, numbers.parts), missing
+            return np.where(missing, 0, parts), missing
         values = self.in_pitc_units(key)
         missing = np.isnan(values) | (values < 0)
         return np.rint(np.where(missing, 0, values) * 10 ** places).astype(np.int64), missing
@@ -376,9 +378,10 @@ class _Piece:
 
     def keys_of(self, columns: Sequence[int]) -> pd.Series:
         """The texts of some columns, as one text each row."""
-        keys = self.table[columns[0]].str.strip()
-        for at in columns[1:]:
-            keys = keys + "\t" + self.table[at].str.strip()
+        stripped = [self.table[at].map({text: text.strip() for text in self.table[at].unique()}) for at in columns]
+        keys = stripped[0]
+        for other in stripped[1:]:
+            keys = keys + "\t" + other
         return keys
 
     def found_in(self, table) -> pd.Series:

@@ -5,13 +5,14 @@ all int64, as `pitc` holds them."""
 from __future__ import annotations
 
 import os
-from typing import Sequence
+from typing import BinaryIO, Sequence
 
 import numpy as np
 import pandas as pd
 
-from pit_tools.decimals import parts_of, texts_of
+from pit_tools.decimals import parts_of
 from pit_tools.errors import UserError
+from pit_tools.spelling import lines_of
 
 # The columns of a zone file, and how many decimals each may have.
 PLACES = {"x": 3, "y": 3, "z": 3, "tonnes": 3, "grade": 6}
@@ -77,16 +78,17 @@ def read_zone_files(paths: Sequence[str]) -> pd.DataFrame:
 
 
 def write_zone_file(path: str, rows: pd.DataFrame) -> None:
-    """Writes rows, as `read_zone_file` answers them, with 3 decimals, grades with 6."""
-    with open(path, "w", encoding="ascii", newline="\n") as file:
-        file.write(",".join(COLUMNS) + "\n")
+    """Writes rows, as `read_zone_file` answers them: decimals as their shortest texts."""
+    with open(path, "wb") as file:
+        file.write((",".join(COLUMNS) + "\n").encode())
         append_rows(file, rows)
 
 
-def append_rows(file, rows: pd.DataFrame) -> None:
-    """Writes rows behind those that stand in an open text file."""
-    texts = pd.DataFrame({name: texts_of(rows[name].to_numpy(), places) for name, places in PLACES.items()})
-    texts.to_csv(file, header=False, index=False, lineterminator="\n")
+def append_rows(file: BinaryIO, rows: pd.DataFrame) -> None:
+    """Writes rows behind those that stand in a file that is open for bytes."""
+    if len(rows):
+        for lines in lines_of([(rows[name].to_numpy(), places) for name, places in PLACES.items()]):
+            file.write(lines.replace(b" ", b","))
 
 
 def count_lines(path: str) -> int:
