@@ -395,6 +395,30 @@ def _objective_part(model: _Model, piece: bytes, destinations: int, done: int) -
     return _rounded(table[list(range(1, destinations + 1))].to_numpy(), model.path)
 
 
+@dataclass(frozen=True)
+class Outline:
+    """A PCPSP or a CPIT without its uses, of which only the number was taken."""
+
+    header: dict[str, str]
+    values: np.ndarray  #: (blocks, destinations)
+    uses: int
+    limits: list[Limit]
+
+
+def read_outline(path: str, kind: str = "PCPSP") -> Outline:
+    """The header, values and limits of a model file; its coefficients are counted and not read.
+
+    Raises BadInstance where it is none.
+    """
+    model, values, uses, limits = _read_model(path, kind, take_uses=_lines_in)
+    return Outline(model.header, values, sum(uses), _limits_of(model, limits))
+
+
+def _lines_in(model: "_Model", piece: bytes, fields: int) -> int:
+    """How many lines a piece has."""
+    return piece.count(b"\n") if b"\n\n" not in piece else sum(map(bool, map(bytes.strip, piece.split(b"\n"))))
+
+
 def _uses_part(model: _Model, piece: bytes, fields: int) -> list[np.ndarray]:
     whole = [np.int32, np.int8, np.int8] if fields == 4 else [np.int32, np.int8]
     table = _table(piece, model.path, dict(enumerate([*whole, float])))
@@ -424,8 +448,8 @@ def _values_decimals(values: np.ndarray) -> int:
     return 2 if spelling.fewest_decimals(values, (2, 6)) == 2 else 6
 
 
-def _read_model(path: str, kind: str):
-    """A model file: its header, values, uses and limits."""
+def _read_model(path: str, kind: str, take_uses=_uses_part):
+    """A model file: its header, values, what `take_uses` makes of its uses, and the lines of limits."""
     model = _Model(path)
     values, uses, limits = [], [], []
     done, destinations = 0, 1
@@ -438,7 +462,7 @@ def _read_model(path: str, kind: str):
             values.append(_objective_part(model, piece, destinations, done))
             done += len(values[-1])
         elif section == COEFFICIENTS and piece:
-            uses.append(_uses_part(model, piece, 4 if kind == "PCPSP" else 3))
+            uses.append(take_uses(model, piece, 4 if kind == "PCPSP" else 3))
         elif section == LIMITS and piece:
             limits.append(piece)
         elif piece:

@@ -1,0 +1,366 @@
+"""What is known of a plan and its instance: the numbers that a survey tells and draws.
+
+Nothing here lists the arcs: a block's number of predecessors is read from the second field of its
+line, and where cones and walls go follows from the plan.
+"""
+from __future__ import annotations
+
+import os
+from dataclasses import dataclass
+from functools import cached_property
+from typing import Optional, Sequence
+
+import numpy as np
+
+from pit_tools.closure import is_compiled, pit_of_plan, ultimate_pit
+from pit_tools.cones import Places, precedence_of, reach_along, size_in_millimetres
+from pit_tools.errors import UserError
+from pit_tools.instance import Blocks, Outline, count_predecessors, read_blocks, read_outline
+from pit_tools.plan_file import Plan, read_plan
+from pit_tools.valuation import worths
+from pit_tools.zone_files import count_lines
+
+#: The sides of a model: name, axis (0: x, 1: y) and direction, in the order of a zone's slopes.
+SIDES = (("east", 0, 1), ("west", 0, -1), ("north", 1, 1), ("south", 1, -1))
+
+#: Places of a box up to which it is held whole.
+MOST_PLACES = 1 << 28
+
+
+@dataclass(frozen=True)
+class Rock:
+    """What some blocks hold. Tonnes a cubic metre are of blocks with tonnes."""
+
+    rows: int
+    tonnes: float
+    metal: float  #: grams
+    top_grade: float
+    least: float  #: t/m3
+    most: float
+    solid: int  #: blocks with tonnes
+    barren: int  #: blocks with tonnes and grade 0
+    volume: float  #: cubic metres of a block
+
+    @property
+    def grade(self) -> float:
+        return self.metal / self.tonnes if self.tonnes else 0.0
+
+    @property
+    def mean_density(self) -> float:
+        return self.tonnes / (self.volume * self.solid) if self.solid else 0.0
+
+
+@dataclass(frozen=True)
+class Axis:
+    """The indices that blocks have along an axis."""
+
+    least: int
+    most: int
+    taken: int
+    odd: int
+
+
+@dataclass(frozen=True)
+class ZoneFile:
+    """A zone file, and its lines below the header."""
+
+    name: str
+    lines: int
+
+
+@dataclass(frozen=True)
+class Leaving:
+    """How many paying blocks there are whose slope leaves the model on a side, and by how much."""
+
+    side: str
+    blocks: int
+    metres: float
+
+
+class Facts:
+    """A plan, the blocks, the numbers of predecessors, and the values of an instance.
+
+    `zone_paths` are the zone files in the order of `compile`, or none. `pit` is bool (n,) where the pit
+    is known.
+    """
+
+    def __init__(self, plan: Plan, blocks: Blocks, arcs: np.ndarray, outline: Outline,
+                 zone_paths: Sequence[str] = (), pit: Optional[np.ndarray] = None):
+        self.plan, self.blocks, self.arcs, self.outline = plan, blocks, arcs, outline
+        self.zone_files = [ZoneFile(os.path.basename(path), count_lines(path)) for path in zone_paths]
+        self.volume = float(plan.grid.volume)
+        self.values = outline.values
+        self.size = size_in_millimetres(plan.grid)
+        self.metres = tuple(map(float, plan.grid.size))
+        self.origin = tuple(map(float, plan.grid.origin))
+        self._pit = pit
+
+    def __len__(self) -> int:
+        return len(self.blocks)
+
+    def indices(self, axis: int) -> np.ndarray:
+        """The grid indices of the blocks along x, y or z, by 0, 1 or 2."""
+        return (self.blocks.x, self.blocks.y, self.blocks.z)[axis]
+
+    def centroid(self, axis: int, index: float) -> float:
+        """Metres of a grid index along an axis."""
+        return self.origin[axis] + index * self.metres[axis]
+
+    @cached_property
+    def axes(self) -> list[Axis]:
+        found = []
+        for axis in range(3):
+            taken = np.unique(self.indices(axis))
+            found.append(Axis(int(taken[0]), int(taken[-1]), len(taken), int((taken % 2).sum())))
+        return found
+
+    @cached_property
+    def box(self) -> int:
+        """The places of the model's box."""
+        return int(np.prod([axis.most - axis.least + 1 for axis in self.axes], dtype=object))
+
+    @cached_property
+    def places(self) -> Places:
+        if self.box > MOST_PLACES:
+            raise UserError(f"the blocks lie in a box of {self.box:,} places: is the size of the grid that of the blocks?")
+        return Places(self.blocks)
+
+    # Rock
+
+    def rock(self, taken: Optional[np.ndarray] = None) -> Rock:
+        """What some blocks hold, those of a mask, or all."""
+        tonnes = self.blocks.tonnes if taken is None else self.blocks.tonnes[taken]
+        grade = self.blocks.grade if taken is None else self.blocks.grade[taken]
+        solid = tonnes > 0
+        density = tonnes[solid] / self.volume
+        return Rock(len(tonnes), float(tonnes.sum()), float((tonnes * grade).sum()), float(grade.max(initial=0)),
+                    float(density.min(initial=np.inf)) if len(density) else 0.0, float(density.max(initial=0)),
+                    int(solid.sum()), int((solid & (grade == 0)).sum()), self.volume)
+
+    @cached_property
+    def of_zone(self) -> list[Rock]:
+        return [self.rock(self.blocks.zone == zone) for zone in range(len(self.plan.zones))]
+
+    @cached_property
+    def of_all(self) -> Rock:
+        return self.rock()
+
+    @cached_property
+    def unlikely(self) -> int:
+        """Blocks with less than 0.5 or more than 10 tonnes a cubic metre, those of 0 t left out."""
+        tonnes = self.blocks.tonnes
+        return int(((tonnes > 0) & ((tonnes < 0.5 * self.volume) | (tonnes > 10 * self.volume))).sum())
+
+    def by_bench(self, weights: Optional[np.ndarray] = None) -> np.ndarray:
+        """Sums over the blocks of each bench, from the lowest index on."""
+        low = self.axes[2].least
+        return np.bincount(self.blocks.z - low, weights, self.axes[2].most - low + 1)
+
+    # Columns
+
+    @cached_property
+    def column(self) -> np.ndarray:
+        """The number of each block's column, y first, int64."""
+        x, y = self.axes[0], self.axes[1]
+        return (self.blocks.y.astype(np.int64) - y.least) * (x.most - x.least + 1) + (self.blocks.x - x.least)
+
+    @cached_property
+    def columns(self) -> tuple[np.ndarray, np.ndarray, np.ndarray]:
+        """Of each column that has blocks its number, and its lowest and highest index."""
+        order = np.lexsort((self.blocks.z, self.column))
+        column, z = self.column[order], self.blocks.z[order]
+        first = np.flatnonzero(np.diff(column, prepend=-1))
+        last = np.append(first[1:], len(column)) - 1
+        return column[first], z[first], z[last]
+
+    @cached_property
+    def gaps(self) -> tuple[int, int]:
+        """Places below a block that have none, and the most of a column in a row."""
+        order = np.lexsort((self.blocks.z, self.column))
+        column, z = self.column[order], self.blocks.z[order]
+        empty = np.diff(z)[column[1:] == column[:-1]] - 1
+        return int(empty.sum()), int(empty.max(initial=0))
+
+    @cached_property
+    def top_of(self) -> np.ndarray:
+        """The highest index in the column of each block."""
+        numbers, _, tops = self.columns
+        return tops[np.searchsorted(numbers, self.column)]
+
+    @cached_property
+    def waits_for_none(self) -> np.ndarray:
+        return self.arcs == 0
+
+    @cached_property
+    def covered(self) -> int:
+        """Blocks without a predecessor that have rock above them in their column."""
+        return int((self.waits_for_none & (self.blocks.z < self.top_of)).sum())
+
+    def ground(self) -> np.ndarray:
+        """The highest index of each column, (y, x), -1 where it has no block."""
+        return self._by_column(self.columns[2])
+
+    def _by_column(self, values: np.ndarray, empty: float = -1) -> np.ndarray:
+        wide, deep = (axis.most - axis.least + 1 for axis in self.axes[:2])
+        table = np.full(wide * deep, empty, dtype=float)
+        table[self.columns[0]] = values
+        return table.reshape(deep, wide)
+
+    def metal_by_column(self) -> np.ndarray:
+        """Kilograms of metal of each column, (y, x), nan where it has no block."""
+        wide, deep = (axis.most - axis.least + 1 for axis in self.axes[:2])
+        sums = np.bincount(self.column, self.blocks.tonnes * self.blocks.grade / 1000, wide * deep)
+        sums[np.bincount(self.column, minlength=wide * deep) == 0] = np.nan
+        return sums.reshape(deep, wide)
+
+    # Values
+
+    @cached_property
+    def best(self) -> np.ndarray:
+        """The destination where each block is worth most, the first of equals."""
+        return self.values.argmax(axis=1)
+
+    @cached_property
+    def greatest(self) -> np.ndarray:
+        return self.values.max(axis=1)
+
+    @cached_property
+    def paying(self) -> np.ndarray:
+        return self.greatest > 0
+
+    @cached_property
+    def strange_values(self) -> int:
+        """Values that are not the plan's, by more than 2 cents."""
+        off = np.abs(self.values - worths(self.plan, self.blocks))
+        return int(((off > 0.02) & (off > 1e-10 * np.abs(self.values))).sum())
+
+    @cached_property
+    def is_waste_place(self) -> list[bool]:
+        """Whether a destination recovers nothing."""
+        return [not one.bands for one in self.plan.destinations]
+
+    # Where cones and slopes go
+
+    def is_steeper(self, zone: int, other: int, side: int) -> bool:
+        """Whether `other` is steeper than a zone on a side."""
+        return self.plan.zones[other].slopes[side].tangent > self.plan.zones[zone].slopes[side].tangent
+
+    def _steeper_zones(self, zone: int, sides: Sequence[int]) -> list[int]:
+        return [other for other in range(len(self.plan.zones))
+                if other != zone and any(self.is_steeper(zone, other, side) for side in sides)]
+
+    def _met(self, zone: int, ids: np.ndarray, offsets, others: list[int]) -> dict[int, int]:
+        """Of each of these zones how many of the blocks have it at one of the offsets."""
+        seen = {other: np.zeros(len(ids), dtype=bool) for other in others}
+        for dx, dy, dz in offsets:
+            found = self.places.beside(ids, dx, dy, dz)
+            zones = np.where(found >= 0, self.blocks.zone[found], -1)
+            for other in others:
+                seen[other] |= zones == other
+        return {other: int(taken.sum()) for other, taken in seen.items() if taken.any()}
+
+    @cached_property
+    def below_steeper(self) -> dict[tuple[int, int], int]:
+        """Of pairs of a zone and a steeper one how many blocks of the first have rock of the second straight
+        above them, fewer than K benches up."""
+        found = {}
+        for zone, one in enumerate(self.plan.zones):
+            others = self._steeper_zones(zone, range(4))
+            if others:
+                ids = np.flatnonzero(self.blocks.zone == zone)
+                offsets = [(0, 0, dz) for dz in range(1, one.benches)]
+                found |= {(zone, other): count for other, count in self._met(zone, ids, offsets, others).items()}
+        return found
+
+    @cached_property
+    def beside_steeper(self) -> dict[tuple[int, int], int]:
+        """Of such pairs how many blocks of the first have a cone whose edge goes, on a side where the second
+        is steeper, into the second, and not straight above."""
+        found: dict[tuple[int, int], int] = {}
+        for zone, one in enumerate(self.plan.zones):
+            ids = np.flatnonzero(self.blocks.zone == zone)
+            seen: dict[int, np.ndarray] = {}
+            for side, (_, axis, way) in enumerate(SIDES):
+                others = self._steeper_zones(zone, [side])
+                for dz in range(1, one.benches + 1) if others else ():
+                    far = way * reach_along(self.size, one, dz)[side]
+                    if not far or abs(far) > self.axes[axis].most - self.axes[axis].least:
+                        continue
+                    there = self.places.beside(ids, *((far, 0, dz) if axis == 0 else (0, far, dz)))
+                    zones = np.where(there >= 0, self.blocks.zone[there], -1)
+                    for other in others:
+                        seen.setdefault(other, np.zeros(len(ids), dtype=bool))[zones == other] = True
+            found |= {(zone, other): int(taken.sum()) for other, taken in seen.items() if taken.any()}
+        return found
+
+    def leaving(self) -> list[Leaving]:
+        """Of each side the paying blocks from which the slope asked goes beyond the last column of their
+        row before it reaches that column's ground, and by how many metres at most."""
+        ground = self.ground()
+        ids = np.flatnonzero(self.paying)
+        x, y = self.places.x[ids], self.places.y[ids]
+        answer = []
+        for side, (name, axis, way) in enumerate(SIDES):
+            length = ground.shape[1 - axis]
+            edge = length - 1 if way > 0 else 0
+            line = ground[:, edge][y] if axis == 0 else ground[edge, :][x]
+            there = np.abs(edge - (x if axis == 0 else y))
+            tangents = np.array([zone.slopes[side].tangent for zone in self.plan.zones])[self.blocks.zone[ids]]
+            rise = (np.where(line < 0, self.axes[2].least, line) - self.blocks.z[ids]) * self.metres[2]
+            over = rise / tangents - there * self.metres[axis]
+            answer.append(Leaving(name, int((over > 1e-6).sum()), float(np.maximum(over, 0).max(initial=0))))
+        return answer
+
+    # The pit
+
+    @cached_property
+    def pit(self) -> Optional[np.ndarray]:
+        """The ultimate pit of the plan, bool (n,), or None where no compiler is there and it is too great
+        for HiGHS."""
+        if self._pit is not None:
+            return self._pit
+        if is_compiled():
+            return pit_of_plan(self.greatest, self.blocks, self.plan)[0]
+        if self.arcs.sum() > 200_000:
+            return None
+        return ultimate_pit(self.greatest, precedence_of(self.blocks, self.plan))
+
+    def at_side(self) -> dict[str, np.ndarray]:
+        """Of each side which blocks have no column of blocks beside them there, bool (n,)."""
+        has_blocks = np.pad(self.ground() >= 0, 1)
+        x, y = self.places.x + 1, self.places.y + 1
+        steps = {"east": (0, 1), "west": (0, -1), "north": (1, 0), "south": (-1, 0)}
+        return {side: ~has_blocks[y + up, x + right] for side, (up, right) in steps.items()}
+
+    def floor(self, pit: np.ndarray) -> np.ndarray:
+        """The lowest index of a pit in each column, (y, x), nan where it has none."""
+        wide, deep = (axis.most - axis.least + 1 for axis in self.axes[:2])
+        lowest = np.full(wide * deep, np.inf)
+        np.minimum.at(lowest, self.column[pit], self.blocks.z[pit])
+        lowest[np.isinf(lowest)] = np.nan
+        return lowest.reshape(deep, wide)
+
+
+def read_facts(plan_path: str, base: str, zone_paths: Sequence[str] = (), pit_path: Optional[str] = None) -> Facts:
+    """The facts of a plan and the files BASE.blocks, BASE.prec and BASE.pcpsp.
+
+    Raises UserError where one cannot be read, or they are not of the same blocks and destinations.
+    """
+    from pit_tools.pits import read_pit
+
+    plan = read_plan(plan_path)
+    blocks = read_blocks(base + ".blocks")
+    arcs = count_predecessors(base + ".prec")
+    if len(arcs) != len(blocks):
+        raise UserError(f"{base}.prec: no line of the precedence file of these blocks: "
+                        f"{len(arcs)} lines, and {len(blocks)} blocks")
+    outline = read_outline(base + ".pcpsp")
+    if outline.values.shape != (len(blocks), len(plan.destinations)):
+        raise UserError(f"{base}.pcpsp: no values of these blocks at {len(plan.destinations)} destinations")
+    if blocks.zone.max() >= len(plan.zones):
+        raise UserError(f"{base}.blocks has a zone {blocks.zone.max()}, and the plan {len(plan.zones)} zones")
+    pit = None
+    if pit_path:
+        pit = np.zeros(len(blocks), dtype=bool)
+        pit[read_pit(pit_path, len(blocks))] = True
+    return Facts(plan, blocks, arcs, outline, zone_paths, pit)

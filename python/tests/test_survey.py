@@ -1,0 +1,107 @@
+"""The survey's numbers beside those of another program of the same rules, and its page."""
+import base64
+import os
+import re
+
+import numpy as np
+import pytest
+
+import mines
+from pit_tools.cli import main
+from pit_tools.deposits import Deposit
+from pit_tools.survey_facts import read_facts
+from pit_tools.survey_page import survey_page
+from pit_tools.survey_text import above_cut_offs, spans, survey_text
+from pit_tools.walls import measured, straight_walls
+from pit_tools.plan_file import plan_of
+
+DATA = os.path.join(os.path.dirname(__file__), "data")
+
+
+@pytest.fixture(scope="module")
+def surveyed(tmp_path_factory):
+    """The example deposit with K = 9, 13 and 9: its folder and the words of its survey."""
+    folder = tmp_path_factory.mktemp("survey")
+    plan = Deposit().plan().replace("zone,1,1,2", "zone,1,1,9").replace("4,5,4,3", "4,5,4,13").replace("zone,3,2,3", "zone,3,2,9")
+    base = mines.quickly_compiled(folder, plan, Deposit().zone_texts(), "walls")
+    zones = []
+    for number, zone in enumerate(("oxide", "west", "east")):
+        zones.append(os.path.join(folder, f"deposit-{zone}.csv"))
+        os.rename(f"{base}-{number}.csv", zones[-1])
+    return base, zones
+
+
+def test_numbers_are_those_of_the_awk_survey(surveyed):
+    """tests/data/survey-deposit.txt is what examples/survey.awk of version 0.2.0 told of it."""
+    base, zones = surveyed
+    told = survey_text(read_facts(base + ".plan", base, zones))
+    with open(os.path.join(DATA, "survey-deposit.txt")) as file:
+        wanted = file.read()
+    parts = dict((part.split(maxsplit=1)[0], part.strip()) for part in told.split("\n\n"))
+    for part in wanted.split("\n\n"):
+        assert parts[part.split(maxsplit=1)[0]] == part.strip()
+    assert set(parts) - {part.split(maxsplit=1)[0] for part in wanted.split("\n\n")} == {"LOOK", "CUT-OFFS", "WALLS", "SIDES"}
+
+
+def test_what_leaves_the_model_and_the_pit_at_its_sides(surveyed):
+    """Two programs found these numbers: sides of paying blocks, 116 to the north by 48 m, and 158 of the
+    2,337 blocks of the pit at a side."""
+    base, zones = surveyed
+    facts = read_facts(base + ".plan", base, zones)
+    assert [(one.side, one.blocks, round(one.metres)) for one in facts.leaving()] == [("east", 47, 47), ("west", 6, 10), ("north", 116, 48), ("south", 0, 0)]
+    assert facts.pit.sum() == 2337
+    assert (np.any(list(facts.at_side().values()), axis=0) & facts.pit).sum() == 158
+
+
+def test_the_six_blocks_by_hand(tmp_path):
+    facts = read_facts(mines.six_blocks(tmp_path) + ".plan", str(tmp_path / "mine"))
+    tonnes, metal = above_cut_offs(facts, np.array([0, 0.45, 1.8, 3]))
+    assert tonnes.tolist() == [16050, 10750, 5400, 0]
+    assert metal == pytest.approx([14.9525, 14.4225, 11.34, 0])
+    assert facts.best.tolist() == [0, 0, 0, 2, 0, 2]
+    assert facts.columns[0].tolist() == [0, 1, 2] and facts.gaps == (0, 0) and facts.covered == 0
+    assert facts.metal_by_column().round(3).tolist() == [[5.39, 7.672, 1.89]]
+    assert facts.strange_values == 0
+
+
+def test_straight_walls_by_hand():
+    """Cubes and 1 : 1: at K = 1 the cone has the five blocks above, so a straight wall to the north-east
+    goes one block of the four along x or y a bench, 1 / sqrt(2) of a block in its bearing."""
+    plan = plan_of("name,a\ngrid,0,0,0,10,10,10\nzone,1,1,1\ndump,d,0\nperiods,1\nrate,0\n")
+    walls = straight_walls(plan.grid, plan.zones[0], 1, 3)
+    assert walls[:, [0, 90, 180, 270]] == pytest.approx(np.full((3, 4), 45.0))
+    assert walls[:, 45] == pytest.approx(np.full(3, np.degrees(np.arctan(np.sqrt(2)))))
+    assert measured(plan.grid, plan.zones[0]).arcs[:4] == [0, 5, 18, 47]
+
+
+def test_spans_of_periods():
+    assert spans([0, 1, 2, 3, 5]) == "0 to 3, 5" and spans([4]) == "4"
+
+
+def test_the_page_stands_alone_and_has_its_pictures(surveyed, tmp_path):
+    base, zones = surveyed
+    page = survey_page(read_facts(base + ".plan", base, zones))
+    pictures = re.findall(r'src="data:image/png;base64,([^"]+)"', page)
+    assert len(pictures) == 6 and not re.search(r'(src|href)="(?!data:|#)', page)
+    for picture in pictures:
+        assert base64.b64decode(picture)[:8] == b"\x89PNG\r\n\x1a\n"
+    assert "at a side of the model" in page and "<pre>deposit: 3 zones" in page
+
+
+@pytest.mark.parametrize("words, told", [
+    (["gone.plan", "{base}"], "gone.plan: No such file"),
+    (["{base}.plan", "{base}/gone"], "cannot open {base}/gone.blocks"),
+    (["{base}.plan", "{base}", "{base}-9.csv"], "{base}-9.csv"),
+])
+def test_what_cannot_be_read_is_told_in_a_line(tmp_path, capsys, words, told):
+    base = mines.six_blocks(tmp_path)
+    assert main(["survey", *(word.format(base=base) for word in words)]) == 2
+    error = capsys.readouterr().err
+    assert told.format(base=base) in error and error.count("\n") == 1
+
+
+def test_a_zone_file_in_place_of_blocks_is_refused(tmp_path, capsys):
+    base = mines.six_blocks(tmp_path)
+    os.replace(base + ".cpit", base + ".blocks")
+    assert main(["survey", base + ".plan", base]) == 2
+    assert "no line of a block file" in capsys.readouterr().err
