@@ -20,7 +20,8 @@ from pit_tools.export_words import Columns, Measure, Words, columns_of, unit_dou
 from pit_tools.formulas import column_name, plain_name
 from pit_tools.gridding import (Axis, Turn, axis_of, box_told, indices, parents_of, sizes_of, thousandths, turn_of, turn_told,
                                 turned_by)
-from pit_tools.plan_file import Grid
+from pit_tools.plan_file import Grid, Slope, Zone, zone_record
+from pit_tools.slope_words import advice
 from pit_tools.source import Source, is_number_like, source_of
 from pit_tools.zone_files import write_zone_file
 
@@ -75,6 +76,13 @@ class Imported:
             first, step = (int(value * 1000) for value in (self.grid.origin[axis], self.grid.size[axis]))
             columns["xyz"[axis]] = first + found[name].to_numpy() * step
         return pd.DataFrame({**columns, "tonnes": found["tonnes"].to_numpy(), "grade": found["grade"].to_numpy()})
+
+    def records(self) -> list[str]:
+        """The records `grid` and `zone` of a plan, the zones in their order, with slopes of 45 degrees and the K to take for them."""
+        grid = ",".join(["grid", *map(plain, (*self.grid.origin, *self.grid.size))])
+        zone = Zone((Slope(1, 1),) * 4, 1)
+        K = advice(self.grid, zone, self.axes[2].places).K
+        return [grid, *(",".join(zone_record(Zone(zone.slopes, K))) for _ in self.zones)]
 
     def file_names(self, base: str) -> list[str]:
         """The path of each zone's file. It raises UserError where two zones would have one."""

@@ -85,8 +85,6 @@ def run(args: argparse.Namespace) -> int:
         for path in imported.write(args.base):
             print(f"written: {path}")
     print()
-    print("records for the plan:")
-    grid = imported.grid
-    from pit_tools.decimals import plain
-    print(",".join(["grid", *map(plain, (*grid.origin, *grid.size))]))
+    print("records for the plan, with slopes of 45 degrees until yours are said (pit-tools plan):")
+    print("\n".join(imported.records()))
     return 0

@@ -1,0 +1,53 @@
+"""Reads BASE.json, in which `pit-tools import` keeps what it read of an export."""
+from __future__ import annotations
+
+import json
+import os
+from dataclasses import dataclass
+from decimal import Decimal
+from typing import Optional
+
+from pit_tools.errors import UserError
+from pit_tools.export_words import Words
+from pit_tools.gridding import Turn
+from pit_tools.plan_file import Grid
+from pit_tools.units import is_money_a_tonne
+
+
+@dataclass(frozen=True)
+class ImportedFile:
+    """What was imported: the exports and the words by which they were read, the grid with its numbers of blocks, the zones with their
+    files, and the turn of a model, None where it is not turned. Paths are those from where BASE.json stands."""
+
+    exports: list[str]
+    words: Words
+    grid: Grid
+    blocks: tuple[int, int, int]
+    zones: list[str]
+    files: list[str]
+    turn: Optional[Turn]
+
+    @property
+    def is_return(self) -> bool:
+        """Whether the grade is a net smelter return."""
+        return is_money_a_tonne(self.words.grade.rpartition(" ")[2])
+
+    @property
+    def x_bearing(self) -> float:
+        """Where the model's +x points, degrees clockwise from north."""
+        return (90 - self.turn.angle) % 360 if self.turn else 90.0
+
+
+def read_imported(path: str) -> ImportedFile:
+    """Reads BASE.json. It raises UserError where it is none, OSError where it cannot be read."""
+    with open(path, encoding="utf-8", errors="replace") as file:
+        try:
+            told = json.load(file)
+            numbers = [[Decimal(cell) for cell in told["grid"][key]] for key in ("origin", "size")]
+            folder = os.path.dirname(path)
+            turn = told["turn"] and Turn(told["turn"]["angle"], tuple(told["turn"]["about"]))
+            return ImportedFile(told["exports"], Words(**told["words"]), Grid(tuple(numbers[0]), tuple(numbers[1])),
+                                tuple(told["grid"]["blocks"]), [zone["name"] for zone in told["zones"]],
+                                [os.path.join(folder, zone["file"]) for zone in told["zones"]], turn)
+        except (ValueError, KeyError, TypeError, ArithmeticError):
+            raise UserError(f"{path}: it is not what `pit-tools import` writes as BASE.json") from None

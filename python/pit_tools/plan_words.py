@@ -1,0 +1,453 @@
+"""A plan from words with units, as `recovery 92 %, cost 16.50 USD/t`; each record is explained.
+
+Money is of any currency; a cent is its hundredth. Where a price is a few cents a kilogram, as of iron ore, all money is counted in
+`parts` of a cent."""
+from __future__ import annotations
+
+import re
+from dataclasses import dataclass, field
+from decimal import ROUND_HALF_UP, Decimal
+from typing import Optional, Sequence
+
+from pit_tools.decimals import decimal_of, plain
+from pit_tools.errors import UserError
+from pit_tools.plan_file import (NAME, Destination, Grid, Limit, Plan, Resource, Slope, Zone, destination_record, zone_record)
+from pit_tools.slope_words import SIDE_NAMES, advice, degrees_of, slope_of, slopes_of
+from pit_tools.units import GRADES, POUND, SHORT_TON, TROY_OUNCE, factor_of, plain_name
+
+# Kilograms of metal, by the unit behind the stroke of a price.
+METALS = {"oz": TROY_OUNCE / 1000, "g": Decimal("0.001"), "kg": Decimal(1), "lb": POUND, "t": Decimal(1000), "st": SHORT_TON * 1000}
+
+# Tonnes of rock, by the unit behind the stroke of a cost.
+ROCKS = {"t": Decimal(1), "st": SHORT_TON}
+
+# Periods in a year, by their name.
+PERIODS = {"year": 1, "half-year": 2, "quarter": 4, "month": 12}
+
+# What a period may be limited to, by the unit of a tonnage, whose case counts: Mt are millions.
+TONNAGES = {"t": 1, "kt": 1000, "Mt": 1_000_000}
+
+MOST_PRICE, MOST_COST = 10 ** 8, 10 ** 7
+
+
+@dataclass
+class Told:
+    """The records of a plan, each with what it says, and what to look at."""
+
+    lines: list[tuple[str, str]] = field(default_factory=list)
+    doubts: list[str] = field(default_factory=list)
+
+    def text(self) -> str:
+        width = min(44, max(len(record) for record, _ in self.lines))
+        lines = [f"{record:{width}}  {said}" for record, said in self.lines]
+        if self.doubts:
+            lines += ["", "LOOK AT"] + [f"- {doubt}" for doubt in self.doubts]
+        return "\n".join(lines)
+
+
+@dataclass
+class Amount:
+    """A number and the unit behind it."""
+
+    value: Decimal
+    unit: str
+
+
+NUMBER = r"[-+]?[\d,]*\.?\d+"
+
+
+def amount_of(text: str, what: str) -> Amount:
+    """`1,804 USD/oz` or `8 %`. It raises UserError for what is none."""
+    found = re.fullmatch(rf"\s*({NUMBER})\s*(\S*)\s*", text)
+    if not found:
+        raise UserError(f"{what}: `{text.strip()}` is no number with a unit, as 16.50 USD/t")
+    return Amount(decimal_of(found[1].replace(",", ""), what), found[2])
+
+
+def share_of(text: str, what: str) -> Decimal:
+    """A share in percent, `92 %`, as per mille."""
+    amount = amount_of(text, what)
+    if amount.unit not in ("%", "percent"):
+        raise UserError(f"{what}: `{text.strip()}`: say percent, as 92 %")
+    if not 0 <= amount.value <= 100:
+        raise UserError(f"{what}: {plain(amount.value)} % is not from 0 to 100 %")
+    return amount.value * 10
+
+
+def _money_by(text: str, units: dict[str, Decimal], what: str, like: str) -> tuple[Decimal, str]:
+    """Money for one of these units: units of money, and the unit."""
+    amount = amount_of(text, what)
+    money, stroke, by = amount.unit.partition("/")
+    unit = plain_name(by)
+    if not stroke or not money or unit not in units:
+        raise UserError(f"{what}: `{text.strip()}`: say for what, as {like}; known are {', '.join(units)}")
+    return amount.value / units[unit], money
+
+
+@dataclass
+class Price:
+    """What a kilogram of metal brings, in parts of a cent, and how that comes."""
+
+    value: int
+    said: str
+
+
+def price_of(text: str, parts: int) -> Price:
+    """A price of metal: `1804 USD/oz`, with `payable 99.5 %`, `royalty 3 %` and `selling 45 USD/oz` behind commas."""
+    first, *rest = _parts(text) or [""]
+    net, money = _money_by(first, METALS, "--price", "1804 USD/oz")
+    said = first
+    for part in rest:
+        word, _, value = part.partition(" ")
+        if word == "payable":
+            net *= share_of(value, "payable") / 1000
+        elif word == "royalty":
+            net *= 1 - share_of(value, "royalty") / 1000
+        elif word == "selling":
+            net -= _money_by(value, METALS, "selling", "45 USD/oz")[0]
+        else:
+            raise UserError(f"--price: `{part}`: there are payable, royalty and selling")
+        said += f", {part}"
+    cents = net * 100 * parts
+    whole = int(cents.quantize(Decimal(1), rounding=ROUND_HALF_UP))
+    if not 0 < whole <= MOST_PRICE:
+        raise UserError(f"--price: {said} is {plain(round(cents, 2))} cents a kilogram, and a plan takes 1 to {MOST_PRICE:,}")
+    if abs(whole - cents) > cents / 1000:
+        raise UserError(f"--price: {said} is {plain(round(cents, 3))} cents a kilogram, and a plan takes whole ones: count all money in parts "
+                        "of a cent by --parts 100")
+    unit = "cents" if parts == 1 else f"x 1/{parts} cents"
+    return Price(whole, f"{said} is {whole:,} {unit} a kilogram of metal")
+
+
+def cost_of(text: str, mining: Decimal, parts: int, what: str) -> tuple[int, str]:
+    """A cost for a tonne of rock, in parts of a cent, with that of mining, in units of money, and how it comes."""
+    cost, _ = _money_by(text, ROCKS, what, "16.50 USD/t")
+    cents = (cost + mining) * 100 * parts
+    whole = int(cents.quantize(Decimal(1), rounding=ROUND_HALF_UP))
+    if not 0 <= whole <= MOST_COST:
+        raise UserError(f"{what}: {plain(cents)} cents a tonne, and a plan takes 0 to {MOST_COST:,}")
+    with_mining = f" and {plain(round(mining, 4))} of mining" if mining else ""
+    unit = "cents" if parts == 1 else f"x 1/{parts} cents"
+    return whole, f"cost {text.strip()}{with_mining} is {whole:,} {unit} a tonne"
+
+
+def _parts(text: str) -> list[str]:
+    """What stands between commas; those between thousands are none. It raises UserError for a decimal comma."""
+    comma = re.search(r"\d+,\d{1,2}(?!\d)", text)
+    if comma:
+        raise UserError(f"`{comma[0]}`: numbers have a decimal point, and a blank stands behind a comma")
+    return [part.strip() for part in re.split(r",(?!\d{3}(?!\d))", text) if part.strip()]
+
+
+def _named(text: str, kind: str) -> tuple[str, list[str]]:
+    """The name before a colon, or else the kind's own, and the parts behind it."""
+    name, colon, rest = text.partition(":")
+    if not colon:
+        name, rest = kind, text
+    if not NAME.fullmatch(name.strip()):
+        raise UserError(f"`{name.strip()}` is no name: it has letters, digits, `_`, `-` and `.`")
+    return name.strip(), _parts(rest)
+
+
+@dataclass
+class Spoken:
+    """The words of a plan; lists may have several. Empty ones are not said."""
+
+    name: str = "mine"
+    price: str = ""
+    is_return: bool = False
+    mining: str = ""
+    mill: Sequence[str] = ()
+    leach: Sequence[str] = ()
+    dump: Sequence[str] = ()
+    slope: Sequence[str] = ()
+    K: Optional[int] = None
+    benches: int = 0
+    periods: str = "1 year"
+    rate: str = "8 %"
+    limit: Sequence[str] = ()
+    parts: int = 1
+    x_bearing: float = 90.0
+
+
+def plan_from(words: Spoken, grid: Grid, zones: Sequence[str], benches: int) -> tuple[Plan, Told]:
+    """A plan of these words for a grid, its zones by name, and the benches of the model. It raises UserError for a word that it does
+    not understand or that is out of the range of a plan."""
+    told = Told()
+    if not NAME.fullmatch(words.name):
+        raise UserError(f"--name: `{words.name}` has letters, digits, `_`, `-` and `.` alone")
+    told.lines.append((f"name,{words.name}", "the name of the instance"))
+    cells = ",".join(plain(value) for value in (*grid.origin, *grid.size))
+    told.lines.append((f"grid,{cells}", "the centroid of block 0 0 0, and the size of a block, in metres"))
+    records = _zones(words, grid, zones, benches, told)
+    destinations = _Destinations(words, told).all()
+    periods, in_year = _periods(words.periods, told)
+    rate = _rate(words.rate, in_year, told)
+    resources, limits = _limits(words.limit, destinations, periods, in_year, told)
+    _doubts(destinations, told)
+    return Plan(words.name, grid, tuple(records), tuple(destinations), periods, rate, tuple(resources), tuple(limits)), told
+
+
+def _zones(words: Spoken, grid: Grid, names: Sequence[str], benches: int, told: Told) -> list[Zone]:
+    """A record for each zone, in the order of the zone files."""
+    of_all: Optional[tuple[Slope, Slope, Slope, Slope]] = None
+    of_zone: dict[str, tuple[Slope, Slope, Slope, Slope]] = {}
+    for text in words.slope or ["45"]:
+        name, colon, slopes = text.partition(":")
+        is_name = colon and name.strip() in names
+        if colon and not is_name and not name.strip().isdigit():
+            raise UserError(f"--slope: no zone `{name.strip()}`: there are {', '.join(names)}")
+        four = sides_of(slopes if is_name else text, words.x_bearing, told)
+        if is_name:
+            of_zone[name.strip()] = four
+        else:
+            of_all = four
+    if not words.slope:
+        told.doubts.append("slopes are 45 degrees until yours are known: --slope 'ZONE: 50' or 'ZONE: E 56, W 45, N 51, S 51'")
+    records, steep = [], {}
+    for name in names:
+        four = of_zone.get(name) or of_all
+        if four is None:
+            raise UserError(f"--slope: none for the zone {name}")
+        advised = advice(grid, Zone(four, 1), words.benches or benches)
+        K = words.K or advised.K
+        zone = Zone(four, K)
+        degrees = sorted({round(degrees_of(slope), 1) for slope in four})
+        said = f"zone {name}: {' to '.join(f'{angle:g}' for angle in {degrees[0]: 0, degrees[-1]: 0})} degrees"
+        if len(set(four)) > 1:
+            said += ", sides +x, -x, +y, -y"
+        told.lines.append((",".join(zone_record(zone)), f"{said}; K = {K}"))
+        if words.K is None and advised.too_steep > advised.within:
+            steep.setdefault(advised.told(), []).append(name)
+        records.append(zone)
+    told.doubts += [f"zone {', '.join(of)}: {advised}" for advised, of in steep.items()]
+    return records
+
+
+def sides_of(text: str, x_bearing: float, told: Told) -> tuple[Slope, Slope, Slope, Slope]:
+    """The four slopes of words, also of sectors of azimuth: `0-90 50, 90-180 45, 180-360 48`, from the middle of the pit to the wall.
+    A side of the model takes the slope of the sector that its bearing lies in, the flatter one where that is on a border."""
+    parts = [part.strip() for part in text.split(",") if part.strip()]
+    sectors = [re.fullmatch(r"(\d+(?:\.\d+)?)\s*(?:-|to)\s*(\d+(?:\.\d+)?)\s+(\d+(?:\.\d+)?)", part) for part in parts]
+    if not any(sectors):
+        return slopes_of(text)
+    if not all(sectors):
+        raise UserError(f"--slope: `{text.strip()}`: sectors are as 0-90 50, 90-180 45, 180-360 48")
+    ranges = [(float(one[1]), float(one[2]), float(one[3])) for one in sectors if one]
+    wide = sum((end - start) % 360 or 360 for start, end, _ in ranges)
+    if abs(wide - 360) > 1e-6:
+        raise UserError(f"--slope: the sectors of `{text.strip()}` are {wide:g} degrees wide together, and not 360")
+    found = []
+    for side, away in (("+x", 0), ("-x", 180), ("+y", -90), ("-y", 90)):
+        bearing = (x_bearing + away) % 360
+        slopes = [angle for start, end, angle in ranges if (bearing - start) % 360 <= ((end - start) % 360 or 360)]
+        if len(slopes) > 1 and len(set(slopes)) > 1:
+            told.doubts.append(f"the side {side}, at bearing {bearing:g}, is on the border of two sectors: the flatter one is taken")
+        found.append(slope_of(min(slopes)))
+    told.doubts.append("sectors become the four sides of the zone, and between two sides a slope is between theirs: a model that is turned so "
+                       "that its sides face the sectors' middles fits best")
+    return (found[0], found[1], found[2], found[3])
+
+
+class _Destinations:
+    """Reads mills, leaches and dumps, in this order, as they are numbered."""
+
+    def __init__(self, words: Spoken, told: Told) -> None:
+        self.words, self.told = words, told
+        self.mining = _money_by(words.mining, ROCKS, "--mining", "1.80 USD/t")[0] if words.mining else Decimal(0)
+        if words.is_return and words.price:
+            raise UserError("--price: the grade is a net smelter return, which has its price in it")
+        if not words.is_return and not words.price and (words.mill or words.leach):
+            raise UserError("--price: what does metal bring? As --price '1804 USD/oz'")
+        self.price = Price(100_000 * words.parts, "a return of 1 a tonne brings 1") if words.is_return else \
+            price_of(words.price, words.parts) if words.price else Price(0, "")
+
+    def all(self) -> list[Destination]:
+        found = [self.mill(text) for text in self.words.mill] + [self.leach(text) for text in self.words.leach]
+        found += [self.dump(text) for text in self.words.dump]
+        names = [one.name for one in found]
+        twice = next((name for name in names if names.count(name) > 1), None)
+        if twice:
+            raise UserError(f"two destinations `{twice}`: name them, as --mill 'north: recovery 92 %, cost 16.50 USD/t'")
+        if not found:
+            raise UserError("no destination: give --mill, --leach or --dump")
+        if len(found) > 8:
+            raise UserError(f"{len(found)} destinations: a plan has at most 8")
+        return found
+
+    def say(self, one: Destination, *said: str) -> Destination:
+        self.told.lines.append((",".join(destination_record(one)), "; ".join(part for part in said if part)))
+        return one
+
+    def mill(self, text: str) -> Destination:
+        name, parts = _named(text, "mill")
+        recovery, cost = self._word(parts, "recovery"), self._word(parts, "cost")
+        share = Decimal(1000) if self.words.is_return and not recovery else share_of(recovery or "", f"--mill: {name}: recovery")
+        if share != share.to_integral_value():
+            raise UserError(f"--mill: {name}: a recovery has one decimal, as 92.5 %")
+        cents, said = cost_of(cost or "", self.mining, self.words.parts, f"--mill: {name}: cost")
+        one = Destination("mill", name, self.price.value, cents, ((Decimal(0), int(share)),))
+        return self.say(one, f"recovers {plain(share / 10)} %", self.price.said, said, _break_even(one))
+
+    def leach(self, text: str) -> Destination:
+        name, parts = _named(text, "leach")
+        cost = self._word(parts, "cost")
+        bands = []
+        for part in parts:
+            if part.startswith("cost"):
+                continue
+            found = re.fullmatch(rf"(?:recovery\s+)?({NUMBER}\s*%)\s+from\s+({NUMBER})\s*(\S+)", part)
+            factor = factor_of(found[3], "grade") if found else None
+            if not found or factor is None:
+                raise UserError(f"--leach: {name}: `{part}`: a band is as 30 % from 0.2 g/t; units are {', '.join(GRADES)}")
+            share = share_of(found[1], f"--leach: {name}")
+            bands.append((decimal_of(found[2], name) * factor, int(share)))
+        if not bands or bands != sorted(bands) or len({start for start, _ in bands}) < len(bands):
+            raise UserError(f"--leach: {name}: bands rise, as 30 % from 0.2 g/t, 48 % from 0.6 g/t")
+        cents, said = cost_of(cost or "", self.mining, self.words.parts, f"--leach: {name}: cost")
+        one = Destination("leach", name, self.price.value, cents, tuple(bands))
+        recovers = ", ".join(f"{share / 10:g} % from {plain(start)} g/t" for start, share in bands)
+        return self.say(one, f"recovers {recovers}", said, _break_even(one))
+
+    def dump(self, text: str) -> Destination:
+        name, parts = _named(text, "dump")
+        cost = self._word(parts, "cost") or (parts[0] if len(parts) == 1 else "")
+        cents, said = cost_of(cost, self.mining, self.words.parts, f"--dump: {name}: cost")
+        return self.say(Destination("dump", name, 0, cents), said)
+
+    @staticmethod
+    def _word(parts: Sequence[str], word: str) -> Optional[str]:
+        found = [part[len(word):].strip() for part in parts if part.startswith(word + " ")]
+        return found[0] if found else None
+
+
+def _break_even(one: Destination) -> str:
+    least = one.break_even
+    return f"pays from {least:.4g} g/t" if least is not None else "pays at no grade"
+
+
+def _periods(text: str, told: Told) -> tuple[int, int]:
+    """How many periods there are, and how many make a year."""
+    found = re.fullmatch(r"\s*(\d+)\s*([a-z-]*?)s?\s*", text)
+    unit = found[2] if found and found[2] else "year"
+    if not found or unit not in PERIODS or not 1 <= int(found[1]) <= 100:
+        raise UserError(f"--periods: `{text}`: give 1 to 100, as 12 years; known are {', '.join(PERIODS)}")
+    told.lines.append((f"periods,{int(found[1])}", f"{int(found[1])} {unit}{'s' if int(found[1]) > 1 else ''}, counted from 0"))
+    return int(found[1]), PERIODS[unit]
+
+
+def _rate(text: str, in_year: int, told: Told) -> Decimal:
+    """The discount rate of a period, of one a year."""
+    found = re.fullmatch(rf"\s*({NUMBER})\s*%\s*(?:a\s+(year|period))?\s*", text)
+    if not found or not 0 <= Decimal(found[1]) <= 100:
+        raise UserError(f"--rate: `{text}`: give percent a year, as 8 %")
+    yearly = decimal_of(found[1], "--rate") / 100
+    rate = yearly
+    said = f"{found[1]} % a {found[2] or 'year'}"
+    if in_year > 1 and found[2] != "period":
+        rate = Decimal(str(round((1 + float(yearly)) ** (1 / in_year) - 1, 6)))
+        said += f", which is {plain(rate * 100)} % a period"
+    told.lines.append((f"rate,{plain(rate)}", said))
+    return rate
+
+
+def _limits(texts: Sequence[str], destinations: Sequence[Destination], periods: int, in_year: int,
+            told: Told) -> tuple[list[Resource], list[Limit]]:
+    """Resources with what they cover, and their limits in tonnes a period."""
+    resources: list[Resource] = []
+    limits: list[Limit] = []
+    names = [one.name for one in destinations]
+    for text in texts:
+        name, parts = _named(text, "")
+        known = next((at for at, one in enumerate(resources) if one.name == name), None)
+        if known is None or (parts and not re.match(r"at |\d", parts[0])):
+            covered = parts.pop(0).split()
+            wrong = [one for one in covered if one not in (*names, "all")]
+            if wrong or not covered:
+                raise UserError(f"--limit: {name}: no destination `{' '.join(wrong)}`: there are {', '.join(names)}, or all")
+            covers = tuple(range(len(names))) if "all" in covered else tuple(names.index(one) for one in covered)
+            if known is None:
+                resources.append(Resource(name, covers))
+                known = len(resources) - 1
+                record = ["resource", name, *(names[at] for at in covers)]
+                free = [one for one in names if one not in record]
+                told.lines.append((",".join(record), f"tonnes to {' and '.join(record[2:])} count" + (f"; {' and '.join(free)} free" if free else "")))
+        more = _limit(parts, name, known, periods, in_year)
+        for one in more:
+            if any((other.resource, other.period) == (one.resource, one.period) for other in limits):
+                raise UserError(f"--limit: {name} has two limits in period {one.period}: give both ends, as 1 Mt to 6 Mt")
+        limits += more
+        _say_limit(name, more, told)
+    if len(resources) > 8:
+        raise UserError(f"{len(resources)} resources: a plan has at most 8")
+    return resources, limits
+
+
+def _limit(parts: Sequence[str], name: str, resource: int, periods: int, in_year: int) -> list[Limit]:
+    """The limits of one word, for all periods or for those that it names."""
+    spans = [re.fullmatch(r"periods?\s+(\d+)(?:\s*(?:to|-)\s*(\d+))?", part) for part in parts]
+    span = next((one for one in spans if one), None)
+    rest = [part for part, one in zip(parts, spans) if not one]
+    if len(rest) != 1:
+        raise UserError(f"--limit: {name}: say how much, as `at most 2.5 Mt`, `at least 1 Mt` or `1 Mt to 6 Mt`, a year or a period")
+    first, last = (int(span[1]), int(span[2] or span[1])) if span else (0, periods - 1)
+    if not first <= last < periods:
+        raise UserError(f"--limit: {name}: periods are 0 to {periods - 1}")
+    text, by = re.sub(r"\s+a\s+(year|period)$", "", rest[0]), re.search(r"a\s+(year|period)$", rest[0])
+    divide = in_year if by and by[1] == "year" else 1
+    if by is None and in_year > 1:
+        raise UserError(f"--limit: {name}: `{rest[0]}` a year or a period? Periods are no years")
+    most, least = re.fullmatch(r"at most (.*)", text), re.fullmatch(r"at least (.*)", text)
+    between = re.fullmatch(r"(.*) to (.*)", text)
+    if most:
+        letter, ends = "L", (None, _tonnage(most[1], name, divide))
+    elif least:
+        letter, ends = "G", (_tonnage(least[1], name, divide), None)
+    elif between:
+        letter, ends = "I", (_tonnage(between[1], name, divide), _tonnage(between[2], name, divide))
+        if ends[0] > ends[1]:
+            raise UserError(f"--limit: {name}: `{text}` falls")
+    else:
+        raise UserError(f"--limit: {name}: `{text}`: say `at most 2.5 Mt`, `at least 1 Mt` or `1 Mt to 6 Mt`")
+    return [Limit(resource, period, letter, *ends) for period in range(first, last + 1)]
+
+
+def _tonnage(text: str, name: str, divide: int) -> Decimal:
+    amount = amount_of(text, f"--limit: {name}")
+    if amount.unit not in TONNAGES:
+        raise UserError(f"--limit: {name}: `{text.strip()}`: the unit is t, kt or Mt (millions of tonnes)")
+    return round(amount.value * TONNAGES[amount.unit] / divide, 6)
+
+
+def _say_limit(name: str, limits: Sequence[Limit], told: Told) -> None:
+    """A line for the limits of one word, those of like periods together."""
+    spans: list[list[Limit]] = []
+    for one in limits:
+        last = spans[-1][-1] if spans else None
+        if last and (last.letter, last.lower, last.upper, last.period + 1) == (one.letter, one.lower, one.upper, one.period):
+            spans[-1].append(one)
+        else:
+            spans.append([one])
+    for span in spans:
+        first, last = span[0], span[-1]
+        ends = {"L": [first.upper], "G": [first.lower], "I": [first.lower, first.upper]}[first.letter]
+        cells = [plain(end) for end in ends if end is not None]
+        words = {"L": "at most {} t", "G": "at least {} t", "I": "{} to {} t"}[first.letter]
+        said = words.format(*(f"{Decimal(cell):,}" for cell in cells))
+        when = f"in period {first.period}" if len(span) == 1 else f"in each period from {first.period} to {last.period}"
+        told.lines.append((f"limit,{name},{first.period},{first.letter},{','.join(cells)}" + (" .." if len(span) > 1 else ""), f"{said} {when}"))
+
+
+def _doubts(destinations: Sequence[Destination], told: Told) -> None:
+    """What is in range, and mostly wrong."""
+    dumps = [one for one in destinations if one.kind == "dump"]
+    if not dumps:
+        told.doubts.append("no dump: waste is charged what ore costs, so the pit is too small")
+    for one in destinations:
+        if one.kind != "dump" and dumps and one.cost <= min(dump.cost for dump in dumps):
+            told.doubts.append(f"{one.name} costs no more a tonne than {dumps[0].name}: a cost is all that a tonne costs which goes there, with "
+                               "mining and haulage (--mining adds that to each)")
+        if one.bands and max(share for _, share in one.bands) < 300:
+            told.doubts.append(f"{one.name} recovers less than 30 %")
+        if one.kind == "mill" and one.bands[0][1] == 1000 and one.price != 100_000:
+            told.doubts.append(f"{one.name} recovers all metal")

@@ -1,0 +1,139 @@
+"""Plans from words: each number is worked out by hand beside it."""
+from decimal import Decimal
+
+import pytest
+
+from pit_tools.errors import UserError
+from pit_tools.plan_file import Grid, Slope, plan_of
+from pit_tools.plan_words import Spoken, Told, plan_from, price_of, sides_of
+from pit_tools.slope_words import degrees_of, slope_of, slopes_of
+
+GRID = Grid((Decimal(1000), Decimal(2000), Decimal(300)), (Decimal(20), Decimal(20), Decimal(10)))
+
+WORDS = {
+    "name": "deposit", "price": "1,804 USD/oz", "mill": ["recovery 92 %, cost 16.50 USD/t"],
+    "leach": ["heap: cost 6.20 USD/t, 30 % from 0.2 g/t, 48 % from 0.6 g/t"], "dump": ["cost 1.80 USD/t"],
+    "slope": ["45", "west: E 56.3, W 45, N 51.3, S 51.3"], "K": 9, "periods": "4 years", "rate": "8 %",
+    "limit": ["crusher: mill heap, at most 2.5 Mt", "fleet: all, 1 Mt to 6 Mt, period 0", "fleet: at most 6.5 Mt, periods 1 to 3"],
+}
+
+
+def plan_text(**changed) -> str:
+    plan, _ = plan_from(Spoken(**{**WORDS, **changed}), GRID, ["oxide", "west"], 12)
+    assert plan_of(plan.text()) == plan
+    return plan.text()
+
+
+def test_a_plan_has_the_numbers_of_its_words():
+    # 1804 USD for 31.1034768 g are 57.99994.. USD a gram, so 5,799,995 cents a kilogram.
+    # tan 56.3 degrees is 1.4994, so 1000 : 667; tan 51.3 is 1.2482, so 1000 : 802 is never steeper.
+    assert plan_text() == """name,deposit
+grid,1000,2000,300,20,20,10
+zone,1,1,9
+zone,1000,667,1,1,500,401,500,401,9
+mill,mill,920,5799995,1650
+leach,heap,5799995,620,0.2,300,0.6,480
+dump,dump,180
+periods,4
+rate,0.08
+resource,crusher,mill,heap
+resource,fleet,mill,heap,dump
+limit,crusher,0,L,2500000
+limit,crusher,1,L,2500000
+limit,crusher,2,L,2500000
+limit,crusher,3,L,2500000
+limit,fleet,0,I,1000000,6000000
+limit,fleet,1,L,6500000
+limit,fleet,2,L,6500000
+limit,fleet,3,L,6500000
+"""
+
+
+@pytest.mark.parametrize("text, parts, cents", [
+    ("1 USD/oz", 1, 3215), ("100 USD/oz", 1, 321_507), ("1 USD/lb", 100, 22_046), ("4 USD/lb", 1, 882), ("8000 USD/t", 1, 800),
+    ("61 USD/t", 100, 610), ("58 USD/g", 1, 5_800_000), ("1804 USD/oz, payable 99.5 %, selling 45 USD/oz", 1, 5_626_316),
+    ("1000 USD/kg, royalty 3 %", 1, 97_000),
+])
+def test_a_price_is_cents_a_kilogram(text, parts, cents):
+    assert price_of(text, parts).value == cents
+
+
+def test_mining_is_added_to_each_cost_and_periods_share_a_year():
+    text = plan_text(mining="2 USD/t", periods="8 quarters", limit=["crusher: mill, at most 2.5 Mt a year"])
+    assert "mill,mill,920,5799995,1850\n" in text and "dump,dump,380\n" in text
+    assert "rate,0.019427\n" in text                   # 1.08 to the power 1/4
+    assert text.count("L,625000\n") == 8
+
+
+def test_a_short_ton_of_rock_is_less_than_a_tonne():
+    assert "dump,dump,198\n" in plan_text(dump=["cost 1.80 USD/st"])          # 1.80 / 0.90718474
+
+
+def test_a_return_brings_what_it_says():
+    # A return of 30 a tonne, as grade 30: 1 t has 0.03 kg, which bring 3,000 cents at 100,000 cents a kilogram.
+    text = plan_text(price="", is_return=True, mill=["cost 12 USD/t"], leach=[], limit=[])
+    assert "mill,mill,1000,100000,1200\n" in text
+
+
+def test_a_flat_slope_is_never_steeper_than_its_degrees():
+    for degrees in range(1, 90):
+        found = degrees_of(slope_of(degrees))
+        assert degrees - 0.06 < found <= degrees + 1e-9
+    assert slope_of(45) == Slope(1, 1) and slope_of(40) == Slope(839, 1000) and slope_of(55) == Slope(1000, 701)
+    assert slopes_of("+x 3:2, -x 1:1, N 5:4, south 5:4") == (Slope(3, 2), Slope(1, 1), Slope(5, 4), Slope(5, 4))
+
+
+def test_sectors_of_azimuth_become_the_sides_that_lie_in_them():
+    told = Told()
+    four = sides_of("315-45 50, 45-135 40, 135-225 30, 225-315 60", 90, told)
+    assert [round(degrees_of(slope)) for slope in four] == [40, 60, 50, 30]
+    # The model's +x points to bearing 180, so its +y to 90.
+    four = sides_of("315-45 50, 45-135 40, 135-225 30, 225-315 60", 180, told)
+    assert [round(degrees_of(slope)) for slope in four] == [30, 50, 40, 60]
+    assert not any("border" in doubt for doubt in told.doubts)
+    four = sides_of("0-180 50, 180-360 40", 90, told)
+    assert [round(degrees_of(slope)) for slope in four] == [50, 40, 40, 40]
+    assert sum("border" in doubt for doubt in told.doubts) == 2
+
+
+@pytest.mark.parametrize("changed, told", [
+    ({"mill": ["recovery 0.92, cost 16.50 USD/t"]}, "say percent"),
+    ({"mill": ["recovery 920 %, cost 16.50 USD/t"]}, "not from 0 to 100"),
+    ({"mill": ["recovery 92 %, cost 16.50 USD"]}, "say for what"),
+    ({"mill": ["recovery 92 %, cost 16,50 USD/t"]}, "numbers have a decimal point"),
+    ({"price": "1804 USD"}, "say for what"),
+    ({"price": "61 USD/t"}, "count all money in parts"),
+    ({"price": "1804 USD/oz/t"}, "say for what"),
+    ({"leach": ["heap: cost 6 USD/t, 48 % from 0.6 g/t, 30 % from 0.2 g/t"]}, "bands rise"),
+    ({"leach": ["heap: cost 6 USD/t, 0.2 300"]}, "a band is as"),
+    ({"slope": ["45", "north: 50"]}, "no zone `north`"),
+    ({"slope": ["E 45, W 50"]}, r"no slope for \+y, -y"),
+    ({"slope": ["95"]}, "give 1 to 89"),
+    ({"slope": ["0-90 45, 90-180 50"]}, "180 degrees wide"),
+    ({"limit": ["crusher: plant, at most 1 Mt"]}, "no destination `plant`"),
+    ({"limit": ["crusher: mill, at most 2.5 million"]}, "the unit is t, kt or Mt"),
+    ({"limit": ["crusher: mill, at most 1 Mt", "crusher: at least 0.5 Mt"]}, "give both ends"),
+    ({"limit": ["crusher: mill, at most 1 Mt, period 4"]}, "periods are 0 to 3"),
+    ({"limit": ["crusher: mill, 2 Mt to 1 Mt"]}, "falls"),
+    ({"periods": "16 quarters"}, "a year or a period"),
+    ({"rate": "0.08"}, "give percent a year"),
+    ({"dump": ["mill: cost 1 USD/t"]}, "two destinations `mill`"),
+])
+def test_words_that_cannot_be_right_are_named(changed, told):
+    with pytest.raises(UserError, match=told):
+        plan_text(**changed)
+
+
+@pytest.mark.parametrize("changed, told", [
+    ({"dump": [], "limit": []}, "no dump"),
+    ({"mill": ["recovery 92 %, cost 1.50 USD/t"]}, "mill costs no more a tonne than dump"),
+    ({"mill": ["recovery 9.2 %, cost 16.50 USD/t"]}, "recovers less than 30 %"),
+    ({"mill": ["recovery 100 %, cost 16.50 USD/t"]}, "recovers all metal"),
+    ({"slope": []}, "slopes are 45 degrees until yours are known"),
+    ({"K": None}, "no K brings them within 2"),
+])
+def test_what_may_be_wrong_is_told(changed, told):
+    _, explained = plan_from(Spoken(**{**WORDS, **changed}), GRID, ["oxide", "west"], 12)
+    assert any(told in doubt for doubt in explained.doubts)
+    _, sound = plan_from(Spoken(**WORDS), GRID, ["oxide", "west"], 12)
+    assert not sound.doubts
