@@ -22,7 +22,8 @@ class Words:
     """What is said of an export; an empty word is not said. Names are those of the options of `pit-tools import`.
 
     `x` to `ore_share` are columns or formulas, with a unit behind them; `sub_size` has three of them; `zone` names columns; `where`
-    are filters; `density_by` and `zones` are tables. The others say how the text is written, what the grid is, and what to do."""
+    are filters; `density_by` and `zones` are tables; `below` has pairs of a zone and one above it, as `flat:steep`. The others say how
+    the text is written, what the grid is, and what to do."""
 
     x: str = ""
     y: str = ""
@@ -63,6 +64,7 @@ class Words:
     about: str = ""
     holes: bool = False
     in_feet: bool = False
+    below: Sequence[str] = ()
 
     @property
     def is_listed(self) -> bool:

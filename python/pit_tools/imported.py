@@ -17,7 +17,8 @@ from pit_tools.units import is_money_a_tonne
 @dataclass(frozen=True)
 class ImportedFile:
     """What was imported: the exports and the words by which they were read, the grid with its numbers of blocks, the zones with their
-    files, and the turn of a model, None where it is not turned. Paths are those from where BASE.json stands."""
+    files, the turn of a model, None where it is not turned, and the K of zones that are so many benches below another. Paths of zone
+    files are those from where BASE.json was read."""
 
     exports: list[str]
     words: Words
@@ -26,6 +27,7 @@ class ImportedFile:
     zones: list[str]
     files: list[str]
     turn: Optional[Turn]
+    benches: dict[str, int]
 
     @property
     def is_return(self) -> bool:
@@ -48,6 +50,7 @@ def read_imported(path: str) -> ImportedFile:
             turn = told["turn"] and Turn(told["turn"]["angle"], tuple(told["turn"]["about"]))
             return ImportedFile(told["exports"], Words(**told["words"]), Grid(tuple(numbers[0]), tuple(numbers[1])),
                                 tuple(told["grid"]["blocks"]), [zone["name"] for zone in told["zones"]],
-                                [os.path.join(folder, zone["file"]) for zone in told["zones"]], turn)
+                                [os.path.join(folder, zone["file"]) for zone in told["zones"]], turn,
+                                {zone["name"]: zone["K"] for zone in told["zones"] if zone.get("K")})
         except (ValueError, KeyError, TypeError, ArithmeticError):
             raise UserError(f"{path}: it is not what `pit-tools import` writes as BASE.json") from None

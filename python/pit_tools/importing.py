@@ -23,6 +23,7 @@ from pit_tools.gridding import (Axis, Turn, axis_of, box_told, indices, parents_
 from pit_tools.plan_file import Grid, Slope, Zone, zone_record
 from pit_tools.slope_words import advice
 from pit_tools.source import Source, is_number_like, source_of
+from pit_tools.walls import MOST_BENCHES
 from pit_tools.zone_files import write_zone_file
 
 # The most that pitc takes: kilograms a block, millionths of g/t, zones, the greatest index.
@@ -56,7 +57,7 @@ class Imported:
     `rows` has a row for each block: ix, iy, iz, places of the grid from 0; tonnes in kilograms and grade in millionths of g/t, int64;
     zone, a number of `zones`. Its order is that of the export. `places` has a row for each record of the export that was read, with
     its file, its record (the header being 0) and its ix, iy, iz, so that a pit finds the export's rows again. `grid` is in metres, or
-    in feet where the lengths stay in feet."""
+    in feet where the lengths stay in feet. `benches` has the K of zones that are so many benches below another."""
 
     words: Words
     sources: list[Source]
@@ -67,6 +68,7 @@ class Imported:
     rows: pd.DataFrame
     places: pd.DataFrame
     report: Report
+    benches: dict[str, int]
 
     def zone_rows(self, zone: int) -> pd.DataFrame:
         """The rows of a zone as a zone file has them: x, y, z in millimetres, tonnes in kilograms, grade in millionths of g/t."""
@@ -82,7 +84,7 @@ class Imported:
         grid = ",".join(["grid", *map(plain, (*self.grid.origin, *self.grid.size))])
         zone = Zone((Slope(1, 1),) * 4, 1)
         K = advice(self.grid, zone, self.axes[2].places).K
-        return [grid, *(",".join(zone_record(Zone(zone.slopes, K))) for _ in self.zones)]
+        return [grid, *(",".join(zone_record(Zone(zone.slopes, self.benches.get(name, K)))) for name in self.zones)]
 
     def file_names(self, base: str) -> list[str]:
         """The path of each zone's file. It raises UserError where two zones would have one."""
@@ -104,7 +106,7 @@ class Imported:
             "words": {key: value for key, value in asdict(self.words).items() if value not in ("", (), [], None, False)},
             "grid": {"origin": [plain(value) for value in self.grid.origin], "size": [plain(value) for value in self.grid.size],
                      "blocks": [axis.places for axis in self.axes]},
-            "zones": [{"name": name, "file": os.path.basename(path)} for name, path in zip(self.zones, paths)],
+            "zones": [{"name": name, "file": os.path.basename(path), "K": self.benches.get(name)} for name, path in zip(self.zones, paths)],
             "turn": {"angle": self.turn.angle, "about": list(self.turn.about)} if self.turn else None,
         }
         with open(base + ".json", "w", encoding="utf-8") as file:
@@ -467,6 +469,9 @@ class _Placing:
         if self.words.holes:
             rows, air = self.with_holes(rows, air)
         rows, zones = self.zoned(rows)
+        benches: dict[str, int] = {}
+        for pair in self.words.below:
+            rows, zones = self.split_below(rows, zones, pair, benches)
         self.judge_ranges(rows)
         grid = self.grid(axes)
         report.facts.append("")
@@ -474,7 +479,7 @@ class _Placing:
         self.tell_grid(rows, axes)
         _Doubts(rows, air, axes, self.factors, zones, report, self.words).look()
         return Imported(self.words, self.sources, grid, axes, self.turn, zones, rows.drop(columns="row").reset_index(drop=True), records,
-                        report)
+                        report, benches)
 
     # The grid.
 
@@ -767,6 +772,28 @@ class _Placing:
             raise UserError(f"{len(firsts):,} zones, as `{names[firsts[0]]}` and `{names[firsts[1]]}`, are more than the {MOST_ZONES} of a plan: is "
                             "it the column of zones?")
         return rows.assign(zone=codes), [names[number] for number in firsts]
+
+    def split_below(self, rows: pd.DataFrame, zones: list[str], pair: str, benches: dict[str, int]) -> tuple[pd.DataFrame, list[str]]:
+        """Splits a zone by how many benches its blocks lie below the lowest of another in their column: of `flat` three benches below
+        become `flat3`. So the flatter cones of each end where the steeper rock begins."""
+        zone, _, above = (name.strip() for name in pair.partition(":"))
+        if zone not in zones or above not in zones:
+            raise UserError(f"--below: give two zones, the flatter one first, as flat:steep; there are {', '.join(zones)}, and not `{pair}`")
+        lowest = rows[rows["zone"] == zones.index(above)].groupby(["ix", "iy"])["iz"].min().rename("contact").reset_index()
+        found = rows.merge(lowest, "left", ["ix", "iy"])
+        depth = (found["contact"] - found["iz"]).where(found["zone"] == zones.index(zone)).to_numpy()
+        names = np.array(zones, object)[rows["zone"].to_numpy()]
+        is_below = depth > 0
+        names[is_below] = [f"{zone}{int(many)}" for many in depth[is_below]]
+        taken = {f"{zone}{int(many)}": int(many) for many in np.unique(depth[is_below])}
+        if set(taken) & set(zones):
+            raise UserError(f"--below: a zone `{(set(taken) & set(zones)).pop()}` is there already: rename it by --zones")
+        benches.update({name: min(many, MOST_BENCHES) for name, many in taken.items()})
+        codes, firsts = pd.factorize(pd.Series(names))
+        if len(firsts) > MOST_ZONES:
+            raise UserError(f"--below: {zone} goes down to {max(taken.values())} benches below {above}, which makes more than {MOST_ZONES} zones")
+        self.report.facts.append(f"{zone} is split by benches below {above}: {int(is_below.sum()):,} blocks in {len(taken)} zones, each with its K")
+        return rows.assign(zone=codes), list(firsts)
 
     def judge_ranges(self, rows: pd.DataFrame) -> None:
         """Stops at what pitc would refuse as out of range."""

@@ -151,7 +151,8 @@ def _named(text: str, kind: str) -> tuple[str, list[str]]:
 
 @dataclass
 class Spoken:
-    """The words of a plan; lists may have several. Empty ones are not said."""
+    """The words of a plan; lists may have several. Empty ones are not said. `K_of` has the K of zones that are so many benches below
+    another, and `x_bearing` says where the model's +x points, degrees clockwise from north."""
 
     name: str = "mine"
     price: str = ""
@@ -168,6 +169,7 @@ class Spoken:
     limit: Sequence[str] = ()
     parts: int = 1
     x_bearing: float = 90.0
+    K_of: dict[str, int] = field(default_factory=dict)
 
 
 def plan_from(words: Spoken, grid: Grid, zones: Sequence[str], benches: int) -> tuple[Plan, Told]:
@@ -194,7 +196,7 @@ def _zones(words: Spoken, grid: Grid, names: Sequence[str], benches: int, told: 
     of_zone: dict[str, tuple[Slope, Slope, Slope, Slope]] = {}
     for text in words.slope or ["45"]:
         name, colon, slopes = text.partition(":")
-        is_name = colon and name.strip() in names
+        is_name = bool(colon) and name.strip() in names
         if colon and not is_name and not name.strip().isdigit():
             raise UserError(f"--slope: no zone `{name.strip()}`: there are {', '.join(names)}")
         four = sides_of(slopes if is_name else text, words.x_bearing, told)
@@ -210,14 +212,14 @@ def _zones(words: Spoken, grid: Grid, names: Sequence[str], benches: int, told: 
         if four is None:
             raise UserError(f"--slope: none for the zone {name}")
         advised = advice(grid, Zone(four, 1), words.benches or benches)
-        K = words.K or advised.K
+        K = words.K_of.get(name) or words.K or advised.K
         zone = Zone(four, K)
         degrees = sorted({round(degrees_of(slope), 1) for slope in four})
         said = f"zone {name}: {' to '.join(f'{angle:g}' for angle in {degrees[0]: 0, degrees[-1]: 0})} degrees"
         if len(set(four)) > 1:
             said += ", sides +x, -x, +y, -y"
         told.lines.append((",".join(zone_record(zone)), f"{said}; K = {K}"))
-        if words.K is None and advised.too_steep > advised.within:
+        if words.K is None and name not in words.K_of and advised.too_steep > advised.within:
             steep.setdefault(advised.told(), []).append(name)
         records.append(zone)
     told.doubts += [f"zone {', '.join(of)}: {advised}" for advised, of in steep.items()]

@@ -54,6 +54,8 @@ def add_arguments(parser: argparse.ArgumentParser) -> None:
     contents.add_argument("--grade", default="", metavar="FORMULA", help="grams a tonne, or with a unit")
     contents.add_argument("--zone", action="append", default=[], metavar="COLUMN", help="the zone; given twice, both columns make it")
     contents.add_argument("--zones", default="", metavar="TABLE", help="zones by a table: a file with columns of the export and `zone`")
+    contents.add_argument("--below", action="append", default=[], metavar="ZONE:ABOVE",
+                          help="split a flatter zone by benches below a steeper one, since its cones go on through that")
     rows = parser.add_argument_group("which rows")
     rows.add_argument("--where", action="append", default=[], metavar="FILTER", help="rows that stay, as 'CLASS <= 3 and ROCK != \"AIR\"'")
     rows.add_argument("--parents", default="", metavar="X,Y,Z", help="the size of the parents to which sub-blocks are summed up")

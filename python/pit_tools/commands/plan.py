@@ -47,7 +47,7 @@ def run(args: argparse.Namespace) -> int:
         raise UserError(f"--parts: {args.parts} is below 1")
     imported = read_imported(args.imported)
     told = {key: value for key, value in vars(args).items() if key in Spoken.__dataclass_fields__}
-    words = Spoken(**told, is_return=imported.is_return, x_bearing=imported.x_bearing)
+    words = Spoken(**told, is_return=imported.is_return, x_bearing=imported.x_bearing, K_of=imported.benches)
     plan, explained = plan_from(words, imported.grid, imported.zones, imported.blocks[2])
     print(explained.text())
     print()
