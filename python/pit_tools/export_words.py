@@ -235,7 +235,11 @@ def columns_of(words: Words, names: Sequence[str]) -> Columns:
         zone = [column_of(name, names) for name in words.zone]
         filters = []
         for text in words.where:
-            formula = formula_of(text, names)
+            try:
+                formula = formula_of(text, names)
+            except Lacking as lacking:
+                lacking.args = (f"{lacking} (in a filter a text stands between double quotes)",)
+                raise
             filters.append((formula, *number_columns(formula)))
         zones = table_of(words.zones, "zone", names) if words.zones else None
         densities = table_of(words.density_by, "density", names) if words.density_by else None

@@ -894,9 +894,9 @@ class _Doubts:
         if 1.2 <= middle <= 5:
             if most > 10:
                 count = int((heavy > 10).sum())
-                self.doubts.append(f"{count:,} blocks weigh more than 10 t a cubic metre, up to {most:.4g}: a mark of what is missing, as 999?")
+                self.doubts.append(f"{count:,} blocks weigh more than 10 t a cubic metre, up to {figure(most)}: a mark of what is missing, as 999?")
             return
-        told = f"tonnes a cubic metre are {heavy[0]:.4g} to {most:.4g}, {middle:.4g} in the middle, and rock has 1.5 to 5"
+        told = f"tonnes a cubic metre are {figure(heavy[0])} to {figure(most)}, {figure(middle)} in the middle, and rock has 1.5 to 5"
         whys = [("are they densities? Give --density", self.volume), ("are they kilotonnes? Give the unit kt", 1000.0),
                 ("are they kilograms? Give the unit kg", 0.001), ("are lengths in feet? Give --in-feet, or the unit ft", 1 / 0.3048 ** 3),
                 ("is it the density in kg/m3?", 0.001), ("are they the tonnes of other blocks? Look at --size", 0.0)]
@@ -921,8 +921,9 @@ class _Doubts:
         taken = self.top >= 0
         if taken.sum() < 9 or len(self.rows) == taken.sum() * self.axes[2].places:
             return
-        flat_top = np.ptp(self.top[taken]) == 0
-        if flat_top and np.ptp(self.bottom[taken]) > 0:
+        at_top = float((self.top[taken] == self.top[taken].max()).mean())
+        at_bottom = float((self.bottom[taken] == self.bottom[taken].min()).mean())
+        if at_top >= 0.9 and at_bottom < 0.8:
             self.doubts.append("the highest bench is whole and the lowest is not: is z a depth, or are benches counted from the top? "
                                "Give --z=-DEPTH, or --from-top")
 
@@ -948,6 +949,11 @@ class _Doubts:
         if known and max(known) > 100 * min(known) and max(known) > 20:
             high = self.zones[means.index(max(known))]
             self.doubts.append(f"the mean grade of zone {high} is {max(known):,.4g}, a hundred times that of another: in another unit?")
+
+
+def figure(value: float) -> str:
+    """A number with four figures, and no exponent."""
+    return f"{float(f'{value:.4g}'):,.10g}"
 
 
 def rows_of(imported: Imported) -> Iterator[tuple[str, pd.DataFrame]]:

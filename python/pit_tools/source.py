@@ -11,8 +11,9 @@ import lzma
 import re
 import zipfile
 from dataclasses import dataclass, field
-from typing import BinaryIO, Callable, Iterator, Optional, Sequence
+from typing import BinaryIO, Callable, Iterator, Optional, Sequence, TextIO
 
+import numpy as np
 import pandas as pd
 
 from pit_tools.errors import UserError
@@ -20,6 +21,9 @@ from pit_tools.formulas import Lacking
 
 # How many rows are texts at a time.
 CHUNK = 100_000
+
+# How many bytes are looked at at a time.
+PIECE = 1 << 22
 
 # Among how many lines the header is looked for.
 HEAD_LINES = 100
@@ -70,9 +74,10 @@ def encoding_of(path: str) -> tuple[str, str]:
         for mark, name in ((codecs.BOM_UTF16_LE, "utf-16"), (codecs.BOM_UTF16_BE, "utf-16")):
             if front.startswith(mark):
                 return name, "UTF-16"
-        if len(front) > 3 and front[1::2].count(0) > len(front) // 3:
+        even, odd = front[::2].count(0), front[1::2].count(0)
+        if odd > len(front) // 3 and even < odd // 20 + 1:
             return "utf-16-le", "UTF-16 without a mark"
-        if len(front) > 3 and front[::2].count(0) > len(front) // 3:
+        if even > len(front) // 3 and odd < even // 20 + 1:
             return "utf-16-be", "UTF-16 without a mark"
         if front.startswith(b"\xd0\xcf\x11\xe0"):
             raise UserError(f"{path}: it is a workbook of the old kind (.xls): save it as .xlsx or as CSV")
@@ -131,10 +136,11 @@ class Source:
     def chunks(self, columns: Sequence[int]) -> Iterator[pd.DataFrame]:
         """The rows as texts, the columns being numbers of the header's; the index counts records from 0, the header being
         record 0 where there is one. It raises UserError for a row of another width."""
-        wanted = sorted({*columns, len(self.names) - 1})
+        wanted = sorted(columns)
         if self.sheet is not None:
             yield self.sheet.iloc[1 if self.has_header else 0:][wanted].reset_index(drop=True).rename(lambda at: at + self.has_header)
             return
+        self.judge_widths()
         blank = self.separator == " "
         try:
             with self.handle() as text, pd.read_csv(
@@ -143,20 +149,37 @@ class Source:
                 for number, table in enumerate(reader):
                     if not number and self.has_header:
                         table = table.iloc[1:]
-                    short = table[wanted[-1]].isna()
-                    if short.any():
-                        row = table.index[short][0]
-                        raise UserError(f"{self.path}: line {self.line_of(row)} has fewer cells than the header, which has "
-                                        f"{len(self.names)}")
                     yield table
         except pd.errors.ParserError as error:
-            found = re.search(r"Expected (\d+) fields in line (\d+), saw (\d+)", str(error))
-            if not found:
-                raise UserError(f"{self.path}: {' '.join(str(error).split())}") from None
-            raise UserError(f"{self.path}: line {int(found[2]) + self.above} has {found[3]} cells, and the header {found[1]}: is a "
-                            "comma in a cell without quotes, or a separator at the ends of lines?") from None
+            raise UserError(f"{self.path}: {' '.join(str(error).split())}") from None
         except pd.errors.EmptyDataError:
             raise UserError(f"{self.path}: there is no row") from None
+
+    def judge_widths(self) -> None:
+        """Stops at the first row that has more or fewer cells than the header, since pandas passes over these."""
+        if self.encoding.startswith("utf-16"):
+            with self.handle() as text:
+                self._judge(widths_of(text, self.separator), self.above)
+            return
+        line = self.above
+        with opened(self.path) as file:
+            for _ in range(self.above):
+                file.readline()
+            while piece := file.read(PIECE):
+                piece += file.readline()
+                while piece.count(b'"') % 2 and (more := file.readline()):
+                    piece += more
+                if not _has_width(piece, self.separator, len(self.names)):
+                    text = io.StringIO(piece.decode(self.encoding, "replace"), newline="")
+                    self._judge(widths_of(text, self.separator), line)
+                line += piece.count(b"\n")
+
+    def _judge(self, widths: Iterator[tuple[int, int]], above: int) -> None:
+        width = len(self.names)
+        for line, found in widths:
+            if found != width:
+                more = "is a separator in a cell without quotes, or at the ends of lines?" if found > width else "is the file cut short?"
+                raise UserError(f"{self.path}: line {line + above} has {found} cells, and the header {width}: {more}")
 
     def line_of(self, record: int) -> int:
         """The line on which a record ends, counted from 1 in the file: blank lines and line breaks within quotes count."""
@@ -176,6 +199,41 @@ class Source:
                 if count == record:
                     return reader.line_num + self.above
         return 0
+
+
+def _has_width(piece: bytes, separator: str, width: int) -> bool:
+    """Whether whole lines without quotes all have so many cells; False says nothing."""
+    if separator == " " or b'"' in piece:
+        return False
+    signs = np.frombuffer(piece if piece.endswith(b"\n") else piece + b"\n", np.uint8)
+    ends = np.flatnonzero(signs == ord("\n"))
+    found = np.add.reduceat(signs == ord(separator), np.r_[0, ends[:-1] + 1])
+    return bool((found == width - 1).all())
+
+
+def widths_of(text: TextIO, separator: str) -> Iterator[tuple[int, int]]:
+    """The line on which each record ends, counted from 1, and its number of cells; blank lines are none."""
+    if separator == " ":
+        for line, row in enumerate(text, 1):
+            if row.strip():
+                yield line, len(row.split())
+        return
+    line = 0
+    for row in text:
+        line += 1
+        if '"' not in row:
+            if row.strip(" \t\r\n"):
+                yield line, row.count(separator) + 1
+            continue
+        # A quoted cell may go on over lines.
+        pieces = [row]
+        while "".join(pieces).count('"') % 2:
+            more = text.readline()
+            if not more:
+                break
+            pieces.append(more)
+            line += 1
+        yield line, len(next(csv.reader(pieces, delimiter=separator)))
 
 
 def head_of(path: str, encoding: str) -> str:
@@ -255,12 +313,18 @@ def source_of(path: str, resolve: Callable[[Sequence[str]], object], *, encoding
             except Lacking as lacking:
                 shared = len(row) + 1000 * lacking.hits - 500 * (sum(map(is_number_like, row)) > len(row) / 2)
                 if shared > closest[0]:
-                    named = " ".join(f"`{' '.join(name.split())}`" for name in row)
-                    closest = shared, f"{lacking} in line {line}, which has {named}"
+                    closest = shared, f"{lacking} in line {line}, which has {_names_told(row)}"
     first = records_of(head, separator or closest_separator(head))[0][0]
     if len(first) > 3 and sum(map(is_number_like, first)) > len(first) / 2:
         raise UserError(f"{path}: there is no header, since line 1 has numbers: name its {len(first)} columns by --names X,Y,..")
     raise UserError(f"{path}: {closest[1]}")
+
+
+def _names_told(row: Sequence[str]) -> str:
+    """The cells of a line that is no header, shortened where they are long or many."""
+    cells = [" ".join(name.split()) for name in row]
+    told = " ".join(f"`{cell[:40]}{'..' if cell[40:] else ''}`" for cell in cells[:40])
+    return told + (f" and {len(cells) - 40} more" if len(cells) > 40 else "")
 
 
 def closest_separator(head: str) -> str:

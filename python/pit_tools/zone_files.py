@@ -12,6 +12,7 @@ import pandas as pd
 
 from pit_tools.decimals import parts_of
 from pit_tools.errors import UserError
+from pit_tools.source import widths_of
 from pit_tools.spelling import lines_of
 
 # The columns of a zone file, and how many decimals each may have.
@@ -38,6 +39,7 @@ def read_zone_file(path: str) -> pd.DataFrame:
                 if not chunks:
                     at = _columns_of(table.iloc[0], path)
                     table = table.iloc[1:]
+                    _judge_widths(path, table.shape[1])
                 chunks.append(_numbers_of(table, at, path))
     except pd.errors.EmptyDataError:
         raise UserError(f"{path}: it is empty") from None
@@ -55,11 +57,16 @@ def _columns_of(header: pd.Series, path: str) -> dict[str, int]:
     return {column: names.index(column) for column in COLUMNS}
 
 
+def _judge_widths(path: str, width: int) -> None:
+    """Stops at the first row that has fewer cells than the header, whose last ones pandas takes for empty."""
+    with open(path, encoding="utf-8-sig", newline="") as text:
+        for row, (_, cells) in enumerate(widths_of(text, ","), 1):
+            if cells < width:
+                raise UserError(f"{path}: row {row} has fewer cells than the header")
+
+
 def _numbers_of(table: pd.DataFrame, at: dict[str, int], path: str) -> pd.DataFrame:
     """The numbers of some rows, whose index counts records from 0."""
-    if table[table.columns[-1]].isna().any():
-        row = table.index[table[table.columns[-1]].isna()][0] + 1
-        raise UserError(f"{path}: row {row} has fewer cells than the header")
     found = {}
     for column, places in PLACES.items():
         found[column], wrong = parts_of(table[at[column]], places)

@@ -97,6 +97,7 @@ def test_a_zone_file_is_read_by_names_and_written_back(tmp_path):
     ("x,y,z,tonnes\n", "no column `grade`"),
     ("x,y,z,tonnes,grade\n0,0,0,1,2\n0,0,0,NA,2\n", "row 3: column tonnes has `NA`"),
     ("x,y,z,tonnes,grade\n0,0,0,1,2\n0,0,0,1,2,3\n", "line 3"),
+    ("x,y,z,tonnes,grade\n0,0,0,1,2\n\n0,0,0,1\n", "row 3 has fewer cells"),
 ])
 def test_a_zone_file_that_cannot_be_read_names_its_row(tmp_path, text, told):
     path = tmp_path / "zone.csv"
