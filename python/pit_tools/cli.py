@@ -120,10 +120,16 @@ def main(words: Optional[Sequence[str]] = None) -> int:
         return 2
     try:
         args = parser_of(command).parse_args(joined(words[1:]))
-        return args.run(args)
+        status = args.run(args)
+        sys.stdout.flush()
+        return status
     except UserError as error:
         print(f"pit-tools {command}: {error}", file=sys.stderr)
         return 2
+    except BrokenPipeError:
+        # Who read, as `head`, has gone; what Python would flush at its end has nowhere to go.
+        os.dup2(os.open(os.devnull, os.O_WRONLY), sys.stdout.fileno())
+        return 1
     except OSError as error:
         place = f"{error.filename}: " if error.filename else ""
         print(f"pit-tools {command}: {place}{error.strerror or error}", file=sys.stderr)

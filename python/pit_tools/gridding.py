@@ -70,8 +70,10 @@ def axis_of(values: np.ndarray, size: Optional[int], name: str, first: Optional[
     off = np.abs(unique - origin - index * size)
     worst = int(off.argmax())
     if off[worst] > BESIDE * size:
-        raise UserError(f"{name} {shortest(unique[worst], 3)} is {shortest(off[worst], 3)} beside the grid of {shortest(size, 3)} through "
-                        f"{shortest(origin, 3)}: another size of blocks, a turned model, or sub-blocks (--parents)?")
+        beside = np.abs((unique - values[0] + size // 2) % size - size // 2)
+        worst = int(beside.argmax())
+        raise UserError(f"{name} {shortest(unique[worst], 3)} is {shortest(beside[worst], 3)} beside the grid of {shortest(size, 3)} through "
+                        f"{shortest(values[0], 3)}: another size of blocks, a turned model, or sub-blocks (--parents)")
     least = int(index.min())
     return Axis(origin + least * size, size, int(index.max()) - least + 1, int(off[worst]))
 
@@ -106,7 +108,7 @@ def _size_of(unique: np.ndarray, name: str) -> int:
     if found:
         return found
     raise UserError(f"{name} has {len(unique):,} values, and a grid of {shortest(size, 3)} would have {places:,} places: sub-blocks "
-                    "(--parents), a turned model (--x-bearing, --y-azimuth), or another size (--size)?")
+                    "(--parents), a turned model (--x-bearing, --y-azimuth), or another size (--size)")
 
 
 def _size_in_noise(unique: np.ndarray) -> Optional[int]:

@@ -194,9 +194,10 @@ def _zones(words: Spoken, grid: Grid, names: Sequence[str], benches: int, told: 
     """A record for each zone, in the order of the zone files."""
     of_all: Optional[tuple[Slope, Slope, Slope, Slope]] = None
     of_zone: dict[str, tuple[Slope, Slope, Slope, Slope]] = {}
+    known = {*names, *(_without_benches(name, words) for name in names)}
     for text in words.slope or ["45"]:
         name, colon, slopes = text.partition(":")
-        is_name = bool(colon) and name.strip() in names
+        is_name = bool(colon) and name.strip() in known
         if colon and not is_name and not name.strip().isdigit():
             raise UserError(f"--slope: no zone `{name.strip()}`: there are {', '.join(names)}")
         four = sides_of(slopes if is_name else text, words.x_bearing, told)
@@ -208,7 +209,7 @@ def _zones(words: Spoken, grid: Grid, names: Sequence[str], benches: int, told: 
         told.doubts.append("slopes are 45 degrees until yours are known: --slope 'ZONE: 50' or 'ZONE: E 56, W 45, N 51, S 51'")
     records, steep = [], {}
     for name in names:
-        four = of_zone.get(name) or of_all
+        four = of_zone.get(name) or of_zone.get(_without_benches(name, words)) or of_all
         if four is None:
             raise UserError(f"--slope: none for the zone {name}")
         advised = advice(grid, Zone(four, 1), words.benches or benches)
@@ -224,6 +225,12 @@ def _zones(words: Spoken, grid: Grid, names: Sequence[str], benches: int, told: 
         records.append(zone)
     told.doubts += [f"zone {', '.join(of)}: {advised}" for advised, of in steep.items()]
     return records
+
+
+def _without_benches(name: str, words: Spoken) -> str:
+    """The zone that one was split off by its benches below another: `flat` of `flat3`."""
+    K = words.K_of.get(name)
+    return name[:-len(str(K))] if K and name.endswith(str(K)) else name
 
 
 def sides_of(text: str, x_bearing: float, told: Told) -> tuple[Slope, Slope, Slope, Slope]:
