@@ -1,0 +1,41 @@
+"""`pit-tools dimacs`: the ultimate pit as a maximum flow."""
+from __future__ import annotations
+
+import argparse
+
+HELP = """\
+Writes the ultimate pit of an instance as a maximum flow in the DIMACS form, which solvers of flows read.
+
+    pit-tools dimacs deposit.upit deposit.prec --out deposit.max
+
+Node b + 1 is block b; then come the source and the sink. Capacities are cents. The flow from the source
+to blocks of worth, less the maximum flow, is what the pit is worth; the source's side of a minimum cut is
+the pit. (LEMON's solver wants `-long`, without which it answers 0.)
+"""
+
+
+def add_arguments(parser: argparse.ArgumentParser) -> None:
+    parser.add_argument("upit", help="BASE.upit")
+    parser.add_argument("precedence", help="BASE.prec")
+    parser.add_argument("--out", required=True, metavar="FILE", help="where it goes")
+
+
+def run(args: argparse.Namespace) -> int:
+    import numpy as np
+
+    from pit_tools.instance import cents, read_precedence, read_upit
+    from pit_tools.spelling import lines_of
+
+    worth = cents(read_upit(args.upit).values)
+    precedence = read_precedence(args.precedence, len(worth))
+    n, some = len(worth), np.flatnonzero(worth)
+    no_limit = int(worth[worth > 0].sum()) + 1
+    tail = np.where(worth[some] > 0, n + 1, some + 1)
+    head = np.where(worth[some] > 0, some + 1, n + 2)
+    rows = np.repeat(np.arange(n), np.diff(precedence.indptr))
+    with open(args.out, "wb") as file:
+        file.write(f"p max {n + 2} {len(some) + precedence.nnz}\nn {n + 1} s\nn {n + 2} t\n".encode())
+        for tails, heads, most in ((tail, head, np.abs(worth[some])), (rows + 1, precedence.indices + 1, np.full(len(rows), no_limit))):
+            for piece in lines_of([(tails, 0), (heads, 0), (most, 0)]):
+                file.write(b"".join(b"a " + line + b"\n" for line in piece.splitlines()))
+    return 0

@@ -1,0 +1,306 @@
+"""Linear and integer programs of UPIT, CPIT and PCPSP: as sparse matrices, as LP files, and solved by HiGHS.
+
+Variables are what is mined of a block by the end of a period, w_b_t, so that an arc is one row of two
+terms in each period; and those of a PCPSP the shares that go to a destination in a period, y_b_d_t. In
+a CPIT and a PCPSP a block is mined in one period: there x_b_t, what is mined of it in a period, stands
+too and is 0 or 1, since limits on x give solvers more cuts than limits on differences of w. The
+relaxations have no x. A UPIT has one variable a block, x_b, which is 0 or 1 by itself.
+"""
+from __future__ import annotations
+
+from dataclasses import dataclass
+from typing import Iterator, Optional, TextIO
+
+import numpy as np
+from scipy import optimize, sparse
+
+from pit_tools.errors import UserError
+from pit_tools.instance import Problem, UltimatePit
+from pit_tools.schedules import Schedule, schedule_of_shares
+from pit_tools.spelling import shortest
+
+
+@dataclass(frozen=True)
+class Program:
+    """Maximise objective . v, where lower <= rows v <= upper, 0 <= v <= 1, and v is whole where `whole`."""
+
+    title: str
+    objective: np.ndarray  #: (variables,)
+    rows: sparse.csr_matrix  #: (rows, variables)
+    lower: np.ndarray  #: (rows,), may be -inf
+    upper: np.ndarray  #: (rows,), may be inf
+    whole: np.ndarray  #: bool (variables,)
+    names: "Names"
+
+
+class Names:
+    """The names and places of variables: x12; or w12_3 of block 12 by the end of period 3, x12_3 of block 12 in
+    period 3, and y12_1_3 of its share at destination 1 in period 3."""
+
+    def __init__(self, blocks: int, periods: int = 0, destinations: int = 0, has_x: bool = False, has_w: bool = True):
+        self.blocks, self.periods, self.destinations, self.has_x, self.has_w = blocks, periods, destinations, has_x, has_w
+
+    @property
+    def first_x(self) -> int:
+        return self.blocks * self.periods if self.has_w else 0
+
+    @property
+    def first_y(self) -> int:
+        return self.first_x + (self.blocks * self.periods if self.has_x else 0)
+
+    @property
+    def count(self) -> int:
+        return self.first_y + self.blocks * self.destinations * self.periods
+
+    def y(self, block: np.ndarray, destination, period: int) -> np.ndarray:
+        """The places of shares."""
+        return self.first_y + (block * self.destinations + destination) * self.periods + period
+
+    def mined(self, block: np.ndarray, period: int) -> list[tuple[np.ndarray, float]]:
+        """The places of what makes up what is mined of blocks in a period, with their signs."""
+        at = block.astype(np.int64) * self.periods + period
+        if self.has_x:
+            return [(self.first_x + at, 1.0)]
+        return [(at, 1.0), (at - 1, -1.0)] if period else [(at, 1.0)]
+
+    def list(self) -> list[str]:
+        if not self.periods:
+            return [f"x{block}" for block in range(self.blocks)]
+        names = [f"{letter}{block}_{period}" for letter in "w" * self.has_w + "x" * self.has_x
+                 for block in range(self.blocks) for period in range(self.periods)]
+        return names + [f"y{block}_{destination}_{period}" for block in range(self.blocks)
+                        for destination in range(self.destinations) for period in range(self.periods)]
+
+
+def program_of_upit(upit: UltimatePit, precedence: sparse.csr_matrix) -> Program:
+    """The ultimate pit as a linear program: x_b <= x_p for each predecessor p of b."""
+    arcs = precedence.tocoo()
+    count, n = precedence.nnz, len(upit.values)
+    rows = sparse.csr_matrix((np.tile([1.0, -1.0], count), (np.repeat(np.arange(count), 2),
+                              np.stack([arcs.row, arcs.col], axis=1).ravel())), shape=(count, n))
+    return Program(f"the ultimate pit of {upit.name}", upit.values.astype(float), rows, np.full(count, -np.inf), np.zeros(count),
+                   np.zeros(n, dtype=bool), Names(n))
+
+
+class _Builder:
+    """Gathers the rows of a program from parts of (row, variable, factor)."""
+
+    def __init__(self, variables: int):
+        self.variables, self.count = variables, 0
+        self.parts: list[tuple[np.ndarray, np.ndarray, np.ndarray]] = []
+        self.lower: list[np.ndarray] = []
+        self.upper: list[np.ndarray] = []
+
+    def add(self, rows: int, entries: list[tuple[np.ndarray, np.ndarray, np.ndarray]], lower: np.ndarray, upper: np.ndarray) -> None:
+        """Adds so many rows; the entries' rows count from the first of these."""
+        self.parts += [(row + self.count, variable, factor) for row, variable, factor in entries]
+        self.lower.append(np.broadcast_to(lower, rows))
+        self.upper.append(np.broadcast_to(upper, rows))
+        self.count += rows
+
+    def matrix(self) -> sparse.csr_matrix:
+        row, variable, factor = (np.concatenate(part) for part in zip(*self.parts)) if self.parts else (np.empty(0, int),) * 3
+        return sparse.csr_matrix((factor.astype(float), (row, variable)), shape=(self.count, self.variables))
+
+
+def program_of(problem: Problem, precedence: sparse.csr_matrix, relaxed: bool = False, whole_blocks: bool = False) -> Program:
+    """A CPIT or a PCPSP as a mixed integer program; `relaxed` lets blocks be split over periods, and
+    `whole_blocks` lets no block of a PCPSP be split over destinations."""
+    n, periods, has_y = len(problem.values), problem.periods, problem.kind == "PCPSP"
+    names = Names(n, periods, problem.destinations if has_y else 0, has_x=not relaxed)
+    builder, discounts = _Builder(names.count), problem.discounts()
+    objective = np.zeros(names.count)
+    if has_y:
+        objective[names.first_y:] = (problem.values[:, :, None] * discounts).ravel()
+    elif names.has_x:
+        objective[names.first_x:] = (problem.values * discounts).ravel()
+    else:
+        objective[:] = (problem.values * (discounts - np.append(discounts[1:], 0))).ravel()
+    if names.has_x:
+        _add_periods(builder, names)
+    else:
+        _add_ends(builder, n, periods)
+    _add_arcs(builder, precedence, periods)
+    if has_y:
+        _add_shares(builder, names)
+    _add_limits(builder, problem, names)
+    is_whole = np.zeros(names.count, dtype=bool)
+    is_whole[names.first_x:names.first_y] = True
+    is_whole[names.first_y:] = whole_blocks and not relaxed
+    what = "the relaxed schedule" if relaxed else "the best schedule"
+    return Program(f"{what} of {problem.name}, a {problem.kind}", objective, builder.matrix(), np.concatenate(builder.lower),
+                   np.concatenate(builder.upper), is_whole, names)
+
+
+def _add_periods(builder: _Builder, names: Names) -> None:
+    """What is mined by the end of a period is what is mined in it and by the end of the one before."""
+    every = np.arange(names.blocks)
+    for period in range(names.periods):
+        at = every * names.periods + period
+        entries = [(every, at, np.ones(len(every))), (every, names.first_x + at, -np.ones(len(every)))]
+        entries += [(every, at - 1, -np.ones(len(every)))] if period else []
+        builder.add(names.blocks, entries, np.array(0.0), np.array(0.0))
+
+
+def _add_ends(builder: _Builder, blocks: int, periods: int) -> None:
+    """What is mined by the end of a period is no more than by the end of the next."""
+    count = blocks * (periods - 1)
+    first = (np.arange(blocks)[:, None] * periods + np.arange(periods - 1)).ravel()
+    rows = np.arange(count)
+    builder.add(count, [(rows, first, np.ones(count)), (rows, first + 1, -np.ones(count))], np.array(-np.inf), np.array(0.0))
+
+
+def _add_arcs(builder: _Builder, precedence: sparse.csr_matrix, periods: int) -> None:
+    """By the end of each period no more of a block is mined than of a predecessor."""
+    arcs = precedence.tocoo()
+    count = precedence.nnz * periods
+    lower, upper = ((part.astype(np.int64)[:, None] * periods + np.arange(periods)).ravel() for part in (arcs.row, arcs.col))
+    rows = np.arange(count)
+    builder.add(count, [(rows, lower, np.ones(count)), (rows, upper, -np.ones(count))], np.array(-np.inf), np.array(0.0))
+
+
+def _add_shares(builder: _Builder, names: Names) -> None:
+    """The shares at all destinations are what is mined in the period."""
+    every = np.arange(names.blocks)
+    for period in range(names.periods):
+        entries = [(every, names.y(every, at, period), np.ones(len(every))) for at in range(names.destinations)]
+        entries += [(every, variable, np.full(len(every), -sign)) for variable, sign in names.mined(every, period)]
+        builder.add(names.blocks, entries, np.array(0.0), np.array(0.0))
+
+
+def _add_limits(builder: _Builder, problem: Problem, names: Names) -> None:
+    uses = problem.uses
+    for limit in problem.limits:
+        taken = uses.resource == limit.resource
+        block, amount = uses.block[taken].astype(np.int64), uses.amount[taken]
+        row = np.zeros(len(block), int)
+        if names.destinations:
+            entries = [(row, names.y(block, uses.destination[taken], limit.period), amount)]
+        else:
+            entries = [(row, variable, sign * amount) for variable, sign in names.mined(block, limit.period)]
+        builder.add(1, entries, np.array(limit.least), np.array(limit.most))
+
+
+def by_period(program: Program) -> Program:
+    """The same program without w, each being the sum of x up to its period: longer rows, of which some solvers,
+    as cbc, make better cuts. A program without x stays as it is."""
+    names = program.names
+    if not names.has_x:
+        return program
+    ends = sparse.kron(sparse.identity(names.blocks), np.tril(np.ones((names.periods, names.periods)))).tocsr()
+    rows = program.rows.tocsc()
+    left = sparse.hstack([rows[:, :names.first_x] @ ends + rows[:, names.first_x:names.first_y], rows[:, names.first_y:]]).tocsr()
+    left.eliminate_zeros()
+    is_used = np.diff(left.indptr) > 0
+    last = ends[names.periods - 1::names.periods]
+    once = sparse.hstack([last, sparse.csr_matrix((names.blocks, program.rows.shape[1] - names.first_y))]).tocsr()
+    short = Names(names.blocks, names.periods, names.destinations, has_x=True, has_w=False)
+    kept = is_used | (program.lower > 0) | (program.upper < 0)
+    return Program(program.title, program.objective[names.first_x:], sparse.vstack([left[kept], once]).tocsr(),
+                   np.concatenate([program.lower[kept], np.full(names.blocks, -np.inf)]),
+                   np.concatenate([program.upper[kept], np.ones(names.blocks)]), program.whole[names.first_x:], short)
+
+
+# As a text
+
+
+def write_lp(program: Program, file: TextIO) -> None:
+    """Writes a program in the LP format that most solvers read."""
+    names = program.names.list()
+    file.write(f"\\ {program.title}\nMaximize\n value:\n")
+    file.writelines(_lines(f"{_term(factor, names[at], 6)}" for at, factor in enumerate(program.objective) if factor))
+    if not program.objective.any():
+        file.write(f"  0 {names[0]}\n" if names else "")
+    file.write("Subject To\n")
+    for text in _row_texts(program, names):
+        file.write(text)
+    file.write("Bounds\n")
+    file.writelines(f" 0 <= {name} <= 1\n" for name, whole in zip(names, program.whole) if not whole)
+    if program.whole.any():
+        file.write("Binary\n")
+        file.writelines(f" {name}\n" for name, whole in zip(names, program.whole) if whole)
+    file.write("End\n")
+
+
+def _term(factor: float, name: str, decimals: int = 9) -> str:
+    sign = "-" if factor < 0 else "+"
+    size = abs(factor)
+    return f"{sign} {name}" if size == 1 else f"{sign} {shortest(size, decimals)} {name}"
+
+
+def _lines(terms, width: int = 8) -> Iterator[str]:
+    """Terms in lines that are not too long for readers of lines."""
+    line: list[str] = []
+    for term in terms:
+        line.append(term)
+        if len(line) == width:
+            yield f"  {' '.join(line)}\n"
+            line = []
+    if line:
+        yield f"  {' '.join(line)}\n"
+
+
+def _row_texts(program: Program, names: list[str]) -> Iterator[str]:
+    rows = program.rows
+    starts, columns, factors = rows.indptr.tolist(), rows.indices.tolist(), rows.data.tolist()
+    lower, upper = program.lower.tolist(), program.upper.tolist()
+    for row in range(rows.shape[0]):
+        terms = [_term(factors[at], names[columns[at]]) for at in range(starts[row], starts[row + 1]) if factors[at]]
+        terms = terms or [f"0 {names[0]}"]
+        text = " " + " ".join(terms) if len(terms) < 9 else "\n" + "".join(_lines(terms)).rstrip("\n")
+        text = text.replace(" + ", " ", 1) if text.startswith(" + ") else text
+        if lower[row] == upper[row]:
+            yield f" r{row}:{text} = {shortest(upper[row])}\n"
+            continue
+        if lower[row] > -np.inf:
+            yield f" g{row}:{text} >= {shortest(lower[row])}\n"
+        if upper[row] < np.inf:
+            yield f" l{row}:{text} <= {shortest(upper[row])}\n"
+
+
+# Solving
+
+
+@dataclass(frozen=True)
+class Answer:
+    """What HiGHS answered: `status` is `best`, `within the ratio`, `stopped`, or `none`, where there is no solution;
+    `bound` is what no solution is worth more than; `values` are those of the variables, None where none was found."""
+
+    status: str
+    value: Optional[float]
+    bound: Optional[float]
+    values: Optional[np.ndarray]
+    told: str
+
+
+def solve(program: Program, seconds: Optional[float] = None, ratio: float = 0.0) -> Answer:
+    """Solves a program by scipy's HiGHS, up to so many seconds and up to a ratio of the best."""
+    options = {"mip_rel_gap": ratio, **({"time_limit": seconds} if seconds else {})}
+    scale = max(1.0, float(np.abs(program.objective).max(initial=1)))
+    constraints = optimize.LinearConstraint(program.rows, program.lower, program.upper) if program.rows.shape[0] else ()
+    found = optimize.milp(-program.objective / scale, integrality=program.whole.astype(int), bounds=optimize.Bounds(0, 1),
+                          constraints=constraints, options=options)
+    if found.status == 2:
+        return Answer("none", None, None, None, "there is none: limits cannot be met")
+    if found.status in (3, 4):
+        raise UserError(f"HiGHS: {found.message}")
+    bound = getattr(found, "mip_dual_bound", None)
+    bound = None if bound is None else -bound * scale
+    if found.x is None:
+        return Answer("stopped", None, bound, None, "none was found so far")
+    value = float(program.objective @ found.x)
+    if not program.whole.any():
+        bound = value if found.status == 0 else None
+    is_best = found.status == 0 and (bound is None or bound - value <= 1e-7 * max(1, abs(value)))
+    status = "best" if is_best else "within the ratio" if found.status == 0 else "stopped"
+    return Answer(status, value, bound, found.x, found.message)
+
+
+def schedule_of(values: np.ndarray, problem: Problem, names: Names) -> Schedule:
+    """The schedule that the variables of `program_of` state."""
+    n, periods = names.blocks, names.periods
+    if names.destinations:
+        return schedule_of_shares(values[names.first_y:].reshape(n, names.destinations, periods))
+    if names.has_x:
+        return schedule_of_shares(values[names.first_x:names.first_y].reshape(n, 1, periods))
+    return schedule_of_shares(np.diff(values.reshape(n, periods), axis=1, prepend=0)[:, None, :])

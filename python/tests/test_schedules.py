@@ -1,0 +1,230 @@
+"""Programs and schedules of CPIT and PCPSP against all schedules of small mines, and known answers."""
+import itertools
+
+import numpy as np
+import pytest
+from scipy import sparse
+
+import mines
+from pit_tools.cli import main
+from pit_tools.errors import UserError
+from pit_tools.instance import Limit, Problem, Uses, read_instance
+from pit_tools.programs import by_period, program_of, program_of_upit, schedule_of, solve
+from pit_tools.schedules import Schedule, check, read_schedule, read_variables, schedule_of_variables
+
+
+def two_blocks_of_mill(folder):
+    return mines.six_blocks(folder, ("L,60000", "L,5400"), ("120000", "8100"))
+
+
+def one_block_of_mill(folder):
+    """One block a period for the mill, three in all in period 0, and a high rate."""
+    return mines.six_blocks(folder, ("L,60000", "L,2700"), ("120000", "8100"), ("0.08", "0.5"))
+
+
+@pytest.mark.parametrize("make, kind, relaxed, value", [
+    (two_blocks_of_mill, "cpit", False, 221940 - 5300 + 24645 + (309420 + 61560 - 5300) / 1.08),
+    (one_block_of_mill, "cpit", False, 322498.333333),  # as cbc and glpsol have them, and all schedules of whole blocks
+    (one_block_of_mill, "pcpsp", False, 455889.166667),
+    (one_block_of_mill, "pcpsp", True, 474119.625468),  # the relaxation, as cbc has it
+])
+def test_the_best_schedules_that_other_solvers_found(tmp_path, make, kind, relaxed, value):
+    mine = read_instance(make(tmp_path))
+    problem = getattr(mine, kind)
+    for program in (program_of(problem, mine.precedence, relaxed), by_period(program_of(problem, mine.precedence, relaxed))):
+        answer = solve(program, seconds=60)
+        assert answer.status == "best" and answer.value == pytest.approx(value, abs=0.001)
+        schedule = schedule_of(answer.values, problem, program.names)
+        found = check(schedule, problem, mine.precedence, relaxed)
+        assert found.holds and found.worth == pytest.approx(value, abs=0.001)
+
+
+def test_a_relaxation_is_no_schedule(tmp_path, capsys):
+    base = one_block_of_mill(tmp_path)
+    files = [base + ".pcpsp", base + ".prec"]
+    out = str(tmp_path / "relaxed")
+    assert main(["solve", *files, "--relaxed", "--out", out]) == 0
+    capsys.readouterr()
+    assert main(["check-schedule", *files, out]) == 1
+    told = capsys.readouterr().out
+    assert "474119.63" in told and told.count("is split") == 12 and "broken: block 0 is split: 0.606742 of it in period 0" in told
+    assert main(["check-schedule", *files, out, "--relaxed"]) == 0
+
+
+def random_problem(random, kind):
+    """A problem of few blocks, with its arcs."""
+    blocks, periods, destinations = 5, 2, 2 if kind == "PCPSP" else 1
+    values = random.integers(-60, 90, (blocks, destinations)).astype(float)
+    pairs = [(b, d, 0) for b in range(blocks) for d in range(destinations) if random.random() < 0.8]
+    block, destination, resource = (np.array(part, dtype=kind_) for part, kind_ in zip(zip(*pairs), (np.int32, np.int8, np.int8)))
+    uses = Uses(block, destination, resource, random.integers(1, 6, len(pairs)).astype(float))
+    most = float(random.integers(3, 12))
+    limits = [Limit.of(0, 0, "L", [most]), Limit.of(0, 1, "I", [float(random.integers(0, 4)), most])]
+    upper = np.triu(random.random((blocks, blocks)) < 0.3, 1).astype(np.int8)
+    return Problem(kind, "some", periods, 1, 0.1, values, uses, limits), sparse.csr_matrix(upper)
+
+
+def all_schedules(problem):
+    """Every schedule of whole blocks: where each goes, and when."""
+    choices = [(None, 0)] + [(period, at) for period in range(problem.periods) for at in range(problem.destinations)]
+    for choice in itertools.product(choices, repeat=len(problem.values)):
+        mined = [(block, *one) for block, one in enumerate(choice) if one[0] is not None]
+        block, period, destination = (np.array(part, dtype=int) for part in zip(*mined)) if mined else (np.empty(0, int),) * 3
+        yield Schedule(block, period, destination, np.ones(len(block)))
+
+
+def plainly_holds(schedule, problem, arcs):
+    """The rules of docs/formats.md for whole blocks, one by one."""
+    when = {block: period for block, period in zip(schedule.block.tolist(), schedule.period.tolist())}
+    for block, other in zip(*arcs.nonzero()):
+        if block in when and not (other in when and when[other] <= when[block]):
+            return False
+    used = np.zeros(problem.periods)
+    amount = {(b, d): a for b, d, a in zip(problem.uses.block.tolist(), problem.uses.destination.tolist(), problem.uses.amount)}
+    for block, period, destination in zip(schedule.block.tolist(), schedule.period.tolist(), schedule.destination.tolist()):
+        used[period] += amount.get((block, destination), 0)
+    return all(limit.least <= used[limit.period] <= limit.most for limit in problem.limits)
+
+
+@pytest.mark.parametrize("kind", ["CPIT", "PCPSP"])
+@pytest.mark.parametrize("seed", range(6))
+def test_programs_and_checks_against_all_schedules(kind, seed):
+    problem, arcs = random_problem(np.random.default_rng(seed), kind)
+    best = -np.inf
+    for number, schedule in enumerate(all_schedules(problem)):
+        holds = plainly_holds(schedule, problem, arcs)
+        if number % 7 == seed or holds:
+            assert check(schedule, problem, arcs).holds == holds
+        if holds:
+            best = max(best, schedule.worth(problem))
+    answer = solve(program_of(problem, arcs, whole_blocks=True), seconds=60)
+    assert (answer.status == "none") == (best == -np.inf)
+    if answer.values is not None:
+        assert answer.value == pytest.approx(best)
+        assert solve(program_of(problem, arcs, relaxed=True), seconds=60).value >= best - 1e-6
+
+
+@pytest.mark.parametrize("lines, told", [
+    ("0 0 0\n1 1 0\n2 2 0\n3 0 2\n4 0 1\n5 1 2\n", []),
+    ("0 0 0\n1 0 0\n2 2 0\n3 0 2\n4 0 1\n5 1 2\n", ["block 1 is mined in period 0, before block 5", "resource 0, period 0: 5400.000 t of L 2700",
+                                                      "resource 1, period 0: 10700.000 t of I 0 8100"]),
+    ("3 0 2\n3 1 2\n", ["block 3 is mined 2 times"]),
+    ("3 0 2 0.5\n", ["block 3 is split: 0.5 of it in period 0"]),
+    ("3 0 2 0.5\n3 0 0 0.5\n", []),
+    ("4 0 2 1.5\n4 1 2 -0.5\n", ["block 4 has the share -0.5"]),
+    ("2 1 0\n", ["block 2 is mined in period 1, before block 4", "block 2 is mined in period 1, before block 5"]),
+])
+def test_what_a_schedule_breaks(tmp_path, lines, told):
+    mine = read_instance(one_block_of_mill(tmp_path))
+    (tmp_path / "schedule").write_text(lines)
+    found = check(read_schedule(str(tmp_path / "schedule"), mine.pcpsp), mine.pcpsp, mine.precedence)
+    assert found.broken == told
+
+
+def test_shares_of_a_cpit_are_heeded(tmp_path):
+    mine = read_instance(one_block_of_mill(tmp_path))
+    (tmp_path / "schedule").write_text("4 0 0.25\n4 1 0.75\n")
+    found = check(read_schedule(str(tmp_path / "schedule"), mine.cpit), mine.cpit, mine.precedence)
+    assert found.worth == pytest.approx(0.25 * 24645 + 0.75 * 24645 / 1.5) and len(found.broken) == 2
+    assert check(read_schedule(str(tmp_path / "schedule"), mine.cpit), mine.cpit, mine.precedence, relaxed=True).holds
+
+
+@pytest.mark.parametrize("line, told", [("9 0 0", "no block below 6"), ("0 3 0", "no period below 3"), ("0 0 3", "no destination below 3"),
+                                        ("0 0", "no block, period, destination and share"), ("0 0 0 x", "no block, period"), ("0 0 0 1 1", "no block, period")])
+def test_a_line_that_is_no_schedule_is_named(tmp_path, line, told):
+    mine = read_instance(one_block_of_mill(tmp_path))
+    (tmp_path / "schedule").write_text(f"3 0 2\n\n{line}\n")
+    with pytest.raises(UserError, match=f"line 3: {told}"):
+        read_schedule(str(tmp_path / "schedule"), mine.pcpsp)
+
+
+CBC = """Optimal - objective value 579877.59259300
+      0 w0_0                   1                  221940
+      1 x0_0                   1                  221940
+      4 x3_0                   1                   -5300
+      5 x4_0                   1                   24645
+"""
+
+GLPSOL = """   No. Column name       Activity     Lower bound   Upper bound
+------ ------------    ------------- ------------- -------------
+     1 x0_0         *              1             0             1
+     2 x3_0         *              1             0             1
+     3 x4_0         *              1             0             1
+     4 x1_averylongname
+                    *              0             0             1
+"""
+
+
+@pytest.mark.parametrize("text", [CBC, GLPSOL])
+def test_what_solvers_answer_is_read(tmp_path, text):
+    mine = read_instance(two_blocks_of_mill(tmp_path))
+    (tmp_path / "answer").write_text(text)
+    schedule = schedule_of_variables(read_variables(str(tmp_path / "answer")), mine.cpit)
+    assert sorted(zip(schedule.block.tolist(), schedule.period.tolist())) == [(0, 0), (3, 0), (4, 0)]
+    assert check(schedule, mine.cpit, mine.precedence).holds
+
+
+def lp_by_hand(text):
+    """A reader of the LP format: the objective, rows and whole variables, by names."""
+    objective, rows, whole, part = {}, [], set(), None
+    for line in text.splitlines():
+        if line in ("Maximize", "Subject To", "Bounds", "Binary", "End"):
+            part = line
+        elif part == "Maximize" and ":" not in line:
+            objective.update(terms(line.split()))
+        elif part == "Subject To":
+            label, _, rest = line.partition(":")
+            rows.append([]) if rest or label.startswith(" ") and not label.startswith("  ") else None
+            rows[-1] += (rest if ":" in line else line).split()
+        elif part == "Binary":
+            whole.add(line.strip())
+    return objective, [(terms(row[:-2]), row[-2], float(row[-1])) for row in rows], whole
+
+
+def terms(fields):
+    found, factor = {}, 1.0
+    for field in fields:
+        if field in "+-":
+            factor = -1.0 if field == "-" else 1.0
+        elif field[0].isdigit():
+            factor *= float(field)
+        else:
+            found[field], factor = factor, 1.0
+    return found
+
+
+@pytest.mark.parametrize("kind, options", [("cpit", []), ("pcpsp", []), ("pcpsp", ["--by-period"]), ("cpit", ["--relaxed"]), ("upit", [])])
+def test_the_text_is_the_program(tmp_path, kind, options):
+    """Rows and objective of the LP file are those of the matrices, which are solved above."""
+    base = one_block_of_mill(tmp_path)
+    mine = read_instance(base)
+    out = str(tmp_path / "program.lp")
+    assert main(["lp", f"{base}.{kind}", base + ".prec", "--all-arcs", "--out", out, *options]) == 0
+    objective, rows, whole = lp_by_hand(open(out).read())
+    problem = getattr(mine, kind)
+    program = program_of_upit(problem, mine.precedence) if kind == "upit" else program_of(problem, mine.precedence, "--relaxed" in options)
+    program = by_period(program) if "--by-period" in options else program
+    names = program.names.list()
+    assert objective == pytest.approx({name: value for name, value in zip(names, program.objective) if value}, abs=1e-6)
+    assert whole == {name for name, is_whole in zip(names, program.whole) if is_whole}
+    wanted = []
+    for row, low, high in zip(program.rows.toarray(), program.lower, program.upper):
+        part = {names[at]: row[at] for at in np.flatnonzero(row)}
+        wanted += [(part, "=", low)] if low == high else [(part, sign, end) for sign, end in ((">=", low), ("<=", high)) if np.isfinite(end)]
+    assert [(part, sign, end) for part, sign, end in rows] == wanted
+
+
+def test_the_flow_in_dimacs(tmp_path):
+    base = mines.six_blocks(tmp_path)
+    assert main(["dimacs", base + ".upit", base + ".prec", "--out", str(tmp_path / "flow")]) == 0
+    lines = (tmp_path / "flow").read_text().splitlines()
+    assert lines[:6] == ["p max 8 13", "n 7 s", "n 8 t", "a 7 1 22194000", "a 7 2 30942000", "a 7 3 6156000"]
+    assert lines[6:9] == ["a 4 8 530000", "a 7 5 2464500", "a 6 8 530000"]
+    assert lines[9:11] == ["a 1 4 61756501", "a 1 5 61756501"] and len(lines) == 16
+
+
+def test_bounds_of_the_six_blocks(tmp_path, capsys):
+    base = one_block_of_mill(tmp_path)
+    assert main(["bounds", base]) == 0
+    told = [line.rsplit(maxsplit=1) for line in capsys.readouterr().out.splitlines()]
+    assert told == [["all values above 0", "617565.00"], ["the ultimate pit", "606965.00"], ["CPIT, relaxed", "385188.45"], ["PCPSP, relaxed", "474119.63"]]
