@@ -1,0 +1,187 @@
+"""Takes a pit or a schedule back to where its blocks lie: as coordinates, and onto the rows of the export.
+
+A pit's file has a block on each line; a schedule's its period, then its destination, and then the share
+of the block, as far as they are given.
+"""
+from __future__ import annotations
+
+from dataclasses import dataclass
+from typing import IO, Optional
+
+import numpy as np
+import pandas as pd
+
+from pit_tools.errors import UserError
+from pit_tools.instance import Blocks
+from pit_tools.plan_file import Plan
+from pit_tools.spelling import lines_of
+
+#: The columns behind the block, by how many fields lines have.
+FIELDS = ("period", "destination", "share")
+
+#: How far, in blocks, the export's grid may lie beside the plan's: coordinates of a turned model are rounded.
+NOISE = 0.1
+
+
+@dataclass(frozen=True)
+class Mined:
+    """Lines of a pit or a schedule, arrays of m; a column that the file lacks is None."""
+
+    block: np.ndarray
+    period: Optional[np.ndarray] = None
+    destination: Optional[np.ndarray] = None
+    share: Optional[np.ndarray] = None
+
+    @property
+    def columns(self) -> list[str]:
+        return [name for name in FIELDS if getattr(self, name) is not None]
+
+    def shares(self) -> np.ndarray:
+        return np.ones(len(self.block)) if self.share is None else self.share
+
+    def in_pit(self, blocks: int) -> np.ndarray:
+        """Which blocks are mined, in part or whole, bool (blocks,)."""
+        found = np.zeros(blocks, dtype=bool)
+        found[self.block[self.shares() > 1e-6]] = True
+        return found
+
+
+def read_mined(path: str, plan: Plan, blocks: int) -> Mined:
+    """A pit or a schedule.
+
+    Raises UserError where lines have not as many fields, or one is no block, period or destination.
+    """
+    with open(path, encoding="utf-8", errors="replace") as file:
+        lines = pd.Series(file.read().splitlines(), dtype=str)
+    lines = lines[lines.str.strip() != ""]
+    if lines.empty:
+        return Mined(np.empty(0, dtype=np.int64))
+    table = lines.str.split(expand=True)
+    lacking = table.isna().any(axis=1)
+    numbers = table.apply(pd.to_numeric, errors="coerce")
+    ends = [blocks, plan.periods, len(plan.destinations)]
+    bad = lacking | numbers.isna().any(axis=1) | (table.shape[1] > 4)
+    for column, end in zip(numbers.columns, ends):
+        bad |= (numbers[column] % 1 != 0) | (numbers[column] < 0) | (numbers[column] >= end)
+    if bad.any():
+        at = int(np.flatnonzero(bad)[0])
+        raise UserError(f"{path}: line {table.index[at] + 1}: no line of a pit or a schedule of these blocks: `{lines.iloc[at].strip()}`")
+    columns = [numbers[at].to_numpy(np.int64 if at < 3 else float) for at in numbers.columns]
+    return Mined(*columns)
+
+
+def texts_of(multiples: np.ndarray, decimals: int) -> np.ndarray:
+    """Shortest decimals of whole multiples of 10^-decimals, an object array of str."""
+    return np.array(b"".join(lines_of([(multiples, decimals)])).decode().split("\n")[:-1], dtype=object)
+
+
+def coordinates(plan: Plan, blocks: Blocks, ids: np.ndarray, turn=None) -> pd.DataFrame:
+    """x, y and z of the blocks' centroids as texts, in the plan's units; turned back where the model was turned."""
+    thousandths = [int(origin * 1000) + index[ids].astype(np.int64) * int(size * 1000)
+                   for origin, size, index in zip(plan.grid.origin, plan.grid.size, (blocks.x, blocks.y, blocks.z))]
+    if turn is not None:
+        from pit_tools.gridding import Turn
+
+        x, y = Turn(-turn.angle, turn.about).own(thousandths[0] / 1000, thousandths[1] / 1000)
+        thousandths[:2] = (np.rint(axis * 1000).astype(np.int64) for axis in (x, y))
+    return pd.DataFrame({name: texts_of(axis, 3) for name, axis in zip("xyz", thousandths)})
+
+
+def placed(plan: Plan, blocks: Blocks, mined: Mined, with_all: bool = False, turn=None) -> pd.DataFrame:
+    """A row for each line of a pit or a schedule, in its order: x, y, z, block, tonnes, grade, zone, mined 1, and
+    its other columns. With `with_all` the other blocks follow, with mined 0."""
+    ids, count = mined.block, len(mined.block)
+    if with_all:
+        others = np.ones(len(blocks), dtype=bool)
+        others[ids] = False
+        ids = np.concatenate([ids, np.flatnonzero(others)])
+    table = coordinates(plan, blocks, ids, turn)
+    table["block"] = ids
+    table["tonnes"] = texts_of(np.rint(blocks.tonnes[ids] * 1000).astype(np.int64), 3)
+    table["grade"] = texts_of(np.rint(blocks.grade[ids] * 1e6).astype(np.int64), 6)
+    table["zone"] = blocks.zone[ids]
+    table["mined"] = (np.arange(len(ids)) < count).astype(int)
+    for name in mined.columns:
+        texts = np.full(len(ids), "", dtype=object)
+        texts[:count] = _told(plan, name, getattr(mined, name))
+        table[name] = texts
+    return table
+
+
+def _told(plan: Plan, name: str, values: np.ndarray) -> np.ndarray:
+    if name == "destination":
+        return np.array([one.name for one in plan.destinations], dtype=object)[values]
+    if name == "share":
+        return texts_of(np.rint(values * 1e6).astype(np.int64), 6)
+    return values.astype(str).astype(object)
+
+
+def by_block(plan: Plan, mined: Mined, blocks: int) -> pd.DataFrame:
+    """What is told of each block on rows of its own: `mined`, 0, 1 or a share, and period and destination of its
+    greatest share; empty texts where it is not mined."""
+    shares = mined.shares()
+    total = np.zeros(blocks)
+    np.add.at(total, mined.block, shares)
+    order = np.argsort(shares, kind="stable")
+    table = pd.DataFrame({"block": np.arange(blocks), "mined": texts_of(np.rint(total * 1e6).astype(np.int64), 6)})
+    for name in mined.columns[:2]:
+        texts = np.full(blocks, "", dtype=object)
+        texts[mined.block[order]] = _told(plan, name, getattr(mined, name))[order]
+        table[name] = texts
+    return table
+
+
+def onto_rows(imported_path: str, plan: Plan, blocks: Blocks, mined: Mined, out: IO[str]) -> tuple[int, int]:
+    """Writes the export's own rows with what is told of their blocks behind: every row has its block's, sub-blocks
+    that of their parent. Answers how many rows there are, and how many have a block.
+
+    `imported_path` is BASE.json of `pit-tools import`, by which the export is read again. Cells stay as they
+    are; rows that are no block, as air, have empty cells. Raises UserError where the export cannot be read again,
+    or its grid is not the plan's.
+    """
+    from pit_tools.imported import read_imported
+    from pit_tools.importing import import_export
+
+    read = read_imported(imported_path)
+    again = import_export(read.exports, read.words)
+    block_at = _block_at(plan, blocks, again)
+    told = by_block(plan, mined, len(blocks))
+    rows = found = 0
+    for number, source in enumerate(again.sources):
+        names = list(told.columns)
+        separator = "," if source.separator in ("", " ") else source.separator
+        if not number:
+            pd.DataFrame([source.names + names]).to_csv(out, sep=separator, header=False, index=False, lineterminator="\n")
+        in_file = (again.places["file"] == number).to_numpy()
+        of_record = pd.Series(block_at[in_file], index=again.places["record"][in_file].to_numpy())
+        left = len(source.units)
+        for table in source.chunks(range(len(source.names))):
+            ids = of_record.reindex(table.index).fillna(-1).to_numpy(np.int64)
+            behind = told.iloc[np.maximum(ids, 0)].astype(object)
+            behind.loc[ids < 0, :] = ""
+            behind.index = table.index
+            pd.concat([table, behind], axis=1).to_csv(out, sep=separator, header=False, index=False, lineterminator="\n")
+            rows += max(0, len(table) - left)
+            left = max(0, left - len(table))
+            found += int((ids >= 0).sum())
+    return rows, found
+
+
+def _block_at(plan: Plan, blocks: Blocks, again) -> np.ndarray:
+    """The block of each place that was read again, or -1."""
+    keys = []
+    moves = []
+    for axis in range(3):
+        if again.grid.size[axis] != plan.grid.size[axis]:
+            raise UserError("the export's blocks have another size than the plan's")
+        move = (again.grid.origin[axis] - plan.grid.origin[axis]) / plan.grid.size[axis]
+        if abs(move - round(move)) > NOISE:
+            raise UserError("the export's grid lies beside the plan's")
+        moves.append(round(move))
+    for columns in ((blocks.x, blocks.y, blocks.z), [again.places[name].to_numpy() + move for name, move in zip(("ix", "iy", "iz"), moves)]):
+        x, y, z = (np.asarray(column, dtype=np.int64) for column in columns)
+        keys.append((z * 20_000 + y) * 20_000 + x)
+    order = np.argsort(keys[0])
+    place = np.minimum(np.searchsorted(keys[0][order], keys[1]), len(order) - 1)
+    found = order[place]
+    return np.where(keys[0][found] == keys[1], found, -1)

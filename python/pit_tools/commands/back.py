@@ -1,0 +1,63 @@
+"""`pit-tools back`: a pit or a schedule goes back to the package."""
+from __future__ import annotations
+
+import argparse
+
+HELP = """\
+Takes a pit or a schedule back to the package: as coordinates, or onto the rows of its own export.
+
+    pit-tools back deposit.plan deposit deposit.pit --out pit.csv
+    pit-tools back deposit.plan deposit deposit.pit --onto from.json --out export-pit.csv
+
+The first writes x, y, z, block, tonnes, grade, zone and mined of each block of the pit; with --all the
+others too, with mined 0. The second reads the export again as `pit-tools import` did, which left
+from.json, and writes its rows with `block` and `mined` behind the package's own columns: sub-blocks
+have what their parent has, and a turned model its own coordinates.
+
+A line of a schedule is a block and its period, then its destination, and the share of the block, as far
+as they are given: they are columns then. On the export's rows stand the period and destination of the
+greatest share, and `mined` is the sum of shares.
+"""
+
+
+def add_arguments(parser: argparse.ArgumentParser) -> None:
+    parser.add_argument("plan", help="the plan")
+    parser.add_argument("base", help="the instance: BASE.blocks")
+    parser.add_argument("mined", help="the blocks of a pit, one a line, or a schedule")
+    parser.add_argument("--out", metavar="FILE", help="where it goes; else it is printed")
+    parser.add_argument("--all", action="store_true", help="the blocks that are not mined too")
+    parser.add_argument("--onto", metavar="JSON", help="what `import` left beside the zone files, as from.json")
+    parser.add_argument("--turned", metavar="JSON", help="the same of a turned model: coordinates are turned back")
+
+
+def run(args: argparse.Namespace) -> int:
+    import sys
+
+    from pit_tools.back import onto_rows, placed, read_mined
+    from pit_tools.instance import read_blocks
+    from pit_tools.plan_file import read_plan
+
+    plan, blocks = read_plan(args.plan), read_blocks(args.base + ".blocks")
+    mined = read_mined(args.mined, plan, len(blocks))
+    out = open(args.out, "w", encoding="utf-8", newline="") if args.out else sys.stdout
+    try:
+        if args.onto:
+            rows, found = onto_rows(args.onto, plan, blocks, mined, out)
+            told = f"{rows:,} rows, of which {found:,} are blocks of the instance"
+            print(told, file=sys.stderr if out is sys.stdout else sys.stdout)
+        else:
+            turn = _turn(args.turned)
+            placed(plan, blocks, mined, args.all, turn).to_csv(out, index=False, lineterminator="\n")
+    finally:
+        if args.out:
+            out.close()
+    return 0
+
+
+def _turn(path):
+    """The turn of a model that was imported, or None."""
+    if not path:
+        return None
+    from pit_tools.imported import read_imported
+
+    return read_imported(path).turn

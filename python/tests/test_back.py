@@ -1,0 +1,146 @@
+"""A pit goes back: coordinates, the rows of exports, a report and sections."""
+import csv
+import re
+
+import numpy as np
+import pytest
+
+import mines
+from pit_tools.cli import main
+
+ROWS = [(x, y, z) for z in range(3) for y in range(3) for x in range(4) if (x, y, z) != (3, 2, 2)]
+
+PLAN = """name,mine
+grid,100,200,50,20,20,10
+zone,1,1,3
+zone,1,1,3
+mill,mill,900,6000000,1500
+leach,heap,6000000,600,0,400
+dump,dump,200
+periods,2
+rate,0.1
+resource,fleet,mill,heap,dump
+"""
+
+
+def tonnes_of(x, y, z):
+    return 10800 + 10 * x + y
+
+
+def grade_of(x, y, z):
+    return 2.5 if (x, y) in ((1, 1), (2, 1)) and z < 2 else 0.15
+
+
+def zone_texts():
+    """Blocks of two zones, west and east of the middle."""
+    texts = ["x,y,z,tonnes,grade\n", "x,y,z,tonnes,grade\n"]
+    for x, y, z in ROWS:
+        texts[x > 1] += f"{100 + 20 * x},{200 + 20 * y},{50 + 10 * z},{tonnes_of(x, y, z)},{grade_of(x, y, z)}\n"
+    return texts
+
+
+@pytest.fixture()
+def base(tmp_path):
+    return mines.compiled(tmp_path, PLAN, zone_texts())
+
+
+def block_number(place):
+    return sorted(ROWS, key=lambda one: one[::-1]).index(place)
+
+
+def written(path, rows):
+    with open(path, "w") as file:
+        file.write("".join(row + "\n" for row in rows))
+    return str(path)
+
+
+def read(path):
+    with open(path, newline="") as file:
+        return list(csv.reader(file))
+
+
+def test_blocks_come_back_to_their_centroids(base, tmp_path):
+    block = block_number((2, 1, 0))
+    schedule = written(tmp_path / "schedule", [f"{block} 1 1 0.25", f"{block} 1 2 0.75"])
+    assert main(["back", base + ".plan", base, schedule, "--out", str(tmp_path / "out")]) == 0
+    rows = read(tmp_path / "out")
+    assert rows[0] == "x,y,z,block,tonnes,grade,zone,mined,period,destination,share".split(",")
+    assert rows[1] == ["140", "220", "50", str(block), "10821", "2.5", "1", "1", "1", "heap", "0.25"] and rows[2][-2:] == ["dump", "0.75"]
+    pit = written(tmp_path / "pit", [str(block)])
+    assert main(["back", base + ".plan", base, pit, "--all", "--out", str(tmp_path / "out")]) == 0
+    rows = read(tmp_path / "out")
+    assert len(rows) == 1 + len(ROWS) and [row[7] for row in rows[1:]].count("1") == 1 and rows[1][:4] == ["140", "220", "50", str(block)]
+
+
+def export_of(kind):
+    """The lines of an export with a title row of units, noise, or turned or cut in two, and the words of import."""
+    words = ["--tonnes", "T", "--grade", "AU", "--zone", "ROCK", "--x", "XC", "--y", "YC", "--z", "ZC"]
+    lines = ["HOLE;XC;YC;ZC;T;AU;ROCK"]
+    for number, (x, y, z) in enumerate(reversed(ROWS)):
+        rock = "east" if x > 1 else "a west"
+        e, n, tonnes, parts = 100 + 20 * x, 200 + 20 * y, tonnes_of(x, y, z), [(0, 0)]
+        if kind == "turned":
+            angle = np.radians(30)
+            e, n = 100 + 20 * x * np.cos(angle) - 20 * y * np.sin(angle), 200 + 20 * x * np.sin(angle) + 20 * y * np.cos(angle)
+        if kind == "cut":
+            parts, tonnes = [(-5, 0), (5, 0)], tonnes / 2
+        for dx, dy in parts:
+            lines.append(f"h{number};{e + dx:.2f};{n + dy:.2f};{50 + 10 * z};{tonnes};{grade_of(x, y, z)};{rock}")
+    lines.append("air;100;200;80;-99;-99;east" if kind != "cut" else "air;95;200;80;-99;-99;east")
+    turn = ["--x-bearing", "60", "--about", "100,200", "--size", "20,20,10"] if kind == "turned" else []
+    return lines, words + turn + (["--parents", "20,20,10", "--corner", "90,190,45"] if kind == "cut" else [])
+
+
+@pytest.mark.parametrize("kind, rows", [("plain", 1), ("turned", 1), ("cut", 2)])
+def test_every_row_of_the_export_has_what_its_block_has(base, tmp_path, capsys, kind, rows):
+    lines, words = export_of(kind)
+    export = written(tmp_path / "export.csv", lines)
+    assert main(["import", export, *words, "--base", str(tmp_path / "from")]) == 0
+    places = [(1, 1, 0), (2, 1, 0), (1, 1, 1)]
+    pit = written(tmp_path / "pit", [str(block_number(place)) for place in places])
+    assert main(["back", base + ".plan", base, pit, "--onto", str(tmp_path / "from.json"), "--out", str(tmp_path / "out")]) == 0
+    assert f"{len(lines) - 1:,} rows, of which {rows * len(ROWS):,} are blocks" in capsys.readouterr().out
+    told = (tmp_path / "out").read_text().splitlines()
+    assert told[0] == lines[0] + ";block;mined"
+    assert [line.rsplit(";", 2)[0] for line in told[1:]] == lines[1:]
+    order = [place for place in reversed(ROWS) for _ in range(rows)]
+    assert [line.rsplit(";", 2)[1:] for line in told[1:-1]] == [[str(block_number(place)), str(int(place in places))] for place in order]
+    assert told[-1].endswith(";;")
+
+
+def test_the_report_by_hand(base, tmp_path, capsys):
+    places = [(1, 1, 0), (1, 1, 1), (1, 1, 2), (0, 0, 2)]
+    schedule = written(tmp_path / "schedule", [f"{block_number(place)} {at // 3} {0 if place[2] < 2 else 2}" for at, place in enumerate(places)])
+    assert main(["report", base + ".plan", base, schedule]) == 0
+    told = capsys.readouterr().out
+    ore, waste = 2 * 10811, 10811 + 10800
+    value = 2 * (10811 * 2.5 / 1000 * 0.9 * 60000 - 10811 * 15) - waste * 2
+    assert re.search(rf"all +4 +{ore:,}\.0 +2\.5000 +{ore * 2.5 / 1000:.1f} +{ore * 2.5 * 0.9 / 1000:.1f} +{waste:,}\.0 +1\.00 +{value:,.2f}\n", told)
+    discounted = value + 10800 * 2 - 10800 * 2 / 1.1
+    assert f"{discounted:,.2f}\n" in told
+    assert "1 of 4 blocks are at a side, and 1 on the lowest bench" in told and re.search("west +1 blocks", told)
+
+
+def test_sections_are_drawn(base, tmp_path):
+    pit = written(tmp_path / "pit", ["17"])
+    for ending, begin in (("png", b"\x89PNG"), ("svg", b"<?xml"), ("pdf", b"%PDF")):
+        out = tmp_path / f"section.{ending}"
+        assert main(["section", base + ".plan", base, "--y", "221", "--pit", f"{pit}=some", "--out", str(out)]) == 0
+        assert out.read_bytes().startswith(begin)
+    first = (tmp_path / "section.svg").read_bytes()
+    main(["section", base + ".plan", base, "--y", "221", "--pit", f"{pit}=some", "--out", str(tmp_path / "section.svg")])
+    assert (tmp_path / "section.svg").read_bytes() == first
+
+
+@pytest.mark.parametrize("words, told", [
+    (["section", "{plan}", "{base}", "--y", "999", "--out", "a.png"], "they lie from 200 to 240 m"),
+    (["section", "{plan}", "{base}", "--out", "a.bmp"], "ends with none of"),
+    (["back", "{plan}", "{base}", "{bad}"], "line 2: no line of a pit or a schedule"),
+    (["report", "{plan}", "{base}", "{bad}"], "line 2: no line of a pit or a schedule"),
+    (["back", "{plan}", "{base}", "{good}", "--onto", "{good}"], "not what `pit-tools import` writes"),
+])
+def test_what_is_wrong_is_told_in_a_line(base, tmp_path, capsys, words, told):
+    names = dict(plan=base + ".plan", base=base, bad=written(tmp_path / "bad", ["1", "99"]), good=written(tmp_path / "good", ["1"]))
+    assert main([word.format(**names) for word in words]) == 2
+    error = capsys.readouterr().err
+    assert told in error and error.count("\n") == 1
