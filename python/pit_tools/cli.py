@@ -21,6 +21,7 @@ COMMANDS = {
     "report": "ore, waste, metal and value of a pit, by bench and destination",
     "section": "sections through pits, drawn",
     "by-zone": "one instance of several plans, each for some zones",
+    "texts": "the sections that pitc prints, as files",
     "read": "an instance as arrays and sparse matrices",
     "pit": "the ultimate pit, of an instance or of a plan for each K",
     "lp": "linear programs of UPIT, CPIT and PCPSP",

@@ -1,0 +1,55 @@
+"""`pit-tools vary`: plans that differ in some cells."""
+from __future__ import annotations
+
+import argparse
+
+HELP = """\
+Writes plans that differ from one in some cells, in all combinations, each under a name that says which.
+
+    pit-tools vary deposit.plan --set K=2,4 --set price=5000000,5800000 --zones oxide.csv west.csv east.csv --list LIST
+    pit-tools vary deposit.plan --set rate=0.05,0.08,0.1 --set limit.crusher=x0.8,x1,x1.2
+
+A cell is one of
+
+    K, price, rate, periods     in every record that has it
+    slope                       p and q of all zones, several with semicolons: --set 'slope=1,1;3,2'
+    zone.1.K, zone.1.slope      of one zone, counted from 0
+    mill.NAME.recovery          or price, cost; leach.NAME.price, leach.NAME.cost, dump.NAME.cost
+    limit.NAME, limit.NAME.2    the (upper) number of all limits of a resource, or of those of period 2
+
+A value that begins with x multiplies the plan's. --list writes the list that `batch` reads.
+"""
+
+
+def add_arguments(parser: argparse.ArgumentParser) -> None:
+    parser.add_argument("plan", help="the plan")
+    parser.add_argument("--set", action="append", default=[], metavar="CELL=VALUE,..", help="a cell and its values; may be given again")
+    parser.add_argument("--name", help="the beginning of the names, that of the plan where none is given")
+    parser.add_argument("--zones", nargs="*", default=[], metavar="FILE", help="the zone files of all of them, for --list")
+    parser.add_argument("--list", metavar="FILE", help="writes a line for each plan: the plan and its zone files")
+    parser.add_argument("--folder", default=".", help="where the plans go")
+
+
+def run(args: argparse.Namespace) -> int:
+    import os
+
+    from pit_tools.errors import UserError
+    from pit_tools.plan_file import plan_of
+    from pit_tools.variations import Change, variations
+
+    with open(args.plan, encoding="utf-8-sig") as file:
+        text = file.read()
+    base = args.name or plan_of(text, args.plan).name
+    if not args.set:
+        raise UserError("give a cell by --set, as --set K=2,4")
+    lines = []
+    for name, varied in variations(text, base, [Change.of(one) for one in args.set]):
+        plan_of(varied, name)
+        with open(os.path.join(args.folder, name + ".plan"), "w", encoding="ascii") as file:
+            file.write(varied)
+        lines.append(" ".join([name + ".plan", *args.zones]))
+    if args.list:
+        with open(args.list, "w", encoding="utf-8") as file:
+            file.write("".join(line + "\n" for line in lines))
+    print(f"{len(lines)} plans")
+    return 0
