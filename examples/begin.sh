@@ -1,15 +1,17 @@
-# Begins the commands of a page of recipes: makes a folder `work` and goes there, brings the built pitc into the PATH, and compiles the
-# example deposit, whose zone files are then $zones. It is read by a shell, not run, at the top of the repository or of an unpacked archive:
+# Begins the commands of a page of recipes: makes a folder `work` and goes there, brings the built pitc and pit-tools into the PATH, and
+# compiles the example deposit, whose zone files are then $zones. It is read by a shell, not run, at the top of the repository or of an
+# unpacked archive:
 #
 #     . examples/begin.sh
 #
 # Where neither has a program, it is the pitc that is installed.
 
-mkdir work && cd work
+mkdir work && cd work || { echo "begin.sh: go to the top, where there is no folder work yet" >&2; return 1; }
 for folder in ../crates/pitc/out ../bin; do
     [ ! -x $folder/pitc ] || PATH=$(cd $folder && pwd):$PATH
 done
+PATH=$(cd ../python && pwd):$PATH
 LC_ALL=C && export LC_ALL
-awk -f ../examples/deposit.awk
+pit-tools deposit
 zones="deposit-oxide.csv deposit-west.csv deposit-east.csv"
 pitc compile --plan deposit.plan --out deposit $zones

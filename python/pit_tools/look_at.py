@@ -62,7 +62,7 @@ def _ground(facts: Facts) -> Iterator[str]:
     elif len(highest) > 3 and facts.axes[2].taken > 2:
         flat_top = np.mean(highest == facts.axes[2].most)
         flat_floor = np.mean(lowest == facts.axes[2].least)
-        if flat_top > 0.98 and flat_floor < 0.9:
+        if flat_top > 0.95 and flat_floor < 0.9:
             yield "the highest bench is whole and the lowest ones are not: are depths taken for heights?"
     sides = np.ptp(highest)
     if sides > 0.8 * (facts.axes[2].most - facts.axes[2].least) and facts.axes[2].taken > 4 and not is_box:

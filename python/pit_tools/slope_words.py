@@ -94,7 +94,7 @@ class Advice:
         words = (f"take K = {self.K}, and expect {walls} up to {self.too_steep:.1f} degrees too steep: no K brings them within "
                  f"{self.within:g}, since blocks are whole and a low wall has few of them. ")
         if self.flatter:
-            return words + f"Smaller blocks do, or slopes that are {self.flatter} degrees flatter on all sides"
+            return words + f"Smaller blocks do, or slopes that are {self.flatter} degree{'s' if self.flatter > 1 else ''} flatter on all sides"
         return words + "Smaller blocks do"
 
 
