@@ -23,6 +23,7 @@ COMMANDS = {
     "by-zone": "one instance of several plans, each for some zones",
     "texts": "the sections that pitc prints, as files",
     "read": "an instance as arrays and sparse matrices",
+    "python": "a script of your own, by the interpreter that has the packages",
     "pit": "the ultimate pit, of an instance or of a plan for each K",
     "lp": "linear programs of UPIT, CPIT and PCPSP",
     "solve": "the best schedule of a small instance, and bounds by its relaxation",
