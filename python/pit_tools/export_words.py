@@ -209,10 +209,11 @@ def table_of(text: str, value: str, names: Sequence[str]) -> Table:
         table = pd.read_csv(text, dtype=str, keep_default_na=False, sep=None, engine="python", encoding="utf-8-sig")
     except (OSError, ValueError, pd.errors.ParserError) as error:
         raise UserError(f"{text}: {' '.join(str(error).split())}") from None
-    keys = [name for name in table.columns if plain_name(name) != value]
-    if len(keys) == len(table.columns) or not keys:
+    named = [name for name in table.columns if plain_name(name) == value]
+    if not named or len(table.columns) < 2:
         raise UserError(f"{text}: its columns have to be `{value}` and some of the export's")
-    given = next(name for name in table.columns if plain_name(name) == value)
+    given = named[-1]
+    keys = [name for name in table.columns if name != given]
     rows = [([plain_name(row[key]) for key in keys], str(row[given]).strip()) for _, row in table.iterrows()]
     return Table([column_of(key, names) for key in keys], rows, text)
 

@@ -239,6 +239,7 @@ class _Piece:
         for key in ("x", "y", "z", "i", "j", "k"):
             if key in self.columns.measures:
                 self.reading.keep(**{key: self.place(key)})
+        self.take_sizes()
         self.take_tonnes()
         self.take_grade()
         self.take_zone()
@@ -354,6 +355,20 @@ class _Piece:
         values[np.isinf(values)] = np.nan
         return values
 
+    def take_sizes(self) -> None:
+        """The sizes of sub-blocks, in thousandths of their unit, and their volumes in cubic metres."""
+        if "size_x" not in self.columns.measures:
+            return
+        volume = np.ones(len(self.table))
+        for axis in COORDINATES:
+            measure = self.columns.measures["size_" + axis]
+            size = self.floats(measure, "size_" + axis)
+            if not (size > 0).all():
+                raise UserError(f"{self.line(int(np.flatnonzero(~(size > 0))[0]))}: the size of a sub-block along {axis} is missing or 0")
+            self.reading.keep(**{"size_" + axis: size * 1000})
+            volume *= size * float(measure.factor)
+        self.reading.keep(sub_volume=volume)
+
     def take_tonnes(self) -> None:
         """Tonnes in parts, -1 where missing; or, of a density, floats until the volume of a block is known."""
         if "tonnes" in self.columns.measures:
@@ -361,16 +376,13 @@ class _Piece:
             if "share" not in self.columns.measures:
                 self.reading.keep(tonnes=np.where(missing | (tonnes == 0), -1, tonnes))
                 return
+            # Of a share of the block: tonnes wait for it as densities do for a volume.
             self.reading.keep(density=np.where(missing, np.nan, tonnes / 10.0 ** self.reading.fine["tonnes"]))
         else:
             self.reading.keep(density=self.densities())
         for key in ("volume", "share", "ore_share", "waste_density"):
             if key in self.columns.measures:
                 self.reading.keep(**{key: self.in_pitc_units(key)})
-        if "size_x" in self.columns.measures:
-            sizes = [self.floats(self.columns.measures[key], key) * float(self.columns.measures[key].factor)
-                     for key in ("size_x", "size_y", "size_z")]
-            self.reading.keep(sub_volume=sizes[0] * sizes[1] * sizes[2])
 
     def densities(self) -> np.ndarray:
         """Tonnes a cubic metre, by the column and, where that is missing, by the table of rock codes."""
@@ -619,7 +631,16 @@ class _Placing:
         """A corner of a parent, by the least edge of a sub-block along each axis."""
         if not self.words.sub_size:
             raise UserError("--parents needs --corner, the least corner of a parent, or --sub-size, the columns with the sizes of sub-blocks")
-        raise UserError("--parents needs --corner, the least corner of a parent")
+        halves = [self.reading.joined("size_" + axis) / 2 for axis in COORDINATES]
+        corners = [int(np.rint((value - half).min())) for value, half in zip(values, halves)]
+        for axis, (value, half, corner, size) in enumerate(zip(values, halves, corners, sizes)):
+            parent = np.floor_divide(value - corner, size)
+            room = size / 1000 + 1
+            beyond = (value - half < corner + parent * size - room) | (value + half > corner + (parent + 1) * size + room)
+            if beyond.any():
+                raise UserError(f"{self.line(int(np.flatnonzero(beyond)[0]))}: the sub-block goes beyond its parent along {'xyz'[axis]}: are "
+                                "parents of another size, or is --corner to be given?")
+        return corners
 
     def grid(self, axes: Sequence[Axis]) -> Grid:
         """The grid in metres."""
@@ -898,10 +919,9 @@ class _Doubts:
             return
         told = f"tonnes a cubic metre are {figure(heavy[0])} to {figure(most)}, {figure(middle)} in the middle, and rock has 1.5 to 5"
         whys = [("are they densities? Give --density", self.volume), ("are they kilotonnes? Give the unit kt", 1000.0),
-                ("are they kilograms? Give the unit kg", 0.001), ("are lengths in feet? Give --in-feet, or the unit ft", 1 / 0.3048 ** 3),
-                ("is it the density in kg/m3?", 0.001), ("are they the tonnes of other blocks? Look at --size", 0.0)]
-        why = next(why for why, factor in whys if 1.5 <= middle * factor <= 5 or not factor)
-        self.doubts.append(f"{told}: {why}")
+                ("are they kilograms? Give the unit kg", 0.001), ("are lengths in feet? Give --in-feet, or the unit ft", 1 / 0.3048 ** 3)]
+        fits = [why for why, factor in whys if 1.5 <= middle * factor <= 5]
+        self.doubts.append(f"{told}: {'; '.join(fits) or 'are they the tonnes of other blocks? Look at --size'}")
 
     def light_blocks_below_others(self) -> None:
         """Blocks of little weight that lie below others: their waste may be missing."""

@@ -206,6 +206,17 @@ def old_exports() -> Iterable[Export]:
                  {**USUAL, "x": "XC", "y": "YC", "z": "ZC", "parents": "20,20,10", "corner": "990,1990,295"}, truth(), told=(f"{2 * sum(b.is_rock for b in MINE):,} sub-blocks are {sum(b.is_rock for b in MINE)} blocks",),
                  refused="sub-blocks|--parents", first={"parents": "", "corner": "", "size": "20,20,10"})
 
+    def cut(block: Block) -> list[str]:
+        """A block in two along z, the upper part a quarter, with sizes of their own."""
+        dense = known(block.density, 4, "-99")
+        gold = known(block.grade, 6, "-99")
+        return [f"{block.x},{block.y},{block.z - 1.25},20,20,7.5,{dense},{gold},{block.zone}",
+                f"{block.x},{block.y},{block.z + 3.75},20,20,2.5,{dense},{gold},{block.zone}"]
+    text = "\n".join(["XC,YC,ZC,XINC,YINC,ZINC,SG,AU,ZONE", *(line for block in MINE for line in cut(block))]) + "\n"
+    yield Export("sub-blocks with their sizes and a density", {"a.csv": text.encode()},
+                 {**USUAL, "x": "XC", "y": "YC", "z": "ZC", "tonnes": "", "density": "SG", "sub_size": "XINC,YINC,ZINC", "parents": "20,20,10"},
+                 truth(kilograms=by_density), refused="goes beyond its parent along z", first={"parents": "20,20,5"})
+
     text = table("X\tY\tZ\tTONNES\tAU\tZONE", lambda b: "\t".join(usual(b)), end="\r\n")
     yield Export("UTF-16 of a spreadsheet", {"a.txt": text.encode("utf-16")}, USUAL, truth(), told=("cells between tabs, UTF-16",))
 
