@@ -169,3 +169,10 @@ def test_sections_of_the_pipe_form_become_files(tmp_path):
     for wrong, told in (("", "has the sections none"), ("pitc: plan row 1: Key\n", "does not begin with a section"), (text + "== blocks\n", "stands twice")):
         done = subprocess.run(words, input=wrong, **run)
         assert done.returncode == 2 and told in done.stderr and done.stderr.count("\n") == 1
+
+
+def test_options_go_to_each_run(here):
+    with open("LIST", "w") as file:
+        file.write("one.plan 'six blocks.csv'\n")
+    assert main(["batch", "LIST", "--pitc", "./pitc", "--options", "--valuers 1"]) == 0
+    assert "options: --valuers 1\n" in open("BUILD").read()

@@ -1,7 +1,7 @@
 """The examples: the pipe form on pit.txt and waste.txt, `check` on one, `compile` on march, and
 all on a deposit.
 
-The texts of the deposit, whose files deposit.awk makes, were made without pitc in half a minute. So
+The texts of the deposit, whose files `pit-tools deposit` makes, were made without pitc in half a minute. So
 their sums stand here:
 
     tools/plain.py deposit deposit.plan deposit-oxide.csv deposit-west.csv deposit-east.csv
@@ -44,12 +44,12 @@ def read(*path):
 
 
 def deposit():
-    """The files that deposit.awk makes."""
+    """The files that `pit-tools deposit` makes."""
     with tempfile.TemporaryDirectory() as folder:
-        subprocess.run(["awk", "-f", os.path.join(EXAMPLES, "deposit.awk")], cwd=folder, check=True)
+        subprocess.run([os.path.join(TOP, "python", "pit-tools"), "deposit"], cwd=folder, check=True)
         files = {name: read(folder, name) for name in os.listdir(folder)}
     if files.keys() != DEPOSIT.keys() or not all(DEPOSIT[name].fits(files[name]) for name in files):
-        sys.exit("tools/worked-rows: this awk made another deposit")
+        sys.exit("tools/worked-rows: pit-tools made another deposit")
     return files
 
 

@@ -8,10 +8,10 @@ Compiles the instances of a list by `pitc` in the current folder, and writes wha
 to size them, and to make them again.
 
     pit-tools batch LIST
-    pit-tools batch LIST --relax 60 -- --valuers 1
+    pit-tools batch LIST --relax 60 --options '--valuers 1'
 
-A line of LIST is a plan NAME.plan and its zone files, in the plan's order; the instance goes to NAME. Words
-behind -- go to each `pitc compile`. Then there are
+A line of LIST is a plan NAME.plan and its zone files, in the plan's order; the instance goes to NAME. Then
+there are
 
     BUILD       the version and the sum of pitc, its options, and the sums of this tool's modules, the
                 versions of Python and of the packages
@@ -28,17 +28,18 @@ is refused, or any step fails, it says which, goes on, leaves no MANIFEST, and e
 
 def add_arguments(parser: argparse.ArgumentParser) -> None:
     parser.add_argument("list", help="the list")
-    parser.add_argument("options", nargs="*", metavar="-- OPTION", help="options of each `pitc compile`, behind --")
+    parser.add_argument("--options", default="", metavar="WORDS", help="options of each `pitc compile`, in quotes")
     parser.add_argument("--pitc", metavar="PROGRAM", help="the program, where it is not in the PATH")
     parser.add_argument("--relax", type=float, metavar="SECONDS", help="for each relaxation at most; without it there are none")
 
 
 def run(args: argparse.Namespace) -> int:
+    import shlex
     import sys
 
     from pit_tools.batches import Batch
 
-    batch = Batch(args.list, args.pitc, args.options, args.relax)
+    batch = Batch(args.list, args.pitc, shlex.split(args.options), args.relax)
     whole = batch.run()
     for line in batch.failed:
         print(f"pit-tools batch: {line}", file=sys.stderr)
