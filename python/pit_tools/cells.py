@@ -63,9 +63,10 @@ class Marks:
     def spelled(self, cells: pd.Series) -> Spelled:
         """Cells as plain decimals. Most are plain already, and are taken as they are; each odd spelling is looked at once."""
         texts, count = cells, len(cells)
-        floats = np.full(count, np.nan)
-        if self.decimal == ".":
-            floats = pd.to_numeric(cells, errors="coerce").to_numpy(float).copy()
+        if self.decimal == ",":
+            # A point is none of these numbers' marks, or stands between thousands.
+            texts = cells.str.replace(",", ".", regex=False).where(~cells.str.contains(".", regex=False), "")
+        floats = pd.to_numeric(texts, errors="coerce").to_numpy(float).copy()
         odd = ~np.isfinite(floats)
         missing, wrong = np.zeros(count, bool), np.zeros(count, bool)
         if odd.any():
@@ -73,7 +74,7 @@ class Marks:
             found = found.map({text: self.plain(text) for text in found.unique()})
             missing[odd], wrong[odd] = (found == "").to_numpy(), found.isna().to_numpy()
             floats[odd] = pd.to_numeric(found, errors="coerce").to_numpy(float)
-            texts = cells.copy()
+            texts = texts.copy()
             texts[odd] = found
         if self.missing_numbers:
             missing |= np.isin(floats, self.missing_numbers)

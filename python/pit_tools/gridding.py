@@ -84,10 +84,10 @@ def indices(values: np.ndarray, axis: Axis) -> np.ndarray:
 
 
 def _origin_of(unique: np.ndarray, size: int, first: int) -> int:
-    """A place of the grid: that of the first row, or, where rows lie beside the grid through it, the roundest between them."""
+    """A place of the grid: that of the first row, or, where rows lie beside the grid through it, the roundest that is as near to them."""
     off = (unique - first + size // 2) % size - size // 2
     middle, half = (int(off.min()) + int(off.max())) / 2, (int(off.max()) - int(off.min())) / 2
-    if int(np.abs(off).max()) <= 2.1 * half + 0.5 and half <= BESIDE * size / 2:
+    if not off.any():
         return first
     for unit in (1000, 500, 250, 100, 10):
         origin = round((first + middle) / unit) * unit
@@ -112,7 +112,8 @@ def _size_of(unique: np.ndarray, name: str) -> int:
 
 
 def _size_in_noise(unique: np.ndarray) -> Optional[int]:
-    """The size of a grid beside whose places coordinates lie by little: neighbours are then near one another or about a size apart."""
+    """The size of a grid beside whose places coordinates lie by little: neighbours are then near one another or about a size apart. It is
+    the roundest that fits as well as any."""
     gaps = np.sort(np.diff(unique)).astype(float)
     jump = int(np.argmax(gaps[1:] / gaps[:-1])) if len(gaps) > 1 else 0
     if len(gaps) < 3 or gaps[jump + 1] < 4 * gaps[jump]:
@@ -123,17 +124,19 @@ def _size_in_noise(unique: np.ndarray) -> Optional[int]:
     centres = np.array([group.mean() for group in groups])
     if len(centres) < 3:
         return None
-    step = float(np.median(np.diff(centres)))
+    apart = np.diff(centres)
+    step = float(apart[apart < 1.5 * apart.min()].mean())
     for _ in range(3):
         index = np.rint((centres - centres[0]) / step)
         step = float(np.polyfit(index, centres, 1)[0])
     spread = max(float(np.ptp(group)) for group in groups)
+    beside = float(np.ptp(centres - step * np.rint((centres - centres[0]) / step)))
     for unit in (1000, 500, 250, 100, 50, 25, 10, 1):
         size = round(step / unit) * unit
         if size < 1 or index.max() + 1 > len(centres) / 0.9:
             continue
         off = (unique - unique[0] + size // 2) % size - size // 2
-        if np.ptp(off) <= max(2.1 * spread, 0.02 * size) and np.ptp(off) <= 2 * BESIDE * size:
+        if np.ptp(off) <= 1.2 * beside + 2.1 * spread + 1 and np.ptp(off) <= BESIDE * size:
             return size
     return None
 

@@ -180,6 +180,9 @@ def old_exports() -> Iterable[Export]:
                  truth(place=lambda b: (625_000 + 12_500 * b.i, 1_250_000 + 12_500 * b.j, 1000 * b.z)), grid="625,1250,300,12.5,12.5,10",
                  told=("x is put on the grid: rows lie up to 0.5 beside it",))
 
+    yield Export("the same, and the size found", {"a.csv": text.encode()}, USUAL,
+                 truth(place=lambda b: (625_000 + 12_500 * b.i, 1_250_000 + 12_500 * b.j, 1000 * b.z)), grid="625,1250,300,12.5,12.5,10")
+
     def turned(angle: float) -> str:
         along, across = math.cos(math.radians(angle)), math.sin(math.radians(angle))
 
