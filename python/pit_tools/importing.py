@@ -127,6 +127,7 @@ class _Reading:
         self.first_of: dict[str, tuple[int, int]] = {}
         self.fine = FINE if words.is_merged else {"tonnes": 3, "grade": 6}
         self.source_at = 0
+        self.first_record = 0
         self.unknown_densities: Counter = Counter()
 
     def keep(self, **columns: np.ndarray) -> None:
@@ -165,6 +166,7 @@ def _read(path: str, words: Words, reading: _Reading, report: Report) -> Source:
     for table in source.chunks(columns.needed):
         if marks is None:
             table = _without_units(table, key, source)
+            reading.first_record = int(table.index[0])
             marks = marks_of((table[at] for at in columns.numeric), decimal=words.decimal, thousands=words.thousands,
                              missing=words.missing)
             report.facts.append(source.told())
@@ -569,7 +571,9 @@ class _Placing:
         if count != blocks[0] * blocks[1] * blocks[2]:
             raise UserError(f"{count:,} rows, and --blocks says {blocks[0] * blocks[1] * blocks[2]:,}: rows without coordinates have to be all "
                             "that there are")
-        number = self.record - self.record[0] if not words.where else self.record - self.record.min()
+        if len(self.sources) > 1:
+            raise UserError("rows without coordinates are read from one export alone")
+        number = self.record - self.reading.first_record
         order = [cell.strip() for cell in words.order.split(",")]
         if sorted(cell.lstrip("-") for cell in order) != ["x", "y", "z"]:
             raise UserError(f"--order names the axes, the one that runs first before the others, as x,y,z or x,y,-z, and not `{words.order}`")
@@ -579,6 +583,8 @@ class _Placing:
             number, places[axis] = np.divmod(number, blocks[axis])
             if cell.startswith("-"):
                 places[axis] = blocks[axis] - 1 - places[axis]
+        ways = {"x": "x upward", "y": "y upward", "z": "z upward", "-x": "x downward", "-y": "y downward", "-z": "z downward"}
+        self.report.facts.append("places by the order of rows: " + ", then ".join(ways[cell] for cell in order))
         firsts, sizes = thousandths(words.first, "--first"), sizes_of(words.size, "--size")
         return [Axis(first, size, many, 0) for first, size, many in zip(firsts, sizes, blocks)], places
 
@@ -587,10 +593,10 @@ class _Placing:
         words, axes, places = self.words, [], []
         firsts, sizes = thousandths(words.first, "--first"), sizes_of(words.size, "--size")
         columns = [self.reading.joined(key) for key in "ijk"]
-        least = min(int(column.min()) for column in columns) // 1000
-        start = words.index_from if words.index_from is not None else least
-        if words.index_from is None and least not in (0, 1):
-            raise UserError(f"the least index is {least}: say by --index-from whether the first block has 0 or 1")
+        leasts = [int(column.min()) // 1000 for column in columns]
+        start = words.index_from if words.index_from is not None else min(leasts)
+        if words.index_from is None and (min(leasts) not in (0, 1) or {0, 1} <= set(leasts)):
+            raise UserError(f"the least indices are {', '.join(map(str, leasts))}: say by --index-from whether the first block has 0 or 1")
         for axis, column in enumerate(columns):
             off = column % 1000 != 0
             if off.any():
@@ -605,9 +611,10 @@ class _Placing:
                                 f"to {many - 1 + start}")
             if axis == 2 and words.from_top:
                 place = many - 1 - place
+                self.report.facts.append(f"benches count from the top: {many - 1 + start} is the lowest, at z = {shortest(firsts[2], 3)}")
             axes.append(Axis(firsts[axis], sizes[axis], many, 0))
             places.append(place)
-        self.report.facts.append(f"indices count from {start}" + (", benches from the top" if words.from_top else ""))
+        self.report.facts.append(f"indices count from {start}")
         return axes, places
 
     def parents(self, values: list[np.ndarray]) -> tuple[list[Axis], list[np.ndarray]]:
@@ -822,7 +829,7 @@ class _Placing:
         if tonnes.max() > MOST_KILOGRAMS:
             at = int(tonnes.argmax())
             raise UserError(f"{self.line(int(rows['row'].iloc[at]))}: a block has {tonnes[at] / 1000:,.0f} t, and pitc takes 1,000,000: are these "
-                            "kilograms?")
+                            "kilograms, or is a density in kg/m3?")
         if grade.max() > MOST_GRADE:
             at = int(grade.argmax())
             raise UserError(f"{self.line(int(rows['row'].iloc[at]))}: a grade is {grade[at] / 1e6:,.0f} g/t, which is more than all metal")

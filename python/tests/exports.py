@@ -163,7 +163,7 @@ def old_exports() -> Iterable[Export]:
     text = table("I,J,K,TONNES,AU,ZONE", lambda b: ",".join([str(b.i + 1), str(b.j + 1), str(NZ - b.k), *usual(b, "")[3:]]))
     yield Export("indices from 1, benches from the top", {"a.csv": text.encode()},
                  {"i": "I", "j": "J", "k": "K", "from_top": True, "first": "1000,2000,300", "size": "20,20,10", "tonnes": "TONNES", "grade": "AU",
-                  "zone": ["ZONE"]}, truth(), told=("indices count from 1, benches from the top",))
+                  "zone": ["ZONE"]}, truth(), told=("indices count from 1", "benches count from the top: 7 is the lowest, at z = 300"))
 
     text = table("X,Y,DEPTH,TONNES,AU,ZONE", lambda b: ",".join([str(b.x), str(b.y), str(400 - b.z), *usual(b, "")[3:]]))
     yield Export("depths", {"a.csv": text.encode()}, {**USUAL, "z": "400 - DEPTH"}, truth())
@@ -173,7 +173,13 @@ def old_exports() -> Iterable[Export]:
     yield Export("GSLIB, without coordinates", {"a.dat": text.encode()},
                  {"blocks": f"{NX},{NY},{NZ}", "first": "1000,2000,300", "size": "20,20,10", "density": "density", "grade": "gold, g/t",
                   "zone": ["zone number"]},
-                 truth(kilograms=by_density, zone=lambda b: str(["oxide", "west", "east", "air"].index(b.zone))), told=("GSLIB",))
+                 truth(kilograms=by_density, zone=lambda b: str(["oxide", "west", "east", "air"].index(b.zone))), told=("GSLIB", "places by the order of rows: x upward, then y upward, then z upward"))
+
+    backwards = sorted(MINE, key=lambda b: (-b.k, b.i, b.j))
+    text = table("TONNES;AU;ZONE", lambda b: ";".join(usual(b)[3:]), backwards)
+    yield Export("a list from the top down, y running first, with a filter", {"a.csv": text.encode()},
+                 {"blocks": f"{NX},{NY},{NZ}", "first": "1000,2000,300", "size": "20,20,10", "order": "y,x,-z", "tonnes": "TONNES", "grade": "AU",
+                  "zone": ["ZONE"], "where": ['ZONE != "air"']}, truth(), told=("y upward, then x upward, then z downward",))
 
     text = table("X,Y,Z,TONNES,AU,ZONE", lambda b: ",".join([f"{b.x * 0.625:.0f}", f"{b.y * 0.625:.0f}", *usual(b)[2:]]))
     yield Export("blocks of 12.5 m, coordinates in whole metres", {"a.csv": text.encode()}, {**USUAL, "size": "12.5,12.5,10"},

@@ -85,6 +85,9 @@ STOPS = [
     (rows, {"blocks": "5,4,4"}, "rows take 5 x 5 x 4 blocks, and --blocks says 5 x 4 x 4"),
     (rows, {"density": "T", "tonnes": "", "ore_share": "AU"}, "--ore-share and --waste-density together"),
     (rows, {"x": "", "y": "", "z": "", "i": "X", "j": "Y", "k": "Z", "first": "0,0,0", "size": "10,10,10", "index_from": 1}, "the index i is from 0 to 40, and not from 1"),
+    (lambda: [line if at == 0 else [str(int(line[0]) // 10 + 1), str(int(line[1]) // 10 + 1), str(int(line[2]) // 10), *line[3:]]
+              for at, line in enumerate(rows())],
+     {"x": "", "y": "", "z": "", "i": "X", "j": "Y", "k": "Z", "first": "0,0,0", "size": "10,10,10"}, "the least indices are 1, 1, 0: say by --index-from"),
     (lambda: [["X", "Y", "Z", "T", "AU", "ZONE"], ["0", "0", "0", "1", "1", "a"]], {}, "all rows have one x: give the size"),
     (lambda: mapped(3, lambda text: "-99"), {}, "no row has tonnes: is --tonnes the right column"),
     (lambda: mapped(0, lambda text: f"{int(text) * 4321}"), {"size": "10,10,10"}, "more than the 10,000 of pitc"),

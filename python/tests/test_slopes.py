@@ -103,5 +103,8 @@ def test_the_command_tells_all_of_it(tmp_path, capsys):
     assert "12 benches high 45.0 46.7 45.0 46.7 45.0 46.7 45.0 46.7 1.7" in rows
     assert "K = 1 90.0 90.0 90.0 90.0 90.0 90.0 90.0 90.0 45.0 1" in rows
     assert "take K = 10, and expect walls of 9 to 12 benches" in text
+    assert main(["slopes", str(plan), "--K", "2"]) == 0
+    rows = [" ".join(line.split()) for line in capsys.readouterr().out.splitlines()]
+    assert "12 benches high 45.0 54.7 45.0 54.7 45.0 54.7 45.0 54.7 9.7" in rows
     assert main(["slopes", str(tmp_path / "none.plan")]) == 2
     assert "none.plan: No such file" in capsys.readouterr().err

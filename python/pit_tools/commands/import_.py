@@ -10,7 +10,7 @@ what is odd, and the records grid and zone of the plan.
     pit-tools import export.csv --x XC --y YC --z ZC --tonnes TONNAGE --grade AU_PPM --zone DOMAIN --base from
 
 Columns are named as in the header, in any case, or are formulas with + - * / ** // % and
-parentheses; a unit may stand behind: --grade 'AU oz/st', --tonnes 'VOLUME*SG st', --z=-DEPTH. A cell
+parentheses; a unit may stand behind: --grade 'AU oz/st', --tonnes 'TONS st', --z=-DEPTH. A cell
 without a formula goes through digit for digit, and is rounded as a decimal; a formula is computed in
 double precision.
 

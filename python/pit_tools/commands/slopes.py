@@ -10,7 +10,8 @@ HELP = """Tells how steep the walls are that the cones of a plan give, beside th
 For each zone it tells, by bearing (+y is north),
 
 - the pit of one deep block, by K: the walls of a pit that goes on for ever;
-- straight walls of 3 to 60 benches at the plan's K: blocks are whole, so low walls are steeper;
+- straight walls of 3 to 60 benches, at the plan's K or at --K: blocks are whole, so low walls are
+  steeper;
 - by how many degrees walls are too steep in the worst bearing, by K and height;
 - the K to take for walls as high as --benches says, or what to do where no K is enough.
 
@@ -24,6 +25,7 @@ SOME_K = (1, 2, 3, 4, 5, 6, 8, 10, 12, 15, 20)
 def add_arguments(parser: argparse.ArgumentParser) -> None:
     parser.add_argument("plan", metavar="PLAN")
     parser.add_argument("--benches", type=int, default=0, metavar="N", help="the height of the mine's walls, for the K to take")
+    parser.add_argument("--K", type=int, default=0, metavar="K", help="of straight walls by bearing, where it is not the plan's")
     parser.add_argument("--within", type=float, default=2, metavar="DEGREES", help="how much too steep a wall may be (2)")
     parser.add_argument("--decimals", type=int, default=1, metavar="N", help="of degrees (1)")
     parser.add_argument("--brief", action="store_true", help="three lines for each zone")
@@ -36,6 +38,8 @@ def run(args: argparse.Namespace) -> int:
 
     if args.benches < 0 or args.benches > 10_000:
         raise UserError(f"--benches: `{args.benches}` is no height of a mine")
+    if args.K and not 1 <= args.K <= 20:
+        raise UserError(f"--K: {args.K} is not from 1 to 20")
     grid, zones = grid_and_zones(args.plan)
     print("blocks of " + " x ".join(plain(size) for size in grid.size) + " m")
     if args.brief:
@@ -44,7 +48,7 @@ def run(args: argparse.Namespace) -> int:
     for number, zone in enumerate(zones):
         print(f"\nzone {number}, {zone}")
         _print_pit_of_one_block(grid, zone, args.decimals)
-        _print_walls(grid, zone, args.decimals)
+        _print_walls(grid, zone, args.K or zone.benches, args.decimals)
         _print_by_K_and_height(grid, zone, args.benches)
         _print_advice(grid, zone, args.benches, args.within)
     return 0
@@ -64,13 +68,13 @@ def _print_pit_of_one_block(grid, zone, decimals: int) -> None:
     print(f"first K within 2 degrees: {first[0]}, within 1: {first[1]}")
 
 
-def _print_walls(grid, zone, decimals: int) -> None:
+def _print_walls(grid, zone, K: int, decimals: int) -> None:
     from pit_tools.slope_words import heights_told
     from pit_tools.walls import EIGHT, asked_straight, straight_walls
 
     asked, width = asked_straight(zone), decimals + 5
-    walls = straight_walls(grid, zone, zone.benches, 60)
-    print(f"\n{f'straight walls, K = {zone.benches}':26}" + "".join(" " * width for _ in EIGHT) + "   too steep")
+    walls = straight_walls(grid, zone, K, 60)
+    print(f"\n{f'straight walls, K = {K}':26}" + "".join(" " * width for _ in EIGHT) + "   too steep")
     print(f"{'asked':26}" + "".join(f"{asked[at]:{width}.{decimals}f}" for at in EIGHT))
     for benches in heights_told([]):
         given = walls[benches - 1]
