@@ -241,6 +241,19 @@ def old_exports() -> Iterable[Export]:
                        place=lambda b: (1_524_000 + 7620 * b.i, 1_828_800 + 7620 * b.j, 304_800 + 6096 * b.k)),
                  within=(3, 2), grid="1524,1828.8,304.8,7.62,7.62,6.096")
 
+    text = table("EAST,NORTH,ELEV,SG,AU,ZONE", lambda b: f"{b.i * 25 + 5000},{b.j * 25 + 6000},{b.k * 20 + 1000},{known(b.density, 4, '')},"
+                                                      f"{known(b.grade, 6, '')},{b.zone}")
+    yield Export("feet that stay", {"a.csv": text.encode()},
+                 {"x": "EAST", "y": "NORTH", "z": "ELEV", "density": "SG", "grade": "AU", "zone": ["ZONE"], "in_feet": True},
+                 truth(kilograms=lambda b: None if b.density is None else round(b.density / 10 * cubic),
+                       place=lambda b: (1000 * (5000 + 25 * b.i), 1000 * (6000 + 25 * b.j), 1000 * (1000 + 20 * b.k))),
+                 within=(1, 0), grid="5000,6000,1000,25,25,20", told=("14 x 10 x 7 blocks of 25 x 25 x 20 ft",))
+
+    text = table("X,Y,Z,TONS,CU,ZONE", lambda b: ",".join([*usual(b)[:4], "" if b.grade is None else str(b.grade // 1_000_000), b.zone]))
+    yield Export("short tons, and pounds a short ton", {"a.csv": text.encode()}, {**USUAL, "tonnes": "TONS st", "grade": "CU lb/st"},
+                 truth(kilograms=lambda b: None if b.kilograms is None else round(b.kilograms * 0.90718474),
+                       grade=lambda b: None if b.grade is None else b.grade // 1_000_000 * 500_000_000), within=(1, 1))
+
     text = table("X,Y,Z,TONNES,AU,CU_PCT,ZONE", lambda b: ",".join([*usual(b)[:5], "" if b.grade is None else dec(b.grade // 10, 6), b.zone]))
     yield Export("two metals, as an equivalent grade", {"a.csv": text.encode()}, {**USUAL, "grade": "(AU + CU_PCT*0.9)"},
                  truth(grade=lambda b: None if b.grade is None else b.grade + round(b.grade // 10 * 0.9)), within=(0, 1))
