@@ -7,15 +7,15 @@ from typing import Optional, Sequence
 import numpy as np
 from matplotlib.backends.backend_agg import FigureCanvasAgg
 from matplotlib.collections import LineCollection
-from matplotlib.colors import BoundaryNorm, ListedColormap, LogNorm
+from matplotlib.colors import BoundaryNorm, ListedColormap
 from matplotlib.figure import Figure
 from matplotlib.patches import Patch
 
 from pit_tools import walls as wall
 from pit_tools.look_at import tonnes_covered
-from pit_tools.spelling import shortest, with_commas
+from pit_tools.spelling import shortest
 from pit_tools.survey_facts import Facts
-from pit_tools.survey_text import above_cut_offs, cut_offs
+from pit_tools.survey_text import above_cut_offs
 
 #: From barren to rich.
 GRADE_COLOURS = ("#ece8df", "#fde3a7", "#fdbb63", "#f4813f", "#d1422b", "#7f1420")

@@ -74,7 +74,7 @@ def _draw(facts, normal: str, index: int, pits: list, args: argparse.Namespace) 
 
     from pit_tools.pictures import draw_plane, figure, grade_legend, plane_heights, zone_legend
 
-    matplotlib.rcParams["svg.hashsalt"] = "section"
+    matplotlib.rcParams.update({"svg.hashsalt": "section", "svg.fonttype": "none"})
     high = plane_heights(facts, normal, 10)[0]
     drawn = figure(10.8, high + 1.9)
     axes, legends = drawn.subplots(2, 1, gridspec_kw={"height_ratios": [high, 0.55]})
