@@ -26,6 +26,9 @@ SIDES = (("east", 0, 1), ("west", 0, -1), ("north", 1, 1), ("south", 1, -1))
 #: Places of a box up to which it is held whole.
 MOST_PLACES = 1 << 28
 
+#: Places of all cones up to which the ultimate pit is sought: a minute or two.
+MOST_PLACES_OF_CONES = 5_000_000_000
+
 
 @dataclass(frozen=True)
 class Rock:
@@ -315,15 +318,29 @@ class Facts:
 
     @cached_property
     def pit(self) -> Optional[np.ndarray]:
-        """The ultimate pit of the plan, bool (n,), or None where no compiler is there and it is too great
-        for HiGHS."""
+        """The ultimate pit of the plan, bool (n,), or None where it would take minutes: cones are wide, or no
+        compiler is there and it is too great for HiGHS."""
         if self._pit is not None:
             return self._pit
+        if self._places_of_cones() > MOST_PLACES_OF_CONES:
+            return None
         if is_compiled():
             return pit_of_plan(self.greatest, self.blocks, self.plan)[0]
         if self.arcs.sum() > 200_000:
             return None
         return ultimate_pit(self.greatest, precedence_of(self.blocks, self.plan))
+
+    def _places_of_cones(self) -> int:
+        """How many places the cones of all blocks have, by those of a block with rock all about."""
+        reach = [axis.most - axis.least for axis in self.axes]
+        found = 0
+        for number, zone in enumerate(self.plan.zones):
+            arcs = 0
+            for dz in range(1, min(zone.benches, reach[2]) + 1):
+                east, west, north, south = reach_along(self.size, zone, dz)
+                arcs += min(east + west + 1, reach[0] + 1) * min(north + south + 1, reach[1] + 1)
+            found += arcs * self.of_zone[number].rows
+        return found
 
     def at_side(self) -> dict[str, np.ndarray]:
         """Of each side which blocks have no column of blocks beside them there, bool (n,)."""

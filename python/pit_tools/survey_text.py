@@ -155,7 +155,7 @@ def _sides(facts: Facts) -> Iterator[str]:
 
 def _pit(facts: Facts, pit: Optional[np.ndarray]) -> Iterator[str]:
     if pit is None:
-        yield "the ultimate pit was not sought: no C++ compiler is there, and the arcs are many"
+        yield "the ultimate pit was not sought, since it would take minutes: give one by --pit"
         return
     ore = pit & ~np.array(facts.is_waste_place)[facts.best]
     tonnes = facts.blocks.tonnes

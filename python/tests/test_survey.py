@@ -2,11 +2,15 @@
 import base64
 import os
 import re
+import shutil
+import subprocess
 
 import numpy as np
 import pytest
+from matplotlib.image import imread
 
 import mines
+from pit_tools import survey_facts
 from pit_tools.cli import main
 from pit_tools.deposits import Deposit
 from pit_tools.survey_facts import read_facts
@@ -105,3 +109,27 @@ def test_a_zone_file_in_place_of_blocks_is_refused(tmp_path, capsys):
     os.replace(base + ".cpit", base + ".blocks")
     assert main(["survey", base + ".plan", base]) == 2
     assert "no line of a block file" in capsys.readouterr().err
+
+
+BROWSER = next(filter(None, map(shutil.which, ("chromium", "chromium-browser", "google-chrome"))), None)
+
+
+@pytest.mark.skipif(BROWSER is None, reason="no browser is here")
+def test_a_browser_shows_the_page_with_its_pictures(surveyed, tmp_path):
+    """The picture of the page has the red of the model's sides, the shades of grades and the colours of zones."""
+    base, zones = surveyed
+    (tmp_path / "survey.html").write_text(survey_page(read_facts(base + ".plan", base, zones)))
+    words = [BROWSER, "--headless", "--no-sandbox", "--disable-gpu", f"--user-data-dir={tmp_path / 'browser'}", "--window-size=1320,4200",
+             f"--screenshot={tmp_path / 'page.png'}", f"file://{tmp_path / 'survey.html'}"]
+    subprocess.run(words, capture_output=True, timeout=120, check=True)
+    page = (imread(str(tmp_path / "page.png"))[:, :, :3] * 255).round().astype(int)
+    assert page.shape == (4200, 1320, 3)
+    for colour in ((208, 0, 0), (127, 20, 32), (76, 120, 168), (42, 127, 63)):
+        assert (np.abs(page - colour).max(axis=2) < 12).sum() > 100, colour
+
+
+def test_a_pit_that_would_take_minutes_is_not_sought(tmp_path, monkeypatch):
+    base = mines.six_blocks(tmp_path)
+    monkeypatch.setattr(survey_facts, "MOST_PLACES_OF_CONES", 1)
+    told = survey_text(read_facts(base + ".plan", base))
+    assert "the ultimate pit was not sought" in told and "blocks of the pit are" not in told
