@@ -2,6 +2,10 @@
 from __future__ import annotations
 
 import argparse
+from typing import TYPE_CHECKING, Sequence
+
+if TYPE_CHECKING:
+    from pit_tools.plan_file import Grid, Zone
 
 HELP = """Tells how steep the walls are that the cones of a plan give, beside the slopes that it asks for.
 
@@ -54,7 +58,7 @@ def run(args: argparse.Namespace) -> int:
     return 0
 
 
-def _print_pit_of_one_block(grid, zone, decimals: int) -> None:
+def _print_pit_of_one_block(grid: Grid, zone: Zone, decimals: int) -> None:
     from pit_tools.walls import EIGHT, EIGHT_NAMES, MOST_BENCHES, measured
 
     walls, width = measured(grid, zone), decimals + 5
@@ -68,7 +72,7 @@ def _print_pit_of_one_block(grid, zone, decimals: int) -> None:
     print(f"first K within 2 degrees: {first[0]}, within 1: {first[1]}")
 
 
-def _print_walls(grid, zone, K: int, decimals: int) -> None:
+def _print_walls(grid: Grid, zone: Zone, K: int, decimals: int) -> None:
     from pit_tools.slope_words import heights_told
     from pit_tools.walls import EIGHT, asked_straight, straight_walls
 
@@ -82,7 +86,7 @@ def _print_walls(grid, zone, K: int, decimals: int) -> None:
         print(f"{f'{benches} benches high':26}{slopes}{max(0.0, (given - asked).max()):12.1f}")
 
 
-def _print_by_K_and_height(grid, zone, own_height: int) -> None:
+def _print_by_K_and_height(grid: Grid, zone: Zone, own_height: int) -> None:
     from pit_tools.slope_words import heights_told
     from pit_tools.walls import MOST_BENCHES, too_steep_at
 
@@ -94,14 +98,14 @@ def _print_by_K_and_height(grid, zone, own_height: int) -> None:
         print(f"{f'K = {K}':>14}{row}" + ("  the plan's K" if K == zone.benches else ""))
 
 
-def _print_advice(grid, zone, benches: int, within: float) -> None:
+def _print_advice(grid: Grid, zone: Zone, benches: int, within: float) -> None:
     from pit_tools.slope_words import advice
 
     for high in [benches] if benches else (5, 10, 20, 40):
         print(advice(grid, zone, high, within).told())
 
 
-def _print_brief(grid, zones, args: argparse.Namespace) -> None:
+def _print_brief(grid: Grid, zones: Sequence[Zone], args: argparse.Namespace) -> None:
     from pit_tools.slope_words import advice
     from pit_tools.walls import measured
 

@@ -1,0 +1,350 @@
+"""Reads the rows of exports, as texts, to arrays: places, tonnes or densities, grades, zones."""
+from __future__ import annotations
+
+import re
+from collections import Counter
+from typing import Optional, Sequence
+
+import numpy as np
+import pandas as pd
+
+from pit_tools.cells import Marks, marks_of
+from pit_tools.errors import UserError
+from pit_tools.export_words import Columns, Measure, Table, Words, columns_of, unit_doubts
+from pit_tools.formulas import column_name
+from pit_tools.import_report import Report
+from pit_tools.source import Source, is_number_like, source_of
+
+# Decimals that tonnes and grades keep until several rows of one block are summed.
+FINE = {"tonnes": 6, "grade": 9}
+
+COORDINATES = ("x", "y", "z")
+
+
+class Reading:
+    """Takes the pieces of exports, one after the other, to arrays."""
+
+    def __init__(self, words: Words) -> None:
+        self.words = words
+        self.pieces: dict[str, list[np.ndarray]] = {}
+        self.zone_numbers: dict[str, int] = {}
+        self.missing: dict[str, Counter] = {}
+        self.counts: Counter = Counter()
+        self.first_of: dict[str, tuple[int, int]] = {}
+        self.fine = FINE if words.is_merged else {"tonnes": 3, "grade": 6}
+        self.source_at = 0
+        self.first_record = 0
+        self.unknown_densities: Counter = Counter()
+
+    def keep(self, **columns: np.ndarray) -> None:
+        for name, values in columns.items():
+            self.pieces.setdefault(name, []).append(values)
+
+    def joined(self, name: str) -> Optional[np.ndarray]:
+        """A column of all pieces, or None; the pieces are given up."""
+        pieces = self.pieces.pop(name, None)
+        return np.concatenate(pieces) if pieces else None
+
+
+def read_export(path: str, words: Words, reading: Reading, report: Report) -> Source:
+    """Reads one export into the arrays."""
+    found: list[Columns] = []
+
+    def resolve(names: Sequence[str]) -> None:
+        found[:] = [columns_of(words, names)]
+
+    source = source_of(path, resolve, encoding=words.encoding, separator=words.separator, names=words.names, sheet=words.sheet)
+    columns, marks = found[0], None
+    key = _key_column(columns)
+    for table in source.chunks(columns.needed):
+        if marks is None:
+            table = _without_units(table, key, source)
+            reading.first_record = int(table.index[0])
+            marks = marks_of((table[at] for at in columns.numeric), decimal=words.decimal, thousands=words.thousands,
+                             missing=words.missing)
+            report.facts.append(source.told())
+            report.doubts += unit_doubts(columns, source.names, source.units)
+        Piece(table, source, columns, marks, reading).take()
+    if marks is not None:
+        report.facts += _marks_told(marks)
+        report.facts.append(_columns_told(columns, source.names))
+        reading.counts["money"] += columns.is_money
+    reading.source_at += 1
+    return source
+
+
+def _key_column(columns: Columns) -> int:
+    """A column that has a number in each row, by which rows of units are known."""
+    for key in (*COORDINATES, "i", "tonnes", "density", "grade"):
+        if key in columns.measures and columns.measures[key].formula.columns:
+            return columns.measures[key].formula.columns[0]
+    raise UserError("no formula has a column")
+
+
+def _without_units(table: pd.DataFrame, key: int, source: Source) -> pd.DataFrame:
+    """The first piece without the rows between the header and the first number, which the source keeps."""
+    if not source.has_header:
+        return table
+    for at in range(min(len(table), 100)):
+        if is_number_like(table[key].iloc[at]):
+            if at:
+                source.units = [_row_of(table.iloc[row], len(source.names)) for row in range(at)]
+            return table.iloc[at:]
+    raise UserError(f"{source.path}: no row below the header in line {source.header_line} has a number in the column "
+                    f"{source.names[key]}")
+
+
+def _row_of(row: pd.Series, width: int) -> list[str]:
+    return [str(row.get(at, "")) for at in range(width)]
+
+
+def _marks_told(marks: Marks) -> list[str]:
+    told = []
+    if marks.decimal == ",":
+        told.append("numbers have a decimal comma")
+    between = {mark: name for mark, name in ((".", "points"), (",", "commas"), ("'", "apostrophes"), ("’", "apostrophes"))}
+    seen = sorted({between.get(mark, "no-break spaces" if mark in "\u00a0\u202f" else "blanks") for mark in marks.seen})
+    if seen:
+        told.append(f"between thousands stand {' and '.join(seen)}")
+    return told
+
+
+def _columns_told(columns: Columns, names: Sequence[str]) -> str:
+    parts = [f"{key.replace('_', ' ')} {' '.join(measure.formula.text.split())}" + (f" ({measure.unit})" if measure.unit else "")
+             for key, measure in columns.measures.items()]
+    if columns.zone:
+        parts.append("zone " + " and ".join(" ".join(names[at].split()) for at in columns.zone))
+    return "read as " + ", ".join(parts)
+
+
+class Piece:
+    """Some rows of an export, as texts, and what is made of them."""
+
+    def __init__(self, table: pd.DataFrame, source: Source, columns: Columns, marks: Marks, reading: Reading) -> None:
+        self.table, self.source, self.columns, self.marks, self.reading = table, source, columns, marks, reading
+
+    def take(self) -> None:
+        """Puts the rows behind those that were read before."""
+        self.reading.counts["records"] += len(self.table)
+        self.drop_lines_that_are_no_rows()
+        if self.columns.filters:
+            self.filter()
+        if self.table.empty:
+            return
+        for key in ("x", "y", "z", "i", "j", "k"):
+            if key in self.columns.measures:
+                self.reading.keep(**{key: self.place(key)})
+        self.take_sizes()
+        self.take_tonnes()
+        self.take_grade()
+        self.take_zone()
+        self.reading.counts["rows"] += len(self.table)
+        self.reading.keep(record=self.table.index.to_numpy(np.int64), file=np.full(len(self.table), self.reading.source_at, np.int16))
+
+    def line(self, at: int) -> str:
+        """Where a row of the piece stands."""
+        return f"{self.source.path}: line {self.source.line_of(int(self.table.index[at]))}"
+
+    def drop_lines_that_are_no_rows(self) -> None:
+        """Leaves out rows that are empty where formulas look, the header where it stands again, and totals behind the last row."""
+        numeric = self.columns.numeric
+        kept = np.zeros(len(self.table), bool)
+        for at in numeric:
+            kept |= (self.table[at] != "").to_numpy()
+        if not kept.all():
+            self.reading.counts["empty lines"] += int((~kept).sum())
+            self.table = self.table[kept]
+        key = _key_column(self.columns)
+        again = (self.table[key] == self.source.names[key]).to_numpy()
+        if again.any():
+            self.reading.counts["headers that stand again"] += int(again.sum())
+            self.table = self.table[~again]
+        total = np.zeros(len(self.table), bool)
+        for at in range(len(self.table) - 1, max(len(self.table) - 4, -1), -1):
+            cells = [self.table[column].iloc[at].strip() for key in COORDINATES if key in self.columns.measures
+                     for column in self.columns.measures[key].formula.columns]
+            if not cells or any(is_number_like(cell) for cell in cells):
+                break
+            total[at] = True
+        if total.any():
+            self.reading.counts["lines behind the last row, as totals"] += int(total.sum())
+            self.table = self.table[~total]
+
+    def filter(self) -> None:
+        """Leaves out the rows that a filter does not let through."""
+        kept = np.ones(len(self.table), bool)
+        for formula, numbers, texts in self.columns.filters:
+            values = {column_name(at): self.marks.spelled(self.table[at]).floats for at in numbers}
+            values.update({column_name(at): self.keys_of([at]) for at in texts})
+            kept &= formula.holds(pd.DataFrame(values, index=self.table.index)).to_numpy()
+        self.reading.counts["filtered"] += int((~kept).sum())
+        self.table = self.table[kept]
+
+    def floats(self, measure: Measure, what: str) -> np.ndarray:
+        """A formula's values, in its own unit, NaN where a cell is missing. Negative ones of a measure are those of marks as -99."""
+        values = {}
+        for at in measure.formula.columns:
+            cells = self.marks.spelled(self.table[at])
+            numbers = cells.floats
+            self.refuse(cells.wrong, at)
+            if what not in COORDINATES and what not in "ijk":
+                self.count_missing(at, np.isnan(numbers) | (numbers < 0))
+                numbers[numbers < 0] = np.nan
+            values[column_name(at)] = numbers
+        table = pd.DataFrame(values, index=self.table.index)
+        found = measure.formula.value(table).to_numpy(float).copy()
+        found[np.isinf(found)] = np.nan
+        return found
+
+    def refuse(self, wrong: np.ndarray, column: int) -> None:
+        """Stops at the first cell that is no number."""
+        if not wrong.any():
+            return
+        at = int(np.flatnonzero(wrong)[0])
+        text = self.table[column].iloc[at].strip()
+        name = " ".join(self.source.names[column].split())
+        raise UserError(f"{self.line(at)}: the column {name} has `{text}`{_hint(text, self.marks)}")
+
+    def count_missing(self, column: int, missing: np.ndarray) -> None:
+        """Counts the texts that stand for what is missing."""
+        if missing.any():
+            name = " ".join(self.source.names[column].split())
+            counts = self.table[column][missing].str.strip().value_counts()
+            self.reading.missing.setdefault(name, Counter()).update(counts.to_dict())
+
+    def place(self, key: str) -> np.ndarray:
+        """Coordinates in thousandths of their unit, or indices; they are never missing."""
+        measure = self.columns.measures[key]
+        at = measure.formula.plain_column
+        if at is not None:
+            cells = self.marks.spelled(self.table[at])
+            self.refuse(cells.wrong | cells.missing, at)
+            return cells.parts(3)
+        values = self.floats(measure, key)
+        if np.isnan(values).any():
+            raise UserError(f"{self.line(int(np.flatnonzero(np.isnan(values))[0]))}: {key} cannot be computed: a cell is missing, or it is "
+                            "divided by 0")
+        return np.rint(values * 1000).astype(np.int64)
+
+    def measure(self, key: str, places: int) -> tuple[np.ndarray, np.ndarray]:
+        """A measure in 10**-places of the unit of pitc, int64, and where it is missing."""
+        measure = self.columns.measures[key]
+        at = measure.plain_column
+        if at is not None:
+            cells = self.marks.spelled(self.table[at])
+            self.refuse(cells.wrong, at)
+            parts = cells.parts(places)
+            missing = cells.missing | (parts < 0)
+            self.count_missing(at, missing)
+            return np.where(missing, 0, parts), missing
+        values = self.in_pitc_units(key)
+        missing = np.isnan(values) | (values < 0)
+        return np.rint(np.where(missing, 0, values) * 10 ** places).astype(np.int64), missing
+
+    def in_pitc_units(self, key: str) -> np.ndarray:
+        """A measure as floats in the unit of pitc."""
+        measure = self.columns.measures[key]
+        values = self.floats(measure, key)
+        with np.errstate(divide="ignore", invalid="ignore"):
+            values = float(measure.factor) / values if measure.divides else values * float(measure.factor)
+        values[np.isinf(values)] = np.nan
+        return values
+
+    def take_sizes(self) -> None:
+        """The sizes of sub-blocks, in thousandths of their unit, and their volumes in cubic metres."""
+        if "size_x" not in self.columns.measures:
+            return
+        volume = np.ones(len(self.table))
+        for axis in COORDINATES:
+            measure = self.columns.measures["size_" + axis]
+            size = self.floats(measure, "size_" + axis)
+            if not (size > 0).all():
+                raise UserError(f"{self.line(int(np.flatnonzero(~(size > 0))[0]))}: the size of a sub-block along {axis} is missing or 0")
+            self.reading.keep(**{"size_" + axis: size * 1000})
+            volume *= size * float(measure.factor)
+        self.reading.keep(sub_volume=volume)
+
+    def take_tonnes(self) -> None:
+        """Tonnes in parts, -1 where missing; or, of a density, floats until the volume of a block is known."""
+        if "tonnes" in self.columns.measures:
+            tonnes, missing = self.measure("tonnes", self.reading.fine["tonnes"])
+            if "share" not in self.columns.measures:
+                self.reading.keep(tonnes=np.where(missing | (tonnes == 0), -1, tonnes))
+                return
+            # Of a share of the block: tonnes wait for it as densities do for a volume.
+            self.reading.keep(density=np.where(missing, np.nan, tonnes / 10.0 ** self.reading.fine["tonnes"]))
+        else:
+            self.reading.keep(density=self.densities())
+        for key in ("volume", "share", "ore_share", "waste_density"):
+            if key in self.columns.measures:
+                self.reading.keep(**{key: self.in_pitc_units(key)})
+
+    def densities(self) -> np.ndarray:
+        """Tonnes a cubic metre, by the column and, where that is missing, by the table of rock codes."""
+        values = np.full(len(self.table), np.nan)
+        if "density" in self.columns.measures:
+            values = self.in_pitc_units("density")
+        if self.columns.densities:
+            texts = self.found_in(self.columns.densities)
+            numbers = texts.map({text: _number_or_nan(text) for text in texts.dropna().unique()}).to_numpy(float)
+            lacking = np.isnan(values)
+            unknown = lacking & texts.isna().to_numpy()
+            self.reading.unknown_densities.update(self.keys_of(self.columns.densities.columns)[unknown].value_counts().to_dict())
+            values = np.where(lacking, numbers, values)
+        return np.where(values > 0, values, np.nan)
+
+    def keys_of(self, columns: Sequence[int]) -> pd.Series:
+        """The texts of some columns, as one text each row."""
+        stripped = [self.table[at].map({text: text.strip() for text in self.table[at].unique()}) for at in columns]
+        keys = stripped[0]
+        for other in stripped[1:]:
+            keys = keys + "\t" + other
+        return keys
+
+    def found_in(self, table: Table) -> pd.Series:
+        """The value of a table for each row; NaN where none fits."""
+        keys = self.keys_of(table.columns)
+        return keys.map({key: table.find(key.split("\t")) for key in keys.unique()})
+
+    def take_grade(self) -> None:
+        grade, missing = self.measure("grade", self.reading.fine["grade"])
+        if self.columns.is_money:
+            self.reading.counts["negative returns"] += int(missing.sum())
+        self.reading.keep(grade=np.where(missing, -1, grade))
+
+    def take_zone(self) -> None:
+        """Numbers of zones, -1 where there is none."""
+        if self.columns.zones:
+            names = self.found_in(self.columns.zones).fillna("")
+        elif self.columns.zone:
+            keys = self.keys_of(self.columns.zone)
+            names = keys.map({key: "-".join(filter(None, key.split("\t"))) for key in keys.unique()})
+        else:
+            names = pd.Series("all", index=self.table.index)
+        numbers = {name: self.reading.zone_numbers.setdefault(name, len(self.reading.zone_numbers)) if name else -1
+                   for name in names.unique()}
+        self.reading.keep(zone=names.map(numbers).to_numpy(np.int32))
+
+
+def _number_or_nan(text: str) -> float:
+    try:
+        return float(text)
+    except ValueError:
+        raise UserError(f"the table of densities has `{text}`, which is no number") from None
+
+
+def _hint(text: str, marks: Marks) -> str:
+    """What may be meant by a cell that is no number."""
+    if not text:
+        return ", which is empty"
+    if text.endswith("%"):
+        return ": a share of a hundred is named by a unit, as --grade 'CU %', and its cells have no sign"
+    if text.startswith("<"):
+        return f": if it stands for nothing, give --missing '{text}'"
+    if "," in text and marks.decimal == "." and not marks.thousands:
+        return ": if its comma is decimal, give --decimal , and if it stands between thousands, --thousands ,"
+    if re.fullmatch(r"\d{4}-\d\d-\d\d.*|\d+-[A-Za-z]{3}", text):
+        return ": a spreadsheet has made a date of a number"
+    if marks.thousands and marks.thousands in text:
+        return f": `{marks.thousands}` stands between thousands in other rows"
+    return f": if it stands for what is not known, give --missing '{text}'"

@@ -1,0 +1,24 @@
+"""What is told of an import."""
+from __future__ import annotations
+
+from dataclasses import dataclass, field
+
+
+@dataclass
+class Report:
+    """What is told of an import: `facts` in order, and `doubts`, what is no fault and may be wrong."""
+
+    facts: list[str] = field(default_factory=list)
+    doubts: list[str] = field(default_factory=list)
+
+    def text(self) -> str:
+        lines = list(self.facts)
+        if self.doubts:
+            lines += ["", "LOOK AT"]
+            lines += [f"- {line}" for line in self.doubts]
+        return "\n".join(lines)
+
+
+def figure(value: float) -> str:
+    """A number with four figures, and no exponent."""
+    return f"{float(f'{value:.4g}'):,.10g}"
