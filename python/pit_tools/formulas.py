@@ -147,7 +147,7 @@ def _name_at(text: str, at: int, names: Sequence[str]) -> Optional[str]:
 
 def _column(name: str, places: dict[str, list[int]], columns: list[int]) -> str:
     if len(places[name]) > 1:
-        raise UserError(f"two columns `{name}`")
+        raise UserError(f"two columns `{name}`: rename the one that is not meant")
     columns.append(places[name][0])
     return column_name(places[name][0])
 
