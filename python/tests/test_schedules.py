@@ -4,6 +4,7 @@ import re
 
 import numpy as np
 import pytest
+import scipy.sparse.csgraph  # noqa: F401
 from scipy import sparse
 
 import mines
@@ -222,6 +223,10 @@ def test_the_flow_in_dimacs(tmp_path):
     assert lines[:6] == ["p max 8 13", "n 7 s", "n 8 t", "a 7 1 22194000", "a 7 2 30942000", "a 7 3 6156000"]
     assert lines[6:9] == ["a 4 8 530000", "a 7 5 2464500", "a 6 8 530000"]
     assert lines[9:11] == ["a 1 4 61756501", "a 1 5 61756501"] and len(lines) == 16
+    tail, head, most = np.array([list(map(int, line.split()[1:])) for line in lines[3:]]).T
+    arcs = sparse.csr_matrix((most.astype(np.int32), (tail - 1, head - 1)), shape=(8, 8))
+    flow = sparse.csgraph.maximum_flow(arcs, 6, 7).flow_value
+    assert most[tail == 7].sum() - flow == 60696500  # the pit's worth in cents: all blocks
 
 
 def test_bounds_of_the_six_blocks(tmp_path, capsys):
