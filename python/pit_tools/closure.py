@@ -40,14 +40,17 @@ def compiler() -> Optional[str]:
 
 
 def _folder() -> str:
-    """Where the compiled program is kept."""
+    """Where the compiled program is kept: the user's cache, or a folder of this run alone where that cannot be
+    written, which is left to the system's clearing."""
     home = os.environ.get("XDG_CACHE_HOME") or os.path.join(os.path.expanduser("~"), ".cache")
     folder = os.path.join(home, "pit-tools")
     try:
-        os.makedirs(folder, exist_ok=True)
+        os.makedirs(folder, mode=0o700, exist_ok=True)
+        if os.access(folder, os.W_OK):
+            return folder
     except OSError:
-        return tempfile.gettempdir()
-    return folder if os.access(folder, os.W_OK) else tempfile.gettempdir()
+        pass
+    return tempfile.mkdtemp(prefix="pit-tools-")
 
 
 @lru_cache(None)
@@ -55,7 +58,7 @@ def _library() -> Optional[ctypes.CDLL]:
     """The program, compiled where it was not yet; None where there is no compiler."""
     with open(SOURCE, "rb") as file:
         name = hashlib.sha256(file.read()).hexdigest()[:16]
-    path = os.path.join(_folder(), f"closure-{name}-{os.getuid() if hasattr(os, 'getuid') else 0}.so")
+    path = os.path.join(_folder(), f"closure-{name}.so")
     if not os.path.exists(path):
         program = compiler()
         if program is None:

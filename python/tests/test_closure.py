@@ -8,6 +8,7 @@ from scipy import sparse
 import mines
 from pit_tools import closure
 from pit_tools.commands import pit as pit_command
+from pit_tools.errors import UserError
 from pit_tools.instance import cents, read_instance
 from pit_tools.pits import read_pit, told
 from pit_tools.plan_file import read_plan
@@ -111,3 +112,25 @@ def test_a_pit_is_told_in_whole_cents(tmp_path):
     mine = read_instance(mines.six_blocks(tmp_path))
     in_pit = np.array([True, False, False, True, True, False])
     assert told(in_pit, mine.blocks, mine.upit.values) == "3 blocks, 8000.000 t, worth 241285.00"
+
+
+@pytest.mark.parametrize("home", ["cache", "file"])
+def test_the_program_is_made_where_the_cache_is_or_in_a_folder_of_the_run(tmp_path, monkeypatch, home):
+    (tmp_path / "file").write_text("no folder")
+    monkeypatch.setenv("XDG_CACHE_HOME", str(tmp_path / home))
+    closure._library.cache_clear()
+    arcs = sparse.csr_matrix(np.array([[0, 1], [0, 0]], np.int8))
+    assert closure.ultimate_pit(np.array([3.0, -2.0]), arcs).tolist() == [True, True]
+    assert bool(list(tmp_path.glob("cache/pit-tools/closure-*.so"))) == (home == "cache")
+    closure._library.cache_clear()
+
+
+def test_without_a_compiler_highs_finds_small_pits_and_great_ones_are_told(monkeypatch):
+    monkeypatch.setattr(closure, "is_compiled", lambda: False)
+    monkeypatch.setattr(closure, "MOST_ARCS_OF_HIGHS", 1)
+    arcs = sparse.csr_matrix(np.array([[0, 1, 0], [0, 0, 0], [0, 0, 0]], np.int8))
+    assert closure.ultimate_pit(np.array([3.0, -2.0, -1.0]), arcs).tolist() == [True, True, False]
+    more = sparse.csr_matrix(np.array([[0, 1, 1], [0, 0, 0], [0, 0, 0]], np.int8))
+    for call in (lambda: closure.ultimate_pit(np.array([3.0, -2.0, -1.0]), more), lambda: closure.immediate(more)):
+        with pytest.raises(UserError, match="compiler"):
+            call()
