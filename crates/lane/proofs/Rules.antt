@@ -15,7 +15,7 @@ use Rattle.lane.specs.Whole.{IsWhole}
 use Rattle.lane.specs.Rule.{Role, role_of, IsSeated, AreSeated, IsLaneAt, IsCounting, IsLane, parts_from, put_parts, take_parts, all_parts}
 use Rattle.lane.specs.Steps.{with_message, IsFree, HasEnded, MaySend, MayTake, full_view}
 use Rattle.lane.specs.Laws.{send_event, MakeIsTheOpening, LookFindsNothing}
-use Rattle.lane.specs.inner.Views.{IsOrdered, Takes, sent_lists, taken_lists, gathering_in}
+use Rattle.lane.specs.inner.Views.{IsOrdered, Takes, sent_lists, taken_lists, gathering_in, capacity_in}
 use Rattle.lane.specs.inner.Kept.{IsClosers, IsAllIn}
 use Rattle.lane.proofs.Lists.{all_get, some_at}
 use Rattle.lane.proofs.Seats.{at_part, has_left, has_right, has_part, at_within, role_of_part, every_set, every_more, opened}
@@ -152,7 +152,7 @@ look_finds_nothing n s items views pass files takers c sent took h at full =
     let d : 0 < n.takers = subst (λ k. 0 < k) p.1 full.some_taker in
     let e : s.stops ≡ n.takers = sym p.3 ∙ p.1 in (
       sym h.queue ∙ queue_empty n s h.lawful sent took a b d sent_is took_is full.done e,
-      whole n s h.lawful sent took a b d sent_is took_is full.done e,
+      whole n s h.lawful sent took a b d sent_is took_is full.done e c,
     )
 
 -- the look of a lane that is done finds nothing, and tells that it is whole
@@ -160,8 +160,10 @@ pub looked : (pass : ℕ) (v : List Part) (takers c : ℕ) → IsAllIn v takers 
     → Learns IsLane pass v (λ items. (items ≡ []) × IsWhole (gathering_in v))
 looked pass v takers c all items views h at =
     let o = open_at IsClosers items views pass v h at (subst IsClosers (sym all.part) tt) (λ e. e) (λ f w d e. e) in
-    look_finds_nothing o.0 o.1 items views pass (length (sent_lists v)) takers c (sent_lists v) (taken_lists v) o.2
-    (at ∙ ap some all.part) all.full
+    let whole = look_finds_nothing o.0 o.1 items views pass (length (sent_lists v)) takers c (sent_lists v) (taken_lists v) o.2
+    (at ∙ ap some all.part) all.full in
+    let counted : c ≡ capacity_in v = sym (ap capacity_in all.part) in
+    (whole.0, subst (λ k. IsWhole (record { capacity = k; sent = sent_lists v; took = taken_lists v })) counted whole.1)
 
 sents_take : (c k : ℕ) (took : List (List Taken)) → sent_lists (take_parts c k took) ≡ []
 sents_take c k [] = refl

@@ -131,8 +131,8 @@ module _ (n : Size) (s : State) (h : IsLawful n s) (sent took : List (List Taken
   was_sent (End f k) q = sent_here f k (End f k) q.1
   was_sent _ q = tt
 
-  pub whole : IsWhole (record { sent = sent; took = took })
-  whole = record {
+  pub whole : (capacity : ℕ) → IsWhole (record { capacity = capacity; sent = sent; took = took })
+  whole capacity = record {
     sents = λ f l e.
         let same = sent_is f l e in
         let below : f < n.files = let z = slice_get_within sent f l e in omega arith in

@@ -92,4 +92,4 @@ abbrev pub LookFindsNothing : Type 0
 LookFindsNothing =
     (n : Size) (s : State) (items : List Taken) (views : List (List Part)) (pass files takers capacity : ℕ) (sent took : List (List Taken))
     → IsLaneAt n s items views → get_elem? views pass ≡ some (full_view files takers capacity sent took) → IsFull takers files sent took
-    → (items ≡ []) × IsWhole (record { sent = sent; took = took })
+    → (items ≡ []) × IsWhole (record { capacity = capacity; sent = sent; took = took })

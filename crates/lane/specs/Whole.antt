@@ -5,8 +5,9 @@ use Rattle.lane.specs.declared.message.Taken.{Taken}
 use Rattle.lane.specs.declared.message.Taken.TheVariants.{Row, End, Stop, Quit}
 use Rattle.lane.specs.Message.{is_at, IsEndedFrom, Rises, EndsInStop}
 
--- what each file sent, and what each taker took
+-- for how many messages the queue had room, what each file sent, and what each taker took
 pub record GatheredView : Type 0 where
+  pub capacity : ℕ
   pub sent : List (List Taken)
   pub took : List (List Taken)
 

@@ -178,6 +178,7 @@ impl Stopped {
     pub fn gather<R: Wait>(self, rt: &R, takes: Vec<TakeEnd>) -> Gathered
         requires takes { AreTakesFrom self.lane self.takers 0 takes.items }
         requires done { All (λ take. is_done take.took ≡ true) takes.items }
+        ensures capacity { result.capacity ≡ self.lane.2 }
         ensures sent { result.sent ≡ self.sent }
         ensures took { result.took ≡ map (λ take. take.took) takes.items }
         ensures takers { length result.took ≡ self.takers }

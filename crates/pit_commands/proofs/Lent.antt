@@ -1,6 +1,7 @@
 -- Zone files that are lent to a run: it reads just these, and no feed of them fails.
-use Rattle.std.proofs.Common.{◌≡◌, ℕ, zero, suc, Bool, true, false, List, [], ◌∷◌, length, map, Option, Some, Result, Ok, Err, refl, ap, ◌∙◌, subst}
-use Rattle.std.specs.Prelude.{slice_get}
+use Rattle.std.proofs.Common.{◌≡◌, ℕ, zero, suc, Bool, true, false, List, [], ◌∷◌, length, map, Option, Some, Result, Ok, Err, refl, ap, ◌∙◌, sym, drop, subst, arith}
+use Rattle.std.specs.Prelude.{get_or}
+use Rattle.run_threads.specs.Refusing.{HasFailed}
 use Rattle.pit_compile.specs.ZoneFiles.{AreGiven, IsVerdict}
 use Rattle.pit_compile.specs.Compiling.{IsNotCompiled}
 use Rattle.pit_compile.specs.Settings.{IsSettingsFault}
@@ -23,27 +24,35 @@ pub given_texts : (lefts : List (Option (List ℕ))) (zones texts : List (List �
     → texts ≡ zones
 given_texts lefts zones texts e given = same_texts zones texts (subst (λ ls. AreGiven ls texts) e given)
 
-none_unsure : (zones : List (List ℕ)) (k : ℕ) → slice_get (map (λ _. true) zones) k ≡ Some false → ⊥
-none_unsure [] k h = absurd cc
-none_unsure (zone ∷ zones) zero h = absurd cc
-none_unsure (zone ∷ zones) (suc k) h = none_unsure zones k h
+module _ {F : Type 0} (is_sure : F → Bool) (failures : F → ℕ) where
+  -- of feeds that are all sure none fails
+  none_failed : (zones : List (List ℕ)) (feeds : List F) → map is_sure feeds ≡ map (λ _. true) zones → (k : ℕ)
+      → HasFailed is_sure failures feeds k → ⊥
+  none_failed zones [] same k h = absurd (let none = h.stands in cc)
+  none_failed [] (f ∷ fs) same k h = absurd (let n = ap length same in let z : ⊥ = omega arith in z)
+  none_failed (zone ∷ zones) (f ∷ fs) same zero h =
+      let is : f ≡ h.feed = cc (h.stands) in
+      let sure : is_sure f ≡ true = ap (λ l. get_or l 0 true) same in
+      let clash : false ≡ true = sym h.refused.unsure ∙ ap is_sure (sym is) ∙ sure in absurd cc
+  none_failed (zone ∷ zones) (f ∷ fs) same (suc k) h =
+      none_failed zones fs (ap (drop 1) same) k (record { feed = h.feed; stands = h.stands; refused = h.refused })
 
-module _ (plan : PlanParts) (formulas : List Formula) (zones : List (List ℕ)) (lefts : List (Option (List ℕ))) (sures : List Bool)
-    (left : lefts ≡ map Some zones) (sure : sures ≡ map (λ _. true) zones) where
-  by_verdict : (refusal : Refusal) → IsVerdict plan lefts refusal → IsRefusedBy plan zones refusal
-  by_verdict refusal h = subst (λ texts. IsRefusedBy plan texts refusal) (given_texts lefts zones h.texts left h.given) h.refused
+  module _ (plan : PlanParts) (formulas : List Formula) (zones : List (List ℕ)) (lefts : List (Option (List ℕ))) (feeds : List F)
+      (left : lefts ≡ map Some zones) (sure : map is_sure feeds ≡ map (λ _. true) zones) where
+    by_verdict : (refusal : Refusal) → IsVerdict plan lefts refusal → IsRefusedBy plan zones refusal
+    by_verdict refusal h = subst (λ texts. IsRefusedBy plan texts refusal) (given_texts lefts zones h.texts left h.given) h.refused
 
-  pub refused_by : (refusal : Refusal)
-      → ((kind : SettingsFault) → refusal ≡ Settings kind → IsSettingsFault plan (length zones) formulas pipe_settings kind)
-      → IsNotCompiled plan lefts sures refusal → PipeRefused plan formulas zones refusal
-  refused_by (Settings kind) settings h = settings kind refl
-  refused_by NoThread settings h = _
-  refused_by (FeedFailed file) settings h = none_unsure zones file (subst (λ us. slice_get us file ≡ Some false) sure h.unsure)
-  refused_by (TooLong file) settings h = by_verdict (TooLong file) h
-  refused_by (Row file fault) settings h = by_verdict (Row file fault) h
-  refused_by (Same first again) settings h = by_verdict (Same first again) h
-  refused_by (SinkFailed which) settings h = h
-  refused_by OutOfMemory settings h = _
+    pub refused_by : (refusal : Refusal)
+        → ((kind : SettingsFault) → refusal ≡ Settings kind → IsSettingsFault plan (length zones) formulas pipe_settings kind)
+        → IsNotCompiled plan lefts (HasFailed is_sure failures feeds) refusal → PipeRefused plan formulas zones refusal
+    refused_by (Settings kind) settings h = settings kind refl
+    refused_by NoThread settings h = _
+    refused_by (FeedFailed file) settings h = none_failed zones feeds sure file h.failed
+    refused_by (TooLong file) settings h = by_verdict (TooLong file) h
+    refused_by (Row file fault) settings h = by_verdict (Row file fault) h
+    refused_by (Same first again) settings h = by_verdict (Same first again) h
+    refused_by (SinkFailed which) settings h = h
+    refused_by OutOfMemory settings h = _
 
 -- the refusal of an answer, and the settings' fault of a refusal
 abbrev pub refusal_in : {A : Type 0} → Result A Refusal → Refusal

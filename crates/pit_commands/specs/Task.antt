@@ -1,5 +1,5 @@
 -- What a task does.
-use Rattle.std.specs.Prelude.{◌≡◌, ℕ, List, map, string_bytes}
+use Rattle.std.specs.Prelude.{◌≡◌, ℕ, Bool, List, Option, map, string_bytes}
 use Rattle.devices.specs.files.Opening.{Opening}
 use Rattle.devices.specs.sinks.SinkState.{SinkState}
 use Rattle.pit_compile.specs.Sinks.{all_told}
@@ -24,14 +24,16 @@ module _ {S : Type 0} (state : S → SinkState) (opened_old opened_new : List Op
   IsTaskDone (Pipe model) now out_old out_new = IsPrinted model.plan model.pieces.zones out_old out_new × (opened_new ≡ opened_old)
   IsTaskDone (Files plan settings zones sinks) (Files plan_now settings_now zones_now sinks_now) out_old out_new =
       TellsRows plan (map string_bytes zones.items) opened_old opened_new starts_old starts_new (all_told state sinks) (all_told state sinks_now)
-      settings.valuers out_old out_new
+      settings out_old out_new
   IsTaskDone (Files plan settings zones sinks) (Pipe model) out_old out_new = ⊥
 
-  -- why the task is refused at these destinations: as the pipe form is; or as a compile of files
-  abbrev pub IsNoTask : (old new : Task S) → List Formula → Refused → Type 0
-  IsNoTask (Pipe model) now formulas refused =
-      IsNoPipe model.plan formulas model.pieces.zones starts_old starts_new refused × (opened_new ≡ opened_old)
-  IsNoTask (Files plan settings zones sinks) (Files plan_now settings_now zones_now sinks_now) formulas refused =
-      IsNoCompile plan (map string_bytes zones.items) opened_old opened_new starts_old starts_new (all_told state sinks) (all_told state sinks_now)
-      formulas settings refused
-  IsNoTask (Files plan settings zones sinks) (Pipe model) formulas refused = ⊥
+  -- by what feeds of files have left, whether they are sure, and how many pulls they refused
+  module _ {F : Type 0} (left : F → Option (List ℕ)) (is_sure : F → Bool) (failures : F → ℕ) where
+    -- why the task is refused at these destinations: as the pipe form is; or as a compile of files
+    abbrev pub IsNoTask : (old new : Task S) → List Formula → Refused → Type 0
+    IsNoTask (Pipe model) now formulas refused =
+        IsNoPipe model.plan formulas model.pieces.zones starts_old starts_new refused × (opened_new ≡ opened_old)
+    IsNoTask (Files plan settings zones sinks) (Files plan_now settings_now zones_now sinks_now) formulas refused =
+        IsNoCompile plan (map string_bytes zones.items) opened_old opened_new starts_old starts_new (all_told state sinks)
+        (all_told state sinks_now) left is_sure failures formulas settings refused
+    IsNoTask (Files plan settings zones sinks) (Pipe model) formulas refused = ⊥

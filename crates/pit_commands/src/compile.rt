@@ -59,12 +59,12 @@ pub fn compile_into<R: Threads + Wait + Sync, O: Opener, S: Sink>(
     ensures done { let told = all_told S.state in
         OnOk result (TellsRows plan.now (map string_bytes zones.now) (O.opened files.old)
         (O.opened files.new) starts.old starts.new (told sinks.old) (told sinks.new)
-        settings.valuers out.old.items out.new.items) }
+        settings out.old.items out.new.items) }
     ensures kept { OnErr result (out.new.items ≡ out.old.items) }
     ensures refused { let told = all_told S.state in
         IfErr result (IsNoCompile plan.now (map string_bytes zones.now) (O.opened files.old)
         (O.opened files.new) starts.old starts.new (told sinks.old) (told sinks.new)
-        (formulas_of destinations.now) settings) }
+        O.Opened.left O.Opened.is_sure O.Opened.failures (formulas_of destinations.now) settings) }
 {
     let feeds = open_all(alloc, zones, files)?;
     let gathered = run_with_starts(

@@ -53,7 +53,7 @@ pub fn pipe<R: Threads + Wait + Sync>(
     ensures settings { (kind : ASettingsFault) → (result ≡ Err (Refusal.Settings kind))
         ↔ IsSettingsFault plan.now (length zones.now) (formulas_of destinations.now) pipe_settings
         kind }
-    ensures passed { IfOk result (HasPassed plan.now zones.now 4) }
+    ensures passed { IfOk result (HasPassed plan.now zones.now 4 64) }
     ensures printed { OnOk result (IsPrinted plan.now zones.now out.old.items out.new.items) }
     ensures refused { IfErr result (PipeRefused plan.now (formulas_of destinations.now) zones.now) }
     ensures kept { OnErr result (out.new.items ≡ out.old.items) }
@@ -76,7 +76,7 @@ pub fn pipe_with_starts<R: Threads + Wait + Sync>(
     ensures settings { (kind : ASettingsFault) → (result ≡ Err (Refusal.Settings kind))
         ↔ IsSettingsFault plan.now (length zones.now) (formulas_of destinations.now) pipe_settings
         kind }
-    ensures passed { IfOk result (HasPassed plan.now zones.now 4) }
+    ensures passed { IfOk result (HasPassed plan.now zones.now 4 64) }
     ensures printed { OnOk result (IsPrinted plan.now zones.now out.old.items out.new.items) }
     ensures refused { IfErr result (PipeRefused plan.now (formulas_of destinations.now) zones.now) }
     ensures kept { OnErr result (out.new.items ≡ out.old.items) }

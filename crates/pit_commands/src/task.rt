@@ -66,8 +66,8 @@ impl<S: Sink> Task<S> {
         ensures quiet { result ≡ 0 → lines.new.items ≡ lines.old.items }
         ensures kept { result ≢ 0 → text.new.items ≡ text.old.items }
         ensures refused { result ≢ 0 → EndsBy (IsNoTask S.state (O.opened files.old)
-            (O.opened files.new) starts.old starts.new self.old self.new
-            (formulas_of destinations.now))
+            (O.opened files.new) starts.old starts.new O.Opened.left O.Opened.is_sure
+            O.Opened.failures self.old self.new (formulas_of destinations.now))
             lines.old.items lines.new.items result }
     {
         match self {

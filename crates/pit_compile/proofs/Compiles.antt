@@ -1,5 +1,6 @@
 -- What the readers' answers and the collected rows say of the model.
-use Rattle.std.proofs.Common.{◌≡◌, ◌≤◌, ℕ, List, [], ◌∷◌, Bool, Option, None, Result, refl, sym, ◌∙◌, ap, subst, arith, length}
+use Rattle.std.proofs.Common.{◌≡◌, ◌≤◌, ℕ, List, [], ◌∷◌, Bool, Option, None, Result, refl, sym, ◌∙◌, ap, subst, arith, length, map}
+use Rattle.std.proofs.lemmas.List.{length-map}
 use Rattle.std.specs.List.{flat_map}
 use Rattle.lane.specs.declared.message.Taken.{Taken}
 use Rattle.pit_parts.specs.PlanFormulas.{formulas_of_plan}
@@ -33,14 +34,14 @@ pub record Compiles (plan : PlanParts) (lefts : List (Option (List ℕ))) (sents
   pub rows_are : rows ≡ model_rows plan texts
   pub model : AreModelRows plan rows
 
-pub compiles : (plan : PlanParts) (lefts : List (Option (List ℕ))) (sures : List Bool) (answers : List (Result (Unit {0}) ReadFault))
-    (sents : List (List Taken)) (rows : List Valued)
-    → AreZoneFiles → length lefts ≡ length plan.cones → length plan.cones ≤ 64
-    → AreRead plan.grid 0 lefts sures answers sents → refusal_in 0 answers ≡ None
-    → rows ≡ flat_map (rows_by (formulas_of_plan plan)) sents → Compiles plan lefts sents rows
-compiles plan lefts sures answers sents rows files count most h e collected =
-    let read = all_read plan.grid lefts sures answers sents h e in
-    let as_many = given_count lefts read.texts read.given in
+pub compiles : {F : Type 0} (left : F → Option (List ℕ)) (is_sure : F → Bool) (failures : F → ℕ) (plan : PlanParts) (feeds : List F)
+    (answers : List (Result (Unit {0}) ReadFault)) (sents : List (List Taken)) (rows : List Valued)
+    → AreZoneFiles → length feeds ≡ length plan.cones → length plan.cones ≤ 64
+    → AreRead left is_sure failures plan.grid 0 feeds answers sents → refusal_in 0 answers ≡ None
+    → rows ≡ flat_map (rows_by (formulas_of_plan plan)) sents → Compiles plan (map left feeds) sents rows
+compiles left is_sure failures plan feeds answers sents rows files count most h e collected =
+    let read = all_read left is_sure failures plan.grid feeds answers sents h e in
+    let as_many = given_count (map left feeds) read.texts read.given ∙ length-map feeds left in
     let same : rows ≡ model_rows plan read.texts
     = collected ∙ ap (flat_map (rows_by (formulas_of_plan plan))) read.sent ∙ sent_rows plan.grid (formulas_of_plan plan) 0 read.texts in
     record {
@@ -53,10 +54,10 @@ compiles plan lefts sures answers sents rows files count most h e collected =
     }
 
 -- a refusal of numbering is the verdict's
-pub repeat_refused : (plan : PlanParts) (lefts : List (Option (List ℕ))) (sures : List Bool) (sents : List (List Taken))
+pub repeat_refused : (plan : PlanParts) (lefts : List (Option (List ℕ))) (Failed : ℕ → Type 0) (sents : List (List Taken))
     (rows : List Valued) (r : Refusal)
-    → Compiles plan lefts sents rows → IsRepeat rows r → IsNotCompiled plan lefts sures r
-repeat_refused plan lefts sures sents rows (Same first again) m h =
+    → Compiles plan lefts sents rows → IsRepeat rows r → IsNotCompiled plan lefts Failed r
+repeat_refused plan lefts Failed sents rows (Same first again) m h =
     record { texts = m.texts; given = m.given; refused = (m.no_fault, subst (λ rs. IsRepeat rs (Same first again)) m.rows_are h) }
-repeat_refused plan lefts sures sents rows OutOfMemory m h = tt
-repeat_refused plan lefts sures sents rows other m h = absurd h
+repeat_refused plan lefts Failed sents rows OutOfMemory m h = tt
+repeat_refused plan lefts Failed sents rows other m h = absurd h

@@ -1,5 +1,5 @@
 -- What the answers of all readers say of the zone files.
-use Rattle.std.proofs.Common.{◌≡◌, ◌<◌, ◌≤◌, ◌+◌, ℕ, suc, List, [], ◌∷◌, Bool, true, false, nat_lt, Option, Some, None, Result, Ok, Err, MatchOption, refl, sym, ◌∙◌, ap, subst, arith, length, take, replicate}
+use Rattle.std.proofs.Common.{◌≡◌, ◌<◌, ◌≤◌, ◌+◌, ℕ, suc, List, [], ◌∷◌, Bool, true, false, nat_lt, Option, Some, None, Result, Ok, Err, MatchOption, refl, sym, ◌∙◌, ap, subst, arith, length, map, take, replicate}
 use Rattle.std.specs.Prelude.{slice_get, IfSome}
 use Rattle.std.specs.Option.{option_map}
 use Rattle.std.proofs.lemmas.Bool.Decides.{nat_tests}
@@ -11,6 +11,7 @@ use Rattle.pit_parts.specs.declared.grid.Grid.{Grid}
 use Rattle.pit_parts.specs.Plan.{PlanParts}
 use Rattle.run_threads.specs.MostBytes.{most_bytes}
 use Rattle.run_threads.specs.Reading.{AreRead, IsRead, IsReadTo}
+use Rattle.run_threads.specs.Refusing.{HasFailed}
 use Rattle.run_threads.specs.declared.read_fault.ReadFault.{ReadFault}
 use Rattle.run_threads.specs.declared.read_fault.ReadFault.TheVariants as read
 use Rattle.zone_csv.specs.Zone.{blocks_of}
@@ -64,119 +65,119 @@ pub record AreAllRead (grid : Grid) (n : ℕ) (lefts : List (Option (List ℕ)))
   pub no_fault : fault_in texts grid n ≡ None
   pub sent : sents ≡ files_send n grid texts
 
--- the reader of this file failed, and the refusal says why
-pub record IsUnread (grid : Grid) (refusal : Refusal) : Type 0 where
-  file : ℕ
-  left : Option (List ℕ)
-  sure : Bool
-  fault : ReadFault
-  sent : List Taken
-  unread : IsRead grid file left sure (Err fault) sent
-  is : refusal ≡ refusal_of file fault
-
--- that of the file which stands this many behind the first: whatever text it has, those before it have no fault
-pub record IsFirstUnread (grid : Grid) (n : ℕ) (lefts : List (Option (List ℕ))) (sures : List Bool) (refusal : Refusal) : Type 0 where
-  of : IsUnread grid refusal
-  behind : ℕ
-  is_file : of.file ≡ n + behind
-  sure : slice_get sures behind ≡ Some of.sure
-  texts : List ℕ → List (List ℕ)
-  given : (text : List ℕ) → IfSome of.left (λ bytes. text ≡ bytes) → AreGiven lefts (texts text)
-  none_before : (text : List ℕ) → fault_in (take behind (texts text)) grid n ≡ None
-  found : (text : List ℕ) (r : Refusal) → file_fault grid of.file text ≡ Some r → fault_in (texts text) grid n ≡ Some r
-
--- what is told of the files behind one that was read
-behind_read : (grid : Grid) (n : ℕ) (left : Option (List ℕ)) (lefts : List (Option (List ℕ))) (sure : Bool) (sures : List Bool)
-    (sent : List Taken) (sents : List (List Taken)) → IsReadTo grid n left None sent → (refusal : Option Refusal)
-    → MatchOption refusal (AreAllRead grid (n + 1) lefts sents) (IsFirstUnread grid (n + 1) lefts sures)
-    → MatchOption refusal (AreAllRead grid n (left ∷ lefts) (sent ∷ sents)) (IsFirstUnread grid n (left ∷ lefts) (sure ∷ sures))
-behind_read grid n left lefts sure sures sent sents h None rest = record {
-  texts = h.text ∷ rest.texts;
-  given = (h.given, rest.given);
-  no_fault = rw (fault_read grid n left None sent h) rest.no_fault;
-  sent = ap (λ s. s ∷ sents) h.sent_is ∙ ap (λ others. sent_from n 0 (blocks_of grid n h.text) ∷ others) rest.sent;
-}
-behind_read grid n left lefts sure sures sent sents h (Some refusal) rest =
-    let none : file_fault grid n h.text ≡ None = fault_read grid n left None sent h in
-    record {
-      of = rest.of;
-      behind = suc rest.behind;
-      is_file = rest.is_file ∙ omega arith;
-      sure = rest.sure;
-      texts = λ text. h.text ∷ rest.texts text;
-      given = λ text is. (h.given, rest.given text is);
-      none_before = λ text. rw none (rest.none_before text);
-      found = λ text r e. rw none (rest.found text r e);
-    }
-
-pub told : (grid : Grid) (n : ℕ) (lefts : List (Option (List ℕ))) (sures : List Bool) (answers : List (Result (Unit {0}) ReadFault))
-    (sents : List (List Taken)) → AreRead grid n lefts sures answers sents
-    → MatchOption (refusal_in n answers) (AreAllRead grid n lefts sents) (IsFirstUnread grid n lefts sures)
-told grid n [] [] [] [] h = record { texts = []; given = tt; no_fault = refl; sent = refl }
-told grid n (l ∷ ls) (u ∷ us) (Ok done ∷ answers) (s ∷ ss) h =
-    behind_read grid n l ls u us s ss h.0 (refusal_in (n + 1) answers) (told grid (n + 1) ls us answers ss h.1)
-told grid n (l ∷ ls) (u ∷ us) (Err fault ∷ answers) (s ∷ ss) h =
-    let others = some_texts ls in
-    record {
-      of = record { file = n; left = l; sure = u; fault = fault; sent = s; unread = h.0; is = refl };
-      behind = 0;
-      is_file = omega arith;
-      sure = refl;
-      texts = λ text. text ∷ others.0;
-      given = λ text is. (is, others.1);
-      none_before = λ text. refl;
-      found = λ text r e. rw e refl;
-    }
-told grid n _ _ _ _ h = absurd h
-
-pub all_read : (grid : Grid) (lefts : List (Option (List ℕ))) (sures : List Bool) (answers : List (Result (Unit {0}) ReadFault))
-    (sents : List (List Taken))
-    → AreRead grid 0 lefts sures answers sents → refusal_in 0 answers ≡ None → AreAllRead grid 0 lefts sents
-all_read grid lefts sures answers sents h e = MatchOption-at_none _ (IsFirstUnread grid 0 lefts sures) e (told grid 0 lefts sures answers sents h)
-
--- why a file was not read is why nothing is compiled, and it is none of the settings
-why_unread : (plan : PlanParts) (lefts : List (Option (List ℕ))) (sures : List Bool) (refusal : Refusal)
-    → IsFirstUnread plan.grid 0 lefts sures refusal
-    → IsNotCompiled plan lefts sures refusal × ((kind : SettingsFault) → refusal ≡ Settings kind → ⊥)
-why_unread plan lefts sures refusal h = rw h.of.is (by h.of.fault h.of.unread)
-  where
+-- by what feeds had left, whether they were sure, and how many pulls they had refused
+module _ {F : Type 0} (left : F → Option (List ℕ)) (is_sure : F → Bool) (failures : F → ℕ) where
+  -- the reader of this file failed, and the refusal says why
+  pub record IsUnread (grid : Grid) (refusal : Refusal) : Type 0 where
     file : ℕ
-    file = h.of.file
+    feed : F
+    fault : ReadFault
+    sent : List Taken
+    unread : IsRead left is_sure failures grid file feed (Err fault) sent
+    is : refusal ≡ refusal_of file fault
 
-    by : (fault : ReadFault) → IsRead plan.grid file h.of.left h.of.sure (Err fault) h.of.sent
-        → IsNotCompiled plan lefts sures (refusal_of file fault) × ((kind : SettingsFault) → refusal_of file fault ≡ Settings kind → ⊥)
-    by read.FeedFailed e =
-        let same : h.behind ≡ h.of.file = omega (arith, h.is_file) in
-        let some = some_text h.of.left in
-        let why : IsNotCompiled plan lefts sures (refusal_of file read.FeedFailed) = record {
-          texts = h.texts some.0;
-          given = h.given some.0 some.1;
-          none_before = subst (λ f. fault_in (take f (h.texts some.0)) plan.grid 0 ≡ None) same (h.none_before some.0);
-          unsure = subst (λ f. slice_get sures f ≡ Some false) same (h.sure ∙ ap (λ sure. Some sure) e);
-        } in
-        (why, λ kind is. cc)
-    by read.TooLong e =
-        let long = long_text h.of.left e in
-        let found = h.found long.0 (TooLong file) (too_long plan.grid file long.0 long.2) in
-        (record { texts = h.texts long.0; given = h.given long.0 long.1; refused = found }, λ kind is. cc)
-    by (read.Row fault) e =
-        let found = h.found e.text (Row file fault) (fault_read plan.grid file h.of.left (Some fault) h.of.sent e) in
-        (record { texts = h.texts e.text; given = h.given e.text e.given; refused = found }, λ kind is. cc)
-    by read.OutOfMemory e = (tt, λ kind is. cc)
+  -- that of the file which stands this many behind the first: whatever text it has, those before it have no fault
+  pub record IsFirstUnread (grid : Grid) (n : ℕ) (feeds : List F) (refusal : Refusal) : Type 0 where
+    of : IsUnread grid refusal
+    behind : ℕ
+    is_file : of.file ≡ n + behind
+    stands : slice_get feeds behind ≡ Some of.feed
+    texts : List ℕ → List (List ℕ)
+    given : (text : List ℕ) → IfSome (left of.feed) (λ bytes. text ≡ bytes) → AreGiven (map left feeds) (texts text)
+    none_before : (text : List ℕ) → fault_in (take behind (texts text)) grid n ≡ None
+    found : (text : List ℕ) (r : Refusal) → file_fault grid of.file text ≡ Some r → fault_in (texts text) grid n ≡ Some r
 
-pub not_read : (plan : PlanParts) (lefts : List (Option (List ℕ))) (sures : List Bool) (answers : List (Result (Unit {0}) ReadFault))
-    (sents : List (List Taken)) (refusal : Refusal)
-    → AreRead plan.grid 0 lefts sures answers sents → refusal_in 0 answers ≡ Some refusal
-    → IsNotCompiled plan lefts sures refusal × ((kind : SettingsFault) → refusal ≡ Settings kind → ⊥)
-not_read plan lefts sures answers sents refusal h e =
-    why_unread plan lefts sures refusal (MatchOption-at_some _ (IsFirstUnread plan.grid 0 lefts sures) refusal e
-    (told plan.grid 0 lefts sures answers sents h))
+  -- what is told of the files behind one that was read
+  behind_read : (grid : Grid) (n : ℕ) (feed : F) (feeds : List F) (sent : List Taken) (sents : List (List Taken))
+      → IsReadTo grid n (left feed) None sent → (refusal : Option Refusal)
+      → MatchOption refusal (AreAllRead grid (n + 1) (map left feeds) sents) (IsFirstUnread grid (n + 1) feeds)
+      → MatchOption refusal (AreAllRead grid n (map left (feed ∷ feeds)) (sent ∷ sents)) (IsFirstUnread grid n (feed ∷ feeds))
+  behind_read grid n feed feeds sent sents h None rest = record {
+    texts = h.text ∷ rest.texts;
+    given = (h.given, rest.given);
+    no_fault = rw (fault_read grid n (left feed) None sent h) rest.no_fault;
+    sent = ap (λ s. s ∷ sents) h.sent_is ∙ ap (λ others. sent_from n 0 (blocks_of grid n h.text) ∷ others) rest.sent;
+  }
+  behind_read grid n feed feeds sent sents h (Some refusal) rest =
+      let none : file_fault grid n h.text ≡ None = fault_read grid n (left feed) None sent h in
+      record {
+        of = rest.of;
+        behind = suc rest.behind;
+        is_file = rest.is_file ∙ omega arith;
+        stands = rest.stands;
+        texts = λ text. h.text ∷ rest.texts text;
+        given = λ text is. (h.given, rest.given text is);
+        none_before = λ text. rw none (rest.none_before text);
+        found = λ text r e. rw none (rest.found text r e);
+      }
 
--- there are as many answers and lists as files
-pub as_many : (grid : Grid) (n : ℕ) (lefts : List (Option (List ℕ))) (sures : List Bool) (answers : List (Result (Unit {0}) ReadFault))
-    (sents : List (List Taken))
-    → AreRead grid n lefts sures answers sents → (length answers ≡ length lefts) × (length sents ≡ length lefts)
-as_many grid n [] [] [] [] h = (refl, refl)
-as_many grid n (l ∷ ls) (u ∷ us) (a ∷ answers) (s ∷ ss) h =
-    let rest = as_many grid (n + 1) ls us answers ss h.1 in (omega arith, omega arith)
-as_many grid n _ _ _ _ h = absurd h
+  pub told : (grid : Grid) (n : ℕ) (feeds : List F) (answers : List (Result (Unit {0}) ReadFault)) (sents : List (List Taken))
+      → AreRead left is_sure failures grid n feeds answers sents
+      → MatchOption (refusal_in n answers) (AreAllRead grid n (map left feeds) sents) (IsFirstUnread grid n feeds)
+  told grid n [] [] [] h = record { texts = []; given = tt; no_fault = refl; sent = refl }
+  told grid n (f ∷ fs) (Ok done ∷ answers) (s ∷ ss) h =
+      behind_read grid n f fs s ss h.0 (refusal_in (n + 1) answers) (told grid (n + 1) fs answers ss h.1)
+  told grid n (f ∷ fs) (Err fault ∷ answers) (s ∷ ss) h =
+      let others = some_texts (map left fs) in
+      record {
+        of = record { file = n; feed = f; fault = fault; sent = s; unread = h.0; is = refl };
+        behind = 0;
+        is_file = omega arith;
+        stands = refl;
+        texts = λ text. text ∷ others.0;
+        given = λ text is. (is, others.1);
+        none_before = λ text. refl;
+        found = λ text r e. rw e refl;
+      }
+  told grid n _ _ _ h = absurd h
+
+  pub all_read : (grid : Grid) (feeds : List F) (answers : List (Result (Unit {0}) ReadFault)) (sents : List (List Taken))
+      → AreRead left is_sure failures grid 0 feeds answers sents → refusal_in 0 answers ≡ None → AreAllRead grid 0 (map left feeds) sents
+  all_read grid feeds answers sents h e = MatchOption-at_none _ (IsFirstUnread grid 0 feeds) e (told grid 0 feeds answers sents h)
+
+  -- why a file was not read is why nothing is compiled, and it is none of the settings
+  why_unread : (plan : PlanParts) (feeds : List F) (refusal : Refusal) → IsFirstUnread plan.grid 0 feeds refusal
+      → IsNotCompiled plan (map left feeds) (HasFailed is_sure failures feeds) refusal
+      × ((kind : SettingsFault) → refusal ≡ Settings kind → ⊥)
+  why_unread plan feeds refusal h = rw h.of.is (by h.of.fault h.of.unread)
+    where
+      file : ℕ
+      file = h.of.file
+
+      by : (fault : ReadFault) → IsRead left is_sure failures plan.grid file h.of.feed (Err fault) h.of.sent
+          → IsNotCompiled plan (map left feeds) (HasFailed is_sure failures feeds) (refusal_of file fault)
+          × ((kind : SettingsFault) → refusal_of file fault ≡ Settings kind → ⊥)
+      by read.FeedFailed e =
+          let same : h.behind ≡ h.of.file = omega (arith, h.is_file) in
+          let some = some_text (left h.of.feed) in
+          let why : IsNotCompiled plan (map left feeds) (HasFailed is_sure failures feeds) (refusal_of file read.FeedFailed) = record {
+            texts = h.texts some.0;
+            given = h.given some.0 some.1;
+            none_before = subst (λ f. fault_in (take f (h.texts some.0)) plan.grid 0 ≡ None) same (h.none_before some.0);
+            failed = record { feed = h.of.feed; stands = subst (λ f. slice_get feeds f ≡ Some h.of.feed) same h.stands; refused = e };
+          } in
+          (why, λ kind is. cc)
+      by read.TooLong e =
+          let long = long_text (left h.of.feed) e in
+          let found = h.found long.0 (TooLong file) (too_long plan.grid file long.0 long.2) in
+          (record { texts = h.texts long.0; given = h.given long.0 long.1; refused = found }, λ kind is. cc)
+      by (read.Row fault) e =
+          let found = h.found e.text (Row file fault) (fault_read plan.grid file (left h.of.feed) (Some fault) h.of.sent e) in
+          (record { texts = h.texts e.text; given = h.given e.text e.given; refused = found }, λ kind is. cc)
+      by read.OutOfMemory e = (tt, λ kind is. cc)
+
+  pub not_read : (plan : PlanParts) (feeds : List F) (answers : List (Result (Unit {0}) ReadFault)) (sents : List (List Taken))
+      (refusal : Refusal) → AreRead left is_sure failures plan.grid 0 feeds answers sents → refusal_in 0 answers ≡ Some refusal
+      → IsNotCompiled plan (map left feeds) (HasFailed is_sure failures feeds) refusal
+      × ((kind : SettingsFault) → refusal ≡ Settings kind → ⊥)
+  not_read plan feeds answers sents refusal h e =
+      why_unread plan feeds refusal (MatchOption-at_some _ (IsFirstUnread plan.grid 0 feeds) refusal e
+      (told plan.grid 0 feeds answers sents h))
+
+  -- there are as many answers and lists as feeds
+  pub as_many : (grid : Grid) (n : ℕ) (feeds : List F) (answers : List (Result (Unit {0}) ReadFault)) (sents : List (List Taken))
+      → AreRead left is_sure failures grid n feeds answers sents → (length answers ≡ length feeds) × (length sents ≡ length feeds)
+  as_many grid n [] [] [] h = (refl, refl)
+  as_many grid n (f ∷ fs) (a ∷ answers) (s ∷ ss) h =
+      let rest = as_many grid (n + 1) fs answers ss h.1 in (omega arith, omega arith)
+  as_many grid n _ _ _ h = absurd h

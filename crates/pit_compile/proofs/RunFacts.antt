@@ -1,5 +1,5 @@
 -- What the two halves of a run say of it.
-use Rattle.std.proofs.Common.{◌≡◌, ℕ, inl, inr, refl, Bool, List, Option, subst}
+use Rattle.std.proofs.Common.{◌≡◌, ℕ, inl, inr, refl, List, Option, subst}
 use Rattle.pit_parts.specs.Plan.{PlanParts}
 use Rattle.pit_compile.specs.Compiling.{IsCompiled, IsNotCompiled}
 use Rattle.pit_compile.specs.Run.{IsRefused}
@@ -14,28 +14,28 @@ use Rattle.pit_compile.specs.declared.refusal.Refusal.TheVariants.{Settings, NoT
 use Rattle.pit_compile.specs.declared.settings.SettingsFault.{SettingsFault}
 
 -- a run that is refused before it writes
-pub not_compiled : (plan : PlanParts) (lefts : List (Option (List ℕ))) (sures : List Bool) (told : TextName → SinkState) (refusal : Refusal)
-    → IsNotCompiled plan lefts sures refusal → IsRefused plan lefts sures told told refusal
-not_compiled plan lefts sures told (Settings kind) h = refl
-not_compiled plan lefts sures told NoThread h = refl
-not_compiled plan lefts sures told (FeedFailed file) h = (h, refl)
-not_compiled plan lefts sures told (TooLong file) h = (h, refl)
-not_compiled plan lefts sures told (Row file fault) h = (h, refl)
-not_compiled plan lefts sures told (Same first again) h = (h, refl)
-not_compiled plan lefts sures told (SinkFailed which) h = absurd h
-not_compiled plan lefts sures told OutOfMemory h = inl refl
+pub not_compiled : (plan : PlanParts) (lefts : List (Option (List ℕ))) (Failed : ℕ → Type 0) (told : TextName → SinkState) (refusal : Refusal)
+    → IsNotCompiled plan lefts Failed refusal → IsRefused plan lefts Failed told told refusal
+not_compiled plan lefts Failed told (Settings kind) h = refl
+not_compiled plan lefts Failed told NoThread h = refl
+not_compiled plan lefts Failed told (FeedFailed file) h = (h, refl)
+not_compiled plan lefts Failed told (TooLong file) h = (h, refl)
+not_compiled plan lefts Failed told (Row file fault) h = (h, refl)
+not_compiled plan lefts Failed told (Same first again) h = (h, refl)
+not_compiled plan lefts Failed told (SinkFailed which) h = absurd h
+not_compiled plan lefts Failed told OutOfMemory h = inl refl
 
 -- a run that is refused in writing
-pub cut_off : (plan : PlanParts) (lefts : List (Option (List ℕ))) (sures : List Bool) (valuers : ℕ) (old new : TextName → SinkState)
+pub cut_off : (plan : PlanParts) (lefts : List (Option (List ℕ))) (Failed : ℕ → Type 0) (valuers capacity : ℕ) (old new : TextName → SinkState)
     (c : Compiled) (refusal : Refusal)
-    → IsCompiled plan lefts valuers c → AreCutOff c.instance old new refusal → IsRefused plan lefts sures old new refusal
-cut_off plan lefts sures valuers old new c (SinkFailed which) h k =
+    → IsCompiled plan lefts valuers capacity c → AreCutOff c.instance old new refusal → IsRefused plan lefts Failed old new refusal
+cut_off plan lefts Failed valuers capacity old new c (SinkFailed which) h k =
     let cut_is = subst (λ (i : Instance). AreCutOffAt which 1 i old new) h.instance_is k in
     record { texts = h.texts; given = h.given; accepted = h.accepted; cut = cut_is }
-cut_off plan lefts sures valuers old new c OutOfMemory h k =
+cut_off plan lefts Failed valuers capacity old new c OutOfMemory h k =
     let cut_is = subst (λ (i : Instance). AreCutOffAt (k.0) 0 i old new) h.instance_is (k.1) in
     inr (k.0, record { texts = h.texts; given = h.given; accepted = h.accepted; cut = cut_is })
-cut_off plan lefts sures valuers old new c other h k = absurd k
+cut_off plan lefts Failed valuers capacity old new c other h k = absurd k
 
 -- and it is not refused for its settings
 pub cut_is_not_settings : (i : Instance) (old new : TextName → SinkState) (refusal : Refusal) (kind : SettingsFault)

@@ -1,5 +1,5 @@
--- What a run does, by what its feeds had left, which of them were sure, and what its sinks tell before and after.
-use Rattle.std.specs.Prelude.{◌≡◌, ◌↔◌, ◌+◌, ◌≤◌, ℕ, ◌⊎◌, Bool, List, length, Option, Result, Err, IfOk, IfErr}
+-- What a run does, by what its feeds had left, which of them failed, and what its sinks tell before and after.
+use Rattle.std.specs.Prelude.{◌≡◌, ◌↔◌, ◌+◌, ◌≤◌, ℕ, ◌⊎◌, List, length, Option, Result, Err, IfOk, IfErr}
 use Rattle.lane.specs.Whole.{GatheredView}
 use Rattle.pit_parts.specs.Plan.{PlanParts}
 use Rattle.pit_parts.specs.declared.formulas.formula.Formula.{Formula}
@@ -15,12 +15,12 @@ use Rattle.pit_compile.specs.declared.refusal.Refusal.TheVariants.{Settings, NoT
 use Rattle.pit_compile.specs.declared.settings.SettingsFault.{SettingsFault}
 
 -- the zone files are accepted, every row of every file passed the lane whole, and each sink holds its text of their instance
-pub record IsDone (plan : PlanParts) (lefts : List (Option (List ℕ))) (valuers : ℕ)
+pub record IsDone (plan : PlanParts) (lefts : List (Option (List ℕ))) (valuers capacity : ℕ)
     (old new : TextName → SinkState) (g : GatheredView) : Type 0 where
   pub texts : List (List ℕ)
   pub given : AreGiven lefts texts
   pub accepted : IsAccepted plan texts
-  pub passed : HasPassed plan texts valuers g
+  pub passed : HasPassed plan texts valuers capacity g
   pub written : AreWritten (instance_from plan texts) old new
 
 -- the zone files are accepted, and the sinks were cut off at this one
@@ -32,22 +32,22 @@ pub record IsStopped (plan : PlanParts) (lefts : List (Option (List ℕ))) (whic
   pub cut : AreCutOffAt which more (instance_from plan texts) old new
 
 -- why a run is refused, and how it leaves the sinks
-abbrev pub IsRefused : PlanParts → List (Option (List ℕ)) → List Bool
+abbrev pub IsRefused : PlanParts → List (Option (List ℕ)) → (ℕ → Type 0)
     → (TextName → SinkState) → (TextName → SinkState) → Refusal → Type 0
-IsRefused plan lefts sures old new (Settings kind) = new ≡ old
-IsRefused plan lefts sures old new NoThread = new ≡ old
-IsRefused plan lefts sures old new (FeedFailed file) = IsFeedFault plan lefts sures file × (new ≡ old)
-IsRefused plan lefts sures old new (TooLong file) = IsVerdict plan lefts (TooLong file) × (new ≡ old)
-IsRefused plan lefts sures old new (Row file fault) = IsVerdict plan lefts (Row file fault) × (new ≡ old)
-IsRefused plan lefts sures old new (Same first again) = IsVerdict plan lefts (Same first again) × (new ≡ old)
-IsRefused plan lefts sures old new (SinkFailed which) = IsStopped plan lefts which 1 old new
-IsRefused plan lefts sures old new OutOfMemory =
+IsRefused plan lefts Failed old new (Settings kind) = new ≡ old
+IsRefused plan lefts Failed old new NoThread = new ≡ old
+IsRefused plan lefts Failed old new (FeedFailed file) = IsFeedFault plan lefts Failed file × (new ≡ old)
+IsRefused plan lefts Failed old new (TooLong file) = IsVerdict plan lefts (TooLong file) × (new ≡ old)
+IsRefused plan lefts Failed old new (Row file fault) = IsVerdict plan lefts (Row file fault) × (new ≡ old)
+IsRefused plan lefts Failed old new (Same first again) = IsVerdict plan lefts (Same first again) × (new ≡ old)
+IsRefused plan lefts Failed old new (SinkFailed which) = IsStopped plan lefts which 1 old new
+IsRefused plan lefts Failed old new OutOfMemory =
     (new ≡ old) ⊎ ((which : TextName) × IsStopped plan lefts which 0 old new)
 
 -- what a run answers and does to its sinks, of a plan, destinations of these formulas, and settings, where it may start so many threads
-pub record Runs (plan : PlanParts) (formulas : List Formula) (chosen : Chosen) (lefts : List (Option (List ℕ))) (sures : List Bool)
+pub record Runs (plan : PlanParts) (formulas : List Formula) (chosen : Chosen) (lefts : List (Option (List ℕ))) (Failed : ℕ → Type 0)
     (starts : ℕ) (old new : TextName → SinkState) (answer : Result GatheredView Refusal) : Type 0 where
   pub settings : (kind : SettingsFault) → (answer ≡ Err (Settings kind)) ↔ IsSettingsFault plan (length lefts) formulas chosen kind
-  pub done : IfOk answer (IsDone plan lefts chosen.valuers old new)
-  pub refused : IfErr answer (IsRefused plan lefts sures old new)
+  pub done : IfOk answer (IsDone plan lefts chosen.valuers chosen.capacity old new)
+  pub refused : IfErr answer (IsRefused plan lefts Failed old new)
   pub budget : IfOk answer (λ _. chosen.valuers + length lefts ≤ starts)

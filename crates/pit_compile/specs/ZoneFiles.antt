@@ -1,5 +1,5 @@
 -- What a run has of its zone files: their texts, what passed the lane, the instance, or why there is none.
-use Rattle.std.specs.Prelude.{◌≡◌, ℕ, Bool, false, List, length, take, slice_get, Option, Some, None, IfSome}
+use Rattle.std.specs.Prelude.{◌≡◌, ℕ, List, length, take, Option, None, IfSome}
 use Rattle.std.specs.List.{AllZip}
 use Rattle.lane.specs.Whole.{GatheredView, IsWhole}
 use Rattle.mine_instance.specs.OfModel.{instance}
@@ -18,10 +18,11 @@ AreGiven lefts texts = AllZip (λ left text. IfSome left (λ bytes. text ≡ byt
 abbrev pub instance_from : PlanParts → List (List ℕ) → Instance
 instance_from plan texts = instance plan (blocks_of_rows (model_rows plan texts))
 
--- what went through the lane: of each zone file its rows and its end mark, whole, to so many valuers
-pub record HasPassed (plan : PlanParts) (texts : List (List ℕ)) (valuers : ℕ) (g : GatheredView) : Type 0 where
+-- what went through the lane of this capacity: of each zone file its rows and its end mark, whole, to so many valuers
+pub record HasPassed (plan : PlanParts) (texts : List (List ℕ)) (valuers capacity : ℕ) (g : GatheredView) : Type 0 where
   pub sent : g.sent ≡ model_sends plan texts
   pub takers : length g.took ≡ valuers
+  pub capacity_is : g.capacity ≡ capacity
   pub whole : IsWhole g
 
 -- the verdict on the zone files is this refusal
@@ -30,9 +31,9 @@ pub record IsVerdict (plan : PlanParts) (lefts : List (Option (List ℕ))) (refu
   pub given : AreGiven lefts texts
   pub refused : IsRefusedBy plan texts refusal
 
--- the feed of the file was not sure, and no file before it has a fault
-pub record IsFeedFault (plan : PlanParts) (lefts : List (Option (List ℕ))) (sures : List Bool) (file : ℕ) : Type 0 where
+-- the feed of the file failed, and no file before it has a fault
+pub record IsFeedFault (plan : PlanParts) (lefts : List (Option (List ℕ))) (Failed : ℕ → Type 0) (file : ℕ) : Type 0 where
   pub texts : List (List ℕ)
   pub given : AreGiven lefts texts
   pub none_before : fault_in (take file texts) plan.grid 0 ≡ None
-  pub unsure : slice_get sures file ≡ Some false
+  pub failed : Failed file

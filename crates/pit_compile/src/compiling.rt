@@ -13,6 +13,7 @@ ghost use Rattle.pit_parts.specs.Destinations.{formulas_of};
 ghost use Rattle.pit_parts.specs.PlanFormulas.{formulas_of_plan};
 ghost use Rattle.pit_parts.specs.declared.ranges.TheConstants.{MAX_VALUERS, MAX_ZONES};
 ghost use Rattle.run_threads.specs.Reading.{AreRead};
+ghost use Rattle.run_threads.specs.Refusing.{HasFailed};
 ghost use Rattle.run_threads.specs.Starts.{none_spent, AreSettled, AreSpent};
 ghost use Rattle.valuers.specs.Valuing.{items_by};
 
@@ -72,10 +73,12 @@ pub fn compile<R: Threads + Wait + Sync, F: Feed + Send + Drop, G: Gate + Sync>(
         ↔ IsSettingsFault plan.now (length feeds.items) (formulas_of destinations.now)
         budget.settings kind }
     ensures done { IfOk result
-        (IsCompiled plan.now (map F.left feeds.items) budget.settings.valuers) }
+        (IsCompiled plan.now (map F.left feeds.items) budget.settings.valuers
+        budget.settings.capacity) }
     ensures valid { IfOk result (λ compiled. IsValid compiled.instance) }
     ensures refused { IfErr result
-        (IsNotCompiled plan.now (map F.left feeds.items) (map F.is_sure feeds.items)) }
+        (IsNotCompiled plan.now (map F.left feeds.items)
+        (HasFailed F.is_sure F.failures feeds.items)) }
     ensures budget { IfOk result
         (λ _. budget.settings.valuers + length feeds.items ≤ budget.starts) }
 {
@@ -109,10 +112,12 @@ pub fn compile_with_starts<R: Threads + Wait + Sync, F: Feed + Send + Drop, G: G
     ensures settings { (kind : ASettingsFault) → (result ≡ Err (Refusal.Settings kind))
         ↔ IsSettingsFault plan.now (length feeds.items) (formulas_of destinations.now)
         settings kind }
-    ensures done { IfOk result (IsCompiled plan.now (map F.left feeds.items) settings.valuers) }
+    ensures done { IfOk result
+        (IsCompiled plan.now (map F.left feeds.items) settings.valuers settings.capacity) }
     ensures valid { IfOk result (λ compiled. IsValid compiled.instance) }
     ensures refused { IfErr result
-        (IsNotCompiled plan.now (map F.left feeds.items) (map F.is_sure feeds.items)) }
+        (IsNotCompiled plan.now (map F.left feeds.items)
+        (HasFailed F.is_sure F.failures feeds.items)) }
     ensures budget { IfOk result
         (λ _. settings.valuers + length feeds.items ≤ starts.old.allowed) }
 
@@ -155,15 +160,15 @@ fn compiled_of<F: Feed>(
     requires few { length plan.now.cones ≤ MAX_ZONES }
     requires whole { IsWhole handed.gathered }
     requires takers { length handed.gathered.took ≤ MAX_VALUERS }
-    requires read { AreRead plan.now.grid 0
-        (map F.left _feeds.value.items) (map F.is_sure _feeds.value.items)
+    requires read { AreRead F.left F.is_sure F.failures plan.now.grid 0 _feeds.value.items
         handed.answers.items handed.gathered.sent }
     requires valued { IsFalse handed.memory
         → handed.items.items ≡ map (items_by (formulas_of_plan plan.now)) handed.gathered.took }
 
     // What is compiled.
     ensures done { IfOk result
-        (IsCompiled plan.now (map F.left _feeds.value.items) (length handed.gathered.took)) }
+        (IsCompiled plan.now (map F.left _feeds.value.items) (length handed.gathered.took)
+        handed.gathered.capacity) }
     ensures valid { IfOk result (λ made. IsValid made.instance) }
 
     // Why nothing is: never for the settings, and for the answer of a reader where one did not finish.
@@ -172,7 +177,7 @@ fn compiled_of<F: Feed>(
     ensures files { IfSome (refusal_in 0 handed.answers.items) (λ refusal. result ≡ Err refusal) }
     ensures refused { IfErr result
         (IsNotCompiled plan.now (map F.left _feeds.value.items)
-        (map F.is_sure _feeds.value.items)) }
+        (HasFailed F.is_sure F.failures _feeds.value.items)) }
 {
     zone_files();
     let HandedOver {

@@ -6,6 +6,7 @@ ghost use Rattle.pit_compile.specs.Sinks.{all_told};
 ghost use Rattle.pit_compile.specs.Starts.{AreStartsOf};
 ghost use Rattle.pit_compile.specs.declared.running.TheConstants.{MOST_STARTS};
 ghost use Rattle.pit_parts.specs.Destinations.{formulas_of};
+ghost use Rattle.run_threads.specs.Refusing.{HasFailed};
 ghost use Rattle.run_threads.specs.Starts.{none_spent, AreSettled, AreSpent};
 
 use crate::compiling::{Compiled, compile_with_starts};
@@ -51,7 +52,7 @@ pub fn run<R: Threads + Wait + Sync, F: Feed + Send + Drop, G: Gate + Sync, S: S
 ) -> Result<Gathered, Refusal>
     ensures { let told = all_told S.state in
         Runs plan.now (formulas_of destinations.now) settings (map F.left feeds.items)
-        (map F.is_sure feeds.items) MOST_STARTS (told sinks.old) (told sinks.new) result }
+        (HasFailed F.is_sure F.failures feeds.items) MOST_STARTS (told sinks.old) (told sinks.new) result }
 {
     run_limited(
         rt,
@@ -80,7 +81,7 @@ pub fn run_limited<R: Threads + Wait + Sync, F: Feed + Send + Drop, G: Gate + Sy
 ) -> Result<Gathered, Refusal>
     ensures { let told = all_told S.state in
         Runs plan.now (formulas_of destinations.now) settings (map F.left feeds.items)
-        (map F.is_sure feeds.items) starts (told sinks.old) (told sinks.new) result }
+        (HasFailed F.is_sure F.failures feeds.items) starts (told sinks.old) (told sinks.new) result }
 {
     let mut starts = Starts::new(starts);
     run_with_starts(
@@ -111,7 +112,8 @@ pub fn run_with_starts<R: Threads + Wait + Sync, F: Feed + Send + Drop, G: Gate 
     requires unspent { starts.old ≡ none_spent starts.old.allowed }
     ensures runs { let told = all_told S.state in
         Runs plan.now (formulas_of destinations.now) settings (map F.left feeds.items)
-        (map F.is_sure feeds.items) starts.old.allowed (told sinks.old) (told sinks.new) result }
+        (HasFailed F.is_sure F.failures feeds.items) starts.old.allowed (told sinks.old)
+        (told sinks.new) result }
 
     // What was started.
     ensures started { IfOk result

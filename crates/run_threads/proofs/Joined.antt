@@ -23,9 +23,6 @@ pub map_step : {X Y : Type 0} (f : X → Y) (old : List X) (x : X) (y : Y) (l re
 map_step f old x y l rest all is same h =
     rw (map-append f old (x ∷ []), append_assoc (map f old) (f x ∷ []) rest, same, sym is) h
 
-pub map_through : {X Y Z : Type 0} (f : X → Y) (g : Y → Z) (xs : List X) (ys : List Y) → map f xs ≡ ys → map (λ x. g (f x)) xs ≡ map g ys
-map_through f g xs ys same = sym (map-map g f xs) ∙ ap (map g) same
-
 pub same_lengths : {X Y Z : Type 0} (f : X → Z) (g : Y → Z) (xs : List X) (ys : List Y) → map f xs ≡ map g ys → length xs ≡ length ys
 same_lengths f g xs ys same = sym (length-map xs f) ∙ ap length same ∙ length-map ys g
 
@@ -53,10 +50,10 @@ pub unsent_rest : (k : ℕ) (e : PutEndView) (l rest : List PutEndView) → l �
 unsent_rest k e l rest is h = subst (AreUnsentFrom k) is h
 
 -- the readers of one plan, whatever their handles are
-module _ {H : Type 0} (left : H → Option (List ℕ)) (sure : H → Bool) (plan : H → PlanParts) (end : H → PutEndView) (p : PlanParts)
-    (lane : Lane) (files : ℕ) where
+module _ {H F : Type 0} (left : F → Option (List ℕ)) (is_sure : F → Bool) (failures : F → ℕ) (feed : H → F) (plan : H → PlanParts)
+    (end : H → PutEndView) (p : PlanParts) (lane : Lane) (files : ℕ) where
   abbrev Kept : H → FileRead → Type 0
-  Kept h r = KeepsRead (plan h).grid (left h) (sure h) (end h) r.ended r.answer
+  Kept h r = KeepsRead left is_sure failures (plan h).grid (feed h) (end h) r.ended r.answer
 
   pub puts_of : (k n : ℕ) → k + n ≡ files → (hs : List H) (rs : List FileRead) → AllZip Kept hs rs → map end hs ≡ first_puts lane k n
       → ArePutsFrom lane files k (map (λ r. r.ended) rs)
@@ -70,7 +67,7 @@ module _ {H : Type 0} (left : H → Option (List ℕ)) (sure : H → Bool) (plan
 
   pub read_of : (k n : ℕ) (hs : List H) (rs : List FileRead) → AllZip Kept hs rs → All (λ h. plan h ≡ p) hs
       → map end hs ≡ first_puts lane k n
-      → AreRead p.grid k (map left hs) (map sure hs) (map (λ r. r.answer) rs) (map (λ (e : PutEndView). e.sent) (map (λ r. r.ended) rs))
+      → AreRead left is_sure failures p.grid k (map feed hs) (map (λ r. r.answer) rs) (map (λ (e : PutEndView). e.sent) (map (λ r. r.ended) rs))
   read_of k n [] [] kept plans ends = tt
   read_of k zero (h ∷ hs) (r ∷ rs) kept plans ends = absurd (let l = ap length ends in let z : ⊥ = omega arith in z)
   read_of k (suc n) (h ∷ hs) (r ∷ rs) kept plans ends =

@@ -1,4 +1,5 @@
 pub mod MostBytes
 pub mod Reading
+pub mod Refusing
 pub mod Starts
 pub mod inner

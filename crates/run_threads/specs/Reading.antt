@@ -1,5 +1,5 @@
 -- What a reader did with its zone file: what it sent into the lane, and what it answered.
-use Rattle.std.specs.Prelude.{◌≡◌, ℕ, ◌+◌, ◌<◌, ◌≤◌, Bool, false, List, [], ◌∷◌, length, Option, Some, None, IfSome, Result, Ok, Err}
+use Rattle.std.specs.Prelude.{◌≡◌, ℕ, ◌+◌, ◌<◌, ◌≤◌, Bool, List, [], ◌∷◌, length, Option, Some, None, IfSome, Result, Ok, Err}
 use Rattle.lane.specs.Message.{sent_from}
 use Rattle.lane.specs.declared.message.Taken.{Taken}
 use Rattle.pit_parts.specs.declared.grid.Grid.{Grid}
@@ -8,6 +8,7 @@ use Rattle.zone_csv.specs.declared.row_fault.RowFault.{RowFault}
 use Rattle.run_threads.specs.declared.read_fault.ReadFault.{ReadFault}
 use Rattle.run_threads.specs.declared.read_fault.ReadFault.TheVariants.{FeedFailed, TooLong, Row, OutOfMemory}
 use Rattle.run_threads.specs.MostBytes.{most_bytes}
+use Rattle.run_threads.specs.Refusing.{HasRefused}
 
 -- the reader read a text, the feed's where the feed tells its bytes, up to this fault of it, and sent the blocks before the fault
 pub record IsReadTo (grid : Grid) (file : ℕ) (left : Option (List ℕ)) (fault : Option RowFault) (sent : List Taken) : Type 0 where
@@ -17,22 +18,22 @@ pub record IsReadTo (grid : Grid) (file : ℕ) (left : Option (List ℕ)) (fault
   pub fault_is : fault_of grid file text ≡ fault
   pub sent_is : sent ≡ sent_from file 0 (blocks_of grid file text)
 
--- a reader's answer, and what it sent, by what its feed had left and whether the feed was sure
-abbrev pub IsRead : Grid → ℕ → Option (List ℕ) → Bool → Result (Unit {0}) ReadFault → List Taken → Type 0
-IsRead grid file left sure (Ok done) sent = IsReadTo grid file left None sent
-IsRead grid file left sure (Err (Row fault)) sent = IsReadTo grid file left (Some fault) sent
-IsRead grid file left sure (Err TooLong) sent = IfSome left (λ bytes. most_bytes < length bytes)
-IsRead grid file left sure (Err FeedFailed) sent = sure ≡ false
-IsRead grid file left sure (Err OutOfMemory) sent = Unit {0}
+-- by what feeds had left, whether they were sure, and how many pulls they had refused
+module _ {F : Type 0} (left : F → Option (List ℕ)) (is_sure : F → Bool) (failures : F → ℕ) where
+  -- a reader's answer, and what it sent, by its feed
+  abbrev pub IsRead : Grid → ℕ → F → Result (Unit {0}) ReadFault → List Taken → Type 0
+  IsRead grid file feed (Ok done) sent = IsReadTo grid file (left feed) None sent
+  IsRead grid file feed (Err (Row fault)) sent = IsReadTo grid file (left feed) (Some fault) sent
+  IsRead grid file feed (Err TooLong) sent = IfSome (left feed) (λ bytes. most_bytes < length bytes)
+  IsRead grid file feed (Err FeedFailed) sent = HasRefused is_sure failures feed
+  IsRead grid file feed (Err OutOfMemory) sent = Unit {0}
 
--- the same of each file, from file k on
-abbrev pub AreRead : Grid → ℕ → List (Option (List ℕ)) → List Bool → List (Result (Unit {0}) ReadFault) → List (List Taken) → Type 0
-AreRead grid k [] [] [] [] = Unit {0}
-AreRead grid k (left ∷ lefts) (sure ∷ sures) (answer ∷ answers) (sent ∷ sents) =
-    IsRead grid k left sure answer sent × AreRead grid (k + 1) lefts sures answers sents
-AreRead grid k [] [] [] (s ∷ ss) = ⊥
-AreRead grid k [] [] (a ∷ as') ss = ⊥
-AreRead grid k [] (u ∷ us) as' ss = ⊥
-AreRead grid k (l ∷ ls) [] as' ss = ⊥
-AreRead grid k (l ∷ ls) (u ∷ us) [] ss = ⊥
-AreRead grid k (l ∷ ls) (u ∷ us) (a ∷ as') [] = ⊥
+  -- the same of each feed, from that of file k on
+  abbrev pub AreRead : Grid → ℕ → List F → List (Result (Unit {0}) ReadFault) → List (List Taken) → Type 0
+  AreRead grid k [] [] [] = Unit {0}
+  AreRead grid k (feed ∷ feeds) (answer ∷ answers) (sent ∷ sents) =
+      IsRead grid k feed answer sent × AreRead grid (k + 1) feeds answers sents
+  AreRead grid k [] [] (s ∷ ss) = ⊥
+  AreRead grid k [] (a ∷ as') ss = ⊥
+  AreRead grid k (f ∷ fs) [] ss = ⊥
+  AreRead grid k (f ∷ fs) (a ∷ as') [] = ⊥

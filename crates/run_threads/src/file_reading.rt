@@ -47,7 +47,7 @@ pub fn read_file<R: Wait, F: Feed + Drop, G: Gate>(
 ) -> FileRead
     requires { IsUnsent plan.now file put_end }
     ensures end { (result.ended.lane ≡ put_end.lane) × (result.ended.file ≡ file) }
-    ensures read { IsRead plan.now.grid file (F.left feed) (F.is_sure feed)
+    ensures read { IsRead F.left F.is_sure F.failures plan.now.grid file feed
         result.answer result.ended.sent }
     ensures passed { G.passed_reader gate.now file }
 {
@@ -70,7 +70,7 @@ fn put_file<R: Wait, F: Feed, G: Gate>(
 ) -> Result<(), ReadFault>
     requires { IsUnsent plan.now file put_end.old }
     ensures end { (put_end.new.lane ≡ put_end.old.lane) × (put_end.new.file ≡ file) }
-    ensures read { IsRead plan.now.grid file (F.left feed.old) (F.is_sure feed.old) result
+    ensures read { IsRead F.left F.is_sure F.failures plan.now.grid file feed.old result
         (put_end.new.sent ++ Taken.End file (length put_end.new.sent) ∷ []) }
     ensures passed { G.passed_reader gate.now file }
 {
@@ -87,7 +87,7 @@ fn put_file<R: Wait, F: Feed, G: Gate>(
 fn slurped<F: Feed>(alloc: Global, feed: &mut F) -> Result<Vec<u8>, ReadFault>
     ensures whole { IfOk result (λ text. IfSome (F.left feed.old) (λ bytes. text.items ≡ bytes)) }
     ensures short { IfOk result (λ text. vec_len text ≤ most_bytes) }
-    ensures fault { IfErr result (λ fault. IsUnread (F.left feed.old) (F.is_sure feed.old) fault) }
+    ensures fault { IfErr result (IsUnread F.left F.is_sure F.failures feed.old) }
 {
     match slurp(alloc, feed, MAX_FILE_BYTES as u64) {
         Ok(text) => Ok(text),

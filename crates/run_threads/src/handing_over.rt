@@ -94,13 +94,14 @@ pub fn hand_over<R: Threads + Wait + Sync, F: Feed + Send + Drop, G: Gate + Sync
     // What was read, and what the valuers made of it.
     ensures whole { IfOk result (λ handed. IsWhole handed.gathered) }
     ensures read { IfOk result (λ handed.
-        AreRead plan.now.grid 0 (map F.left feeds.items) (map F.is_sure feeds.items)
+        AreRead F.left F.is_sure F.failures plan.now.grid 0 feeds.items
         handed.answers.items handed.gathered.sent) }
     ensures valued { IfOk result (λ handed. IsFalse handed.memory
         → handed.items.items ≡ map (items_by (formulas_of_plan plan.now)) handed.gathered.took) }
 
-    // How many threads there were.
+    // How many threads there were, and how long the lane was.
     ensures takers { IfOk result (λ handed. length handed.gathered.took ≡ allowance.valuers) }
+    ensures capacity { IfOk result (λ handed. handed.gathered.capacity ≡ allowance.capacity) }
     ensures budget { IfOk result (λ _.
         allowance.valuers + length feeds.items ≤ starts.old.allowed) }
 
@@ -139,9 +140,9 @@ pub fn hand_over<R: Threads + Wait + Sync, F: Feed + Send + Drop, G: Gate + Sync
         rt,
         move |scope| -> Settled
             requires unspent { lent ≡ none_spent lent.allowed }
-            ensures handed { IfOk result.handed (IsHandedOver ready.entry.shared.plan.now
-                (map F.left ready.entry.feeds.items) (map F.is_sure ready.entry.feeds.items)
-                ready.entry.lane.closer.takers) }
+            ensures handed { IfOk result.handed (IsHandedOver F.left F.is_sure F.failures
+                ready.entry.shared.plan.now ready.entry.feeds.items
+                ready.entry.lane.closer.takers ready.entry.lane.closer.lane.2) }
             ensures started { IfOk result.handed (λ _. AreSpent
                 (ready.entry.lane.closer.takers + vec_len ready.entry.feeds) result.starts) }
             ensures refused { IfErr result.handed (λ _. result.starts.refused ≡ true) }

@@ -1,6 +1,6 @@
 //! The threads of a run within a scope, from the first start to the last join.
 
-ghost use Rattle.std.specs.Prelude.{◌≡◌, ◌+◌, map, true, vec_len, IfErr, IfOk};
+ghost use Rattle.std.specs.Prelude.{◌≡◌, ◌+◌, true, vec_len, IfErr, IfOk};
 ghost use Rattle.run_threads.specs.Starts.{none_spent, AreSettled, AreSpent};
 ghost use Rattle.run_threads.specs.inner.HandingOver.{IsHandedOver};
 
@@ -34,9 +34,9 @@ pub fn hand_over_in<'s, E, T: Threads, R: Wait + Sync, F: Feed + Send + Drop + '
     ready: Ready<'s, R, F, G>,
 ) -> Settled
     requires unspent { starter ≡ none_spent starter.allowed }
-    ensures handed { IfOk result.handed (IsHandedOver ready.entry.shared.plan.now
-        (map F.left ready.entry.feeds.items) (map F.is_sure ready.entry.feeds.items)
-        ready.entry.lane.closer.takers) }
+    ensures handed { IfOk result.handed (IsHandedOver F.left F.is_sure F.failures
+        ready.entry.shared.plan.now ready.entry.feeds.items
+        ready.entry.lane.closer.takers ready.entry.lane.closer.lane.2) }
 
     // The starts: one for each valuer and each file, or one was refused. Each thread is joined.
     ensures started { IfOk result.handed (λ _.

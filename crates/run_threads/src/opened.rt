@@ -33,6 +33,7 @@ pub fn open_lane(
     requires capacity { (1 ≤ capacity) × (capacity ≤ MAX_CAPACITY) }
     ensures files { IfOk result (λ lane. lane.closer.files ≡ files) }
     ensures takers { IfOk result (λ lane. lane.closer.takers ≡ valuers) }
+    ensures capacity { IfOk result (λ lane. lane.closer.lane.2 ≡ capacity) }
 {
     let (closer, puts, takes) = open(alloc, files, valuers, capacity)?;
     Ok(Opened {

@@ -20,8 +20,8 @@ pub struct ReadBy<F> {
 impl<F: Feed> Promise<FileRead> for ReadBy<F> {
     ghost use Rattle.run_threads.specs.inner.Promises.{KeepsRead};
 
-    ghost kept_by = { λ p r. KeepsRead p.plan.value.grid (F.left p.feed.value)
-        (F.is_sure p.feed.value) p.end.value r.ended r.answer };
+    ghost kept_by = { λ p r. KeepsRead F.left F.is_sure F.failures p.plan.value.grid p.feed.value
+        p.end.value r.ended r.answer };
 }
 
 // A reader ends by itself, while valuers take: before the lane is closed.

@@ -43,8 +43,13 @@ taken_lists [] = []
 taken_lists (Take taker capacity took ∷ v) = took ∷ taken_lists v
 taken_lists (_ ∷ v) = taken_lists v
 
+-- the capacity that the closer's part counted
+abbrev pub capacity_in : List Part → ℕ
+capacity_in (Close files takers capacity stops quits ∷ v) = capacity
+capacity_in _ = 0
+
 abbrev pub gathering_in : List Part → GatheredView
-gathering_in v = record { sent = sent_lists v; took = taken_lists v }
+gathering_in v = record { capacity = capacity_in v; sent = sent_lists v; took = taken_lists v }
 
 -- how the views change as the lane is opened: one more file, taker or place; the count becomes all parts; the second part moves to a new pass
 abbrev pub more_files : List Part → List Part

@@ -7,10 +7,12 @@ use Rattle.valuers.specs.Valuing.{items_by}
 use Rattle.run_threads.specs.Reading.{AreRead}
 use Rattle.run_threads.specs.declared.handing_over.HandedOver.{HandedOver}
 
--- handed over by so many valuers of a plan, from feeds that had this left and were sure or not
-pub record IsHandedOver (plan : PlanParts) (lefts : List (Option (List ℕ))) (sures : List Bool) (valuers : ℕ)
-    (handed : HandedOver) : Type 0 where
+-- handed over by so many valuers of a plan, through a lane of this capacity, from these feeds, by what they had left, whether they were
+-- sure, and how many pulls they had refused
+pub record IsHandedOver {F : Type 0} (left : F → Option (List ℕ)) (is_sure : F → Bool) (failures : F → ℕ) (plan : PlanParts)
+    (feeds : List F) (valuers capacity : ℕ) (handed : HandedOver) : Type 0 where
   pub whole : IsWhole handed.gathered
-  pub read : AreRead plan.grid 0 lefts sures handed.answers.items handed.gathered.sent
+  pub capacity_is : handed.gathered.capacity ≡ capacity
+  pub read : AreRead left is_sure failures plan.grid 0 feeds handed.answers.items handed.gathered.sent
   pub valued : IsFalse handed.memory → handed.items.items ≡ map (items_by (formulas_of_plan plan)) handed.gathered.took
   pub takers : length handed.gathered.took ≡ valuers

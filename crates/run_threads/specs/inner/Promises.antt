@@ -10,10 +10,11 @@ use Rattle.rows.specs.declared.item.Item.{Item}
 use Rattle.run_threads.specs.Reading.{IsRead}
 use Rattle.run_threads.specs.declared.read_fault.ReadFault.{ReadFault}
 
--- a reader that was given this end ended it, and read its file
-abbrev pub KeepsRead : Grid → Option (List ℕ) → Bool → PutEndView → PutEndView → Result (Unit {0}) ReadFault → Type 0
-KeepsRead grid left sure given ended answer =
-    (ended.lane ≡ given.lane) × (ended.file ≡ given.file) × IsRead grid given.file left sure answer ended.sent
+-- a reader that was given this feed and this end ended the end, and read its file
+module _ {F : Type 0} (left : F → Option (List ℕ)) (is_sure : F → Bool) (failures : F → ℕ) where
+  abbrev pub KeepsRead : Grid → F → PutEndView → PutEndView → Result (Unit {0}) ReadFault → Type 0
+  KeepsRead grid feed given ended answer =
+      (ended.lane ≡ given.lane) × (ended.file ≡ given.file) × IsRead left is_sure failures grid given.file feed answer ended.sent
 
 -- a valuer that was given this end took until it was done, and valued what it took
 abbrev pub KeepsValued : List Formula → TakeEndView → TakeEndView → List Item → Bool → Type 0

@@ -46,8 +46,8 @@ pub fn settle<'s, E, T: Threads, R: Wait, F: Feed>(
     requires room { IsRoomFor closer.files closer.takers room }
 
     // What they hand over, and that each of them is joined.
-    ensures handed { IsHandedOver _plan.now (map (λ h. F.left h.promise.feed.value) readers.items)
-        (map (λ h. F.is_sure h.promise.feed.value) readers.items) closer.takers result }
+    ensures handed { IsHandedOver F.left F.is_sure F.failures _plan.now
+        (map (λ h. h.promise.feed.value) readers.items) closer.takers closer.lane.2 result }
     ensures counted { starter.new
         ≡ after_joins (vec_len readers + vec_len valuers) starter.old }
 {

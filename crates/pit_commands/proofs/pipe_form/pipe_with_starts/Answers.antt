@@ -58,14 +58,14 @@ returns-in_err-compiled-clause-refused g c =
     let formulas = formulas_of c.args.destinations.now in
     let zones = c.args.zones.now in
     let fact : PipeRefused plan formulas zones c.in_err-compiled.field-0.0 =
-    refused_by plan formulas zones _ _ c.in_ok-feeds.ensures.left c.in_ok-feeds.ensures.sure c.in_err-compiled.field-0.0
+    refused_by _ _ plan formulas zones _ c.in_ok-feeds.feeds.items c.in_ok-feeds.ensures.left c.in_ok-feeds.ensures.sure c.in_err-compiled.field-0.0
     (λ kind e. subst (λ n. IsSettingsFault plan n formulas pipe_settings kind) c.in_ok-feeds.ensures.count
     ((c.in_err-compiled.ensures.settings kind).0 (ap Err e))) c.in_err-compiled.ensures.refused in search rules
 
 pub returns-clause-passed : goal.returns-clause-passed
 returns-clause-passed g c =
     let done = c.in_ok-compiled.ensures.done in
-    subst (λ texts. HasPassed c.args.plan.now texts 4 c.in_ok-compiled.compiled.gathered)
+    subst (λ texts. HasPassed c.args.plan.now texts 4 64 c.in_ok-compiled.compiled.gathered)
     (given_texts _ c.args.zones.now done.texts c.in_ok-feeds.ensures.left done.given) done.passed
 
 pub returns-clause-printed : goal.returns-clause-printed

@@ -1,11 +1,11 @@
 use Rattle.std.proofs.Common.{◌≡◌, ◌≤◌, List, None, map, refl, sym, ◌∙◌, ap, subst, arith, length, All}
-use Rattle.std.proofs.lemmas.List.{length-map}
 use Rattle.std.proofs.lemmas.Result.{err_from_is_err_and}
 use Rattle.lane.specs.MessageKinds.{row_count}
 use Rattle.lane.specs.declared.message.Taken.{Taken}
 use Rattle.mine_instance.specs.OfModel.{instance}
 use Rattle.precedence.specs.Identifier.{blocks_of_rows}
 use Rattle.rows.specs.declared.item.Valued.{Valued}
+use Rattle.run_threads.specs.Refusing.{HasFailed}
 use Rattle.pit_compile.specs.inner.ReadAnswers.{refusal_in}
 use Rattle.pit_compile.specs.Compiling.{IsNotCompiled}
 use Rattle.pit_compile.specs.Verdict.{AreApart}
@@ -21,22 +21,19 @@ use Rattle.pit_compile.proofs.compiling.compiled_of.Given.{Over}
 
 pub require_read-requires : goal.require_read-requires
 require_read-requires g c =
-    let lefts = map g.F.Feed.left c.args._feeds.value.items in
-    let sures = map g.F.Feed.is_sure c.args._feeds.value.items in
     let handed = c.args.handed in
-    let many = as_many c.args.plan.now.grid 0 lefts sures handed.answers.items handed.gathered.sent c.requires.read in
-    let feeds = length-map c.args._feeds.value.items g.F.Feed.left in
+    let many = as_many g.F.Feed.left g.F.Feed.is_sure g.F.Feed.failures c.args.plan.now.grid 0 c.args._feeds.value.items
+    handed.answers.items handed.gathered.sent c.requires.read in
     let lent = ap length c.as_slice.ensures.value in
-    omega (arith, many.0, feeds, lent, c.requires.few)
+    omega (arith, many.0, lent, c.requires.few)
 
 -- why the first file that was not read was not
 refused : (g : Over) (c : In_err-require_read g)
-    → IsNotCompiled c.args.plan.now (map g.F.Feed.left c.args._feeds.value.items) (map g.F.Feed.is_sure c.args._feeds.value.items)
-    c.in_err-require_read.field-0.0
+    → IsNotCompiled c.args.plan.now (map g.F.Feed.left c.args._feeds.value.items)
+    (HasFailed g.F.Feed.is_sure g.F.Feed.failures c.args._feeds.value.items) c.in_err-require_read.field-0.0
     × ((kind : SettingsFault) → c.in_err-require_read.field-0.0 ≡ Settings kind → ⊥)
 refused g c =
-    not_read c.args.plan.now (map g.F.Feed.left c.args._feeds.value.items) (map g.F.Feed.is_sure c.args._feeds.value.items)
-    c.args.handed.answers.items c.args.handed.gathered.sent c.in_err-require_read.field-0.0 c.requires.read
+    not_read g.F.Feed.left g.F.Feed.is_sure g.F.Feed.failures c.args.plan.now c.args._feeds.value.items c.args.handed.answers.items c.args.handed.gathered.sent c.in_err-require_read.field-0.0 c.requires.read
     (ap (refusal_in 0) (sym c.as_slice.ensures.value) ∙ c.in_err-require_read.ensures.refused)
 
 pub returns-in_err-require_read-clause-settings : goal.returns-in_err-require_read-clause-settings
@@ -62,32 +59,29 @@ returns-in_err-instance-clause-behind g c =
 
 pub collect-requires-clause-files : goal.collect-requires-clause-files
 collect-requires-clause-files g c =
-    let lefts = map g.F.Feed.left c.args._feeds.value.items in
-    let sures = map g.F.Feed.is_sure c.args._feeds.value.items in
     let handed = c.args.handed in
-    let many = as_many c.args.plan.now.grid 0 lefts sures handed.answers.items handed.gathered.sent c.requires.read in
-    many.1 ∙ length-map c.args._feeds.value.items g.F.Feed.left ∙ c.requires.files
+    let many = as_many g.F.Feed.left g.F.Feed.is_sure g.F.Feed.failures c.args.plan.now.grid 0 c.args._feeds.value.items
+    handed.answers.items handed.gathered.sent c.requires.read in
+    many.1 ∙ c.requires.files
 
 pub collect-requires-clause-few : goal.collect-requires-clause-few
 collect-requires-clause-few g c =
     let grid = c.args.plan.now.grid in
-    let lefts = map g.F.Feed.left c.args._feeds.value.items in
-    let sures = map g.F.Feed.is_sure c.args._feeds.value.items in
     let handed = c.args.handed in
     let files : AreZoneFiles = record { few = c.zone_files.ensures.few; own = c.zone_files.ensures.own } in
     let none : refusal_in 0 handed.answers.items ≡ None = ap (refusal_in 0) (sym c.as_slice.ensures.value)
     ∙ c.in_ok-require_read.ensures.read in
-    let read = all_read grid lefts sures handed.answers.items handed.gathered.sent c.requires.read none in
+    let read = all_read g.F.Feed.left g.F.Feed.is_sure g.F.Feed.failures grid c.args._feeds.value.items handed.answers.items
+    handed.gathered.sent c.requires.read none in
     subst (λ (sents : List (List Taken)). All (λ sent. row_count sent ≤ 1000000) sents) (sym read.sent) (few_sents grid files 0 read.texts)
 
 -- what the collected rows say of the model
 model : (g : Over) (c : In_ok-rows g)
     → Compiles c.args.plan.now (map g.F.Feed.left c.args._feeds.value.items) c.args.handed.gathered.sent c.in_ok-rows.rows
 model g c =
-    compiles c.args.plan.now (map g.F.Feed.left c.args._feeds.value.items) (map g.F.Feed.is_sure c.args._feeds.value.items)
-    c.args.handed.answers.items c.args.handed.gathered.sent c.in_ok-rows.rows
+    compiles g.F.Feed.left g.F.Feed.is_sure g.F.Feed.failures c.args.plan.now c.args._feeds.value.items c.args.handed.answers.items c.args.handed.gathered.sent c.in_ok-rows.rows
     (record { few = c.zone_files.ensures.few; own = c.zone_files.ensures.own })
-    (length-map c.args._feeds.value.items g.F.Feed.left ∙ c.requires.files) c.requires.few c.requires.read
+    c.requires.files c.requires.few c.requires.read
     (ap (refusal_in 0) (sym c.as_slice.ensures.value) ∙ c.in_ok-require_read.ensures.read) c.in_ok-rows.ensures
 
 pub instance_of_rows-requires : goal.instance_of_rows-requires
@@ -96,7 +90,7 @@ instance_of_rows-requires g c = (model g (goal.at.instance_of_rows-requires g c)
 pub returns-in_err-instance-clause-refused : goal.returns-in_err-instance-clause-refused
 returns-in_err-instance-clause-refused g c =
     let p = err_from_is_err_and c.from_residual-in_err-instance.result c.from_residual-in_err-instance.ensures.1 in
-    rw (p.1, p.2) (repeat_refused c.args.plan.now _ (map g.F.Feed.is_sure c.args._feeds.value.items) _ _ c.in_err-instance.field-0.0
+    rw (p.1, p.2) (repeat_refused c.args.plan.now _ (HasFailed g.F.Feed.is_sure g.F.Feed.failures c.args._feeds.value.items) _ _ c.in_err-instance.field-0.0
     (model g (goal.at.returns-in_err-instance-clause-refused g c).In_ok-rows) c.in_err-instance.ensures.refused)
 
 pub returns-clause-done : goal.returns-clause-done
@@ -111,6 +105,6 @@ returns-clause-done g c =
         no_fault = made.no_fault;
         apart = subst (λ (rows : List Valued). AreApart (blocks_of_rows rows)) made.rows_are c.in_ok-instance.ensures.apart;
       };
-      passed = record { sent = made.sent; takers = refl; whole = c.requires.whole };
+      passed = record { sent = made.sent; takers = refl; capacity_is = refl; whole = c.requires.whole };
       instance_is = built;
     }

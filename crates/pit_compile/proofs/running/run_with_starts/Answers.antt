@@ -3,6 +3,7 @@ use Rattle.std.proofs.lemmas.List.{length-map}
 use Rattle.std.proofs.lemmas.Result.{err_from_is_err_and}
 use Rattle.mine_instance.specs.Instance.{Instance}
 use Rattle.pit_parts.specs.Destinations.{formulas_of}
+use Rattle.run_threads.specs.Refusing.{HasFailed}
 use Rattle.pit_compile.specs.Settings.{IsSettingsFault}
 use Rattle.pit_compile.specs.Sinks.{all_told, AreWritten}
 use Rattle.pit_compile.specs.declared.refusal.Refusal.TheVariants.{Settings}
@@ -15,7 +16,7 @@ returns-in_err-gathered-clause-runs g c =
     let plan = c.args.plan.now in
     let formulas = formulas_of c.args.destinations.now in
     let lefts = map g.F.Feed.left c.args.feeds.items in
-    let sures = map g.F.Feed.is_sure c.args.feeds.items in
+    let failed = HasFailed g.F.Feed.is_sure g.F.Feed.failures c.args.feeds.items in
     let many = length-map c.args.feeds.items g.F.Feed.left in
     rw (p.1, p.2) (record {
       settings = λ kind. (
@@ -23,7 +24,7 @@ returns-in_err-gathered-clause-runs g c =
         λ h. cc ((c.in_err-gathered.ensures.settings kind).1 (subst (λ n. IsSettingsFault plan n formulas c.args.settings kind) many h)),
       );
       done = tt;
-      refused = not_compiled plan lefts sures (all_told g.S.Sink.state c.args.sinks.now) c.in_err-gathered.field-0.0
+      refused = not_compiled plan lefts failed (all_told g.S.Sink.state c.args.sinks.now) c.in_err-gathered.field-0.0
           c.in_err-gathered.ensures.refused;
       budget = tt;
     })
@@ -34,7 +35,7 @@ returns-in_err-write_texts-clause-runs g c =
     let plan = c.args.plan.now in
     let formulas = formulas_of c.args.destinations.now in
     let lefts = map g.F.Feed.left c.args.feeds.items in
-    let sures = map g.F.Feed.is_sure c.args.feeds.items in
+    let failed = HasFailed g.F.Feed.is_sure g.F.Feed.failures c.args.feeds.items in
     let many = length-map c.args.feeds.items g.F.Feed.left in
     let old = all_told g.S.Sink.state c.args.sinks.now in
     let new = all_told g.S.Sink.state c.write_texts.new.sinks in
@@ -49,7 +50,7 @@ returns-in_err-write_texts-clause-runs g c =
             (subst (λ n. IsSettingsFault plan n formulas c.args.settings kind) many h))),
       );
       done = tt;
-      refused = cut_off plan lefts sures c.args.settings.valuers old new c.in_ok-gathered.field-0 why c.in_ok-gathered.ensures.done cut;
+      refused = cut_off plan lefts failed c.args.settings.valuers c.args.settings.capacity old new c.in_ok-gathered.field-0 why c.in_ok-gathered.ensures.done cut;
       budget = tt;
     })
 

@@ -1,5 +1,6 @@
-use Rattle.std.proofs.Common.{rules, ◌≡◌, map, sym}
-use Rattle.run_threads.proofs.Joined.{first_unsent, map_through}
+use Rattle.std.proofs.Common.{rules, ◌≡◌, map, subst}
+use Rattle.run_threads.specs.inner.HandingOver.{IsHandedOver}
+use Rattle.run_threads.proofs.Joined.{first_unsent}
 use Rattle.run_threads.proofs.in_scope.hand_over_in.Goals as goal
 
 pub start_readers-readers-requires-clause-unsent :
@@ -13,7 +14,5 @@ returns-clause-handed g c =
     let handles = c.start_readers-readers.result.handles.items in
     let feeds = c.args.ready.feeds.items in
     let fed : map (λ h. h.promise.feed.value) handles ≡ feeds = c.start_readers-readers.ensures.feeds (search rules) in
-    rw (
-      sym (map_through (λ h. h.promise.feed.value) g.F.Feed.left handles feeds fed),
-      sym (map_through (λ h. h.promise.feed.value) g.F.Feed.is_sure handles feeds fed),
-    ) c.settle-handed.ensures.handed
+    subst (λ fs. IsHandedOver g.F.Feed.left g.F.Feed.is_sure g.F.Feed.failures c.args.ready.shared.plan.now fs c.args.ready.lane.closer.takers
+    c.args.ready.lane.closer.lane.2 c.settle-handed.result) fed c.settle-handed.ensures.handed

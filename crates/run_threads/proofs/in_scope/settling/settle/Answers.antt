@@ -7,9 +7,8 @@ use Rattle.run_threads.proofs.in_scope.settling.settle.Goals as goal
 pub stop-stopped-requires : goal.stop-stopped-requires
 stop-stopped-requires g c =
     record {
-      puts = rw c.split_reads-ended.ensures.ended (puts_of (λ h. g.F.Feed.left h.promise.feed.value)
-          (λ h. g.F.Feed.is_sure h.promise.feed.value) (λ h. h.promise.plan.value) (λ h. h.promise.end.value) c.args._plan.now
-          c.args.closer.lane c.args.closer.files 0 c.args.closer.files (omega arith) c.args.readers.items c.join_all-reads.result.items
+      puts = rw c.split_reads-ended.ensures.ended (puts_of g.F.Feed.left g.F.Feed.is_sure g.F.Feed.failures
+          (λ h. h.promise.feed.value) (λ h. h.promise.plan.value) (λ h. h.promise.end.value) c.args._plan.now c.args.closer.lane c.args.closer.files 0 c.args.closer.files (omega arith) c.args.readers.items c.join_all-reads.result.items
           c.join_all-reads.ensures.kept c.requires.ends);
     }
 
@@ -32,13 +31,14 @@ returns-clause-handed g c =
     let lane = c.args.closer.lane in
     record {
       whole = search rules;
+      capacity_is = search rules;
       read = rw (
         c.split_reads-ended.ensures.answers,
         c.gather-gathered.ensures.sent,
         c.stop-stopped.ensures.sent,
         c.split_reads-ended.ensures.ended,
       )
-          (read_of (λ h. g.F.Feed.left h.promise.feed.value) (λ h. g.F.Feed.is_sure h.promise.feed.value) (λ h. h.promise.plan.value)
+          (read_of g.F.Feed.left g.F.Feed.is_sure g.F.Feed.failures (λ h. h.promise.feed.value) (λ h. h.promise.plan.value)
           (λ h. h.promise.end.value) plan lane c.args.closer.files 0 c.args.closer.files c.args.readers.items c.join_all-reads.result.items
           c.join_all-reads.ensures.kept c.requires.read_plans c.requires.ends);
       valued = λ fine.
