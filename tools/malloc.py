@@ -15,22 +15,24 @@ TOLD = 199
 
 
 def compiler():
-    """The path of a compiler and the words that it needs."""
+    """The path of a compiler and the arguments that it needs, or None where there is none."""
     here = list(filter(None, map(shutil.which, ["cc", "gcc", "clang"])))
     if here:
         return here[:1]
     rt = os.path.realpath(shutil.which("rt") or "/none/none/rt")
     tools = os.path.join(os.path.dirname(os.path.dirname(rt)), "toolchain", "bin")
     if not os.path.exists(os.path.join(tools, "clang")):
-        sys.exit("tools/refused-memory: no cc, gcc or clang here, so nothing is compared")
+        return None
     return [os.path.join(tools, "clang"), "--ld-path=" + os.path.join(tools, "ld.lld")]
 
 
 def build(folder):
     """The library of this malloc."""
     library, source = os.path.join(folder, "malloc.so"), os.path.join(TOP, "tools", "malloc.c")
-    words = ["-shared", "-fPIC", "-O1", "-nostdlib", "-fno-builtin", "-o", library, source]
-    subprocess.run([*compiler(), *words], check=True)
+    words, by = ["-shared", "-fPIC", "-O1", "-nostdlib", "-fno-builtin", "-o", library, source], compiler()
+    if by is None:
+        sys.exit("tools/refused-memory: no cc, gcc or clang here, so nothing is compared")
+    subprocess.run([*by, *words], check=True)
     return library
 
 

@@ -1,5 +1,6 @@
 """What the scripts of tools/ that are written in Python share."""
 import argparse
+import glob
 import os
 import shutil
 import subprocess
@@ -49,6 +50,11 @@ def with_program(doc):
     help_of_it = "a built pitc, as crates/pitc/out/pitc, which rt run leaves there"
     parser.add_argument("program", type=os.path.abspath, help=help_of_it)
     return parser
+
+
+def pages_with_recipes():
+    """The pages whose blocks of commands are run."""
+    return sorted(glob.glob(os.path.join(TOP, "docs/*.md")))
 
 
 def read(path):

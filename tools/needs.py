@@ -1,0 +1,120 @@
+"""What pages, recipes and tests call beside the toolchain, and which packages of Debian bring it."""
+import os
+import re
+import shutil
+import subprocess
+from typing import Dict, Iterable, List, NamedTuple, Optional, Tuple
+
+import malloc
+import shared
+
+
+class Need(NamedTuple):
+    """A program by its names, of which one is enough; the package of Debian that brings it, where not
+    each system has it; and what calls it."""
+
+    names: List[str]
+    package: str
+    callers: str
+
+
+NEEDS = [
+    Need(["bash"], "", "the gate, completions, a recipe"),
+    Need(["cat"], "", "recipes: cksum, cp, head, ls, sort, tr, wc and the like are beside it"),
+    Need(["awk"], "", "recipes"),
+    Need(["grep"], "", "recipes"),
+    Need(["sed"], "", "recipes"),
+    Need(["xargs"], "", "recipes"),
+    Need(["cmp"], "", "recipes"),
+    Need(["sha256sum"], "", "recipes, tools/archive"),
+    Need(["gzip"], "", "a recipe"),
+    Need(["git"], "git", "tools/archive: the commit, and which files there are"),
+    Need(["cbc"], "coinor-cbc", "recipes: schedules"),
+    Need(["glpsol"], "glpk-utils", "recipes: the pit as a linear program"),
+    Need(["g++", "c++", "clang++"], "g++", "recipes and tests of python/: the pit"),
+    Need(["cc", "gcc", "clang"], "gcc", "tools/refused-memory"),
+    Need(["zsh"], "zsh", "completions"),
+    Need(["fish"], "fish", "completions"),
+    Need(["groff"], "groff-base", "tools/man-page"),
+    Need(["man"], "man-db", "README: man pitc"),
+    Need(["dpkg-deb"], "", "tools/archive: the Debian package"),
+    Need(["time"], "time", "the peak memory of a run"),
+    Need(["chromium", "chromium-browser", "google-chrome"], "chromium", "a test of python/: the page of a survey"),
+]
+
+# Packages of Python that one interpreter has to have, all of them; Debian's begin with python3-.
+MODULES = ["pandas", "numpy", "scipy", "matplotlib", "openpyxl", "pytest"]
+
+# What no package brings.
+DEVICES = ["/dev/full", "/proc/self/task"]
+
+LOOK = f"import importlib.util as u; print(*[name for name in {MODULES} if not u.find_spec(name)])"
+
+
+def is_strict() -> bool:
+    """Whether nothing may be left out: where CI is set, as servers set it that try each change."""
+    return bool(os.environ.get("CI"))
+
+
+def is_there(need: Need) -> bool:
+    """Whether a program is in the PATH, or is the toolchain's C compiler."""
+    return any(map(shutil.which, need.names)) or "cc" in need.names and malloc.compiler() is not None
+
+
+def interpreters() -> List[str]:
+    """Each python3 once, of the PATH in its order, and that of the system."""
+    folders = [*os.environ.get("PATH", "").split(os.pathsep), "/usr/bin"]
+    paths = (os.path.join(folder or ".", "python3") for folder in folders)
+    return list(dict.fromkeys(path for path in paths if os.access(path, os.X_OK)))
+
+
+def lacking_of(python: str) -> List[str]:
+    """The modules that an interpreter does not have."""
+    done = subprocess.run([python, "-c", LOOK], capture_output=True, text=True)
+    return done.stdout.split() if done.returncode == 0 else MODULES
+
+
+def first_with_modules() -> Tuple[Optional[str], Dict[str, List[str]]]:
+    """The first interpreter that has all modules, and what those before it lack."""
+    lacking = {}
+    for python in interpreters():
+        lacking[python] = lacking_of(python)
+        if not lacking[python]:
+            return python, lacking
+    return None, lacking
+
+
+def of_recipes() -> List[str]:
+    """The programs that blocks of commands on the pages name, behind ```sh."""
+    pages = (shared.read(path) for path in shared.pages_with_recipes())
+    words = (line.split() for page in pages for line in re.findall("(?m)^```sh (.+)$", page))
+    return sorted(set(sum(words, [])))
+
+
+def lacking() -> Dict[str, Tuple[List[str], str]]:
+    """What is not there, by its name: the packages that bring it, and what calls it."""
+    found = {need.names[0]: (list(filter(None, [need.package])), need.callers) for need in NEEDS if not is_there(need)}
+    if first_with_modules()[0] is None:
+        callers = "tests of python/, and recipes"
+        found["a python3 with " + ", ".join(MODULES)] = ([f"python3-{name}" for name in MODULES], callers)
+    known = {name for need in NEEDS for name in need.names} | {"python3"}
+    for name in of_recipes():
+        if name not in known and not shutil.which(name):
+            found[name] = ([], "a recipe")
+    found.update({path: ([], "tools/commands") for path in DEVICES if not os.path.exists(path)})
+    return found
+
+
+def packages() -> List[str]:
+    """All packages of Debian, as they are installed by hand."""
+    return [need.package for need in NEEDS if need.package] + [f"python3-{name}" for name in MODULES]
+
+
+def left_out(count: int, names: Iterable[str]) -> str:
+    """What a tool says at its end of what it left out for want of these; nothing where there is none."""
+    return f"; {count} left out, for want of {' '.join(dict.fromkeys(names))}" if count else ""
+
+
+def status(wrong: object, left: object) -> int:
+    """With what a tool ends: something was wrong, or left out where nothing may be."""
+    return 1 if wrong or left and is_strict() else 0
