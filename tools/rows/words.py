@@ -64,7 +64,7 @@ SHOWN = [
     (
         "--help",
         ABOUT,
-        "With no words, pitc reads a plan and then its zone files from standard input",
+        "Without arguments, pitc reads a plan and then its zone files from standard input",
         "a terminal that brings nothing is yours to end",
         "pitc compile --plan march.plan --out out/march north.csv south.csv",
         "pitc check out/march",

@@ -14,7 +14,7 @@ const VERSION: &str = "0.2.0";
 
 const ABOUT: &str = "Turns the block models of an open pit mine into a MineLib instance.
 
-With no words, pitc reads a plan and then its zone files from standard input, cut at each line that is
+Without arguments, pitc reads a plan and then its zone files from standard input, cut at each line that is
 exactly `--`, and prints the five texts of the instance, each under a line that begins with `== `.
 It reads up to the end of its input: a terminal that brings nothing is yours to end (Ctrl-D).";
 
@@ -29,12 +29,13 @@ const AFTER: &str = "Examples:
 Statuses:
   0  done, also where help or the version was asked for
   1  a plan, a model or a text is refused, or an input is too long
-  2  the words are refused, or there are not as many zone files as the plan has zones
+  2  the arguments are refused, or there are not as many zone files as the plan has zones
   3  an input cannot be opened or read, or an output cannot be written
   4  memory or a thread was refused
 
 What stands behind a fault, and mistakes that are none: docs/causes.md. The plan, the zone files and the
-texts: docs/formats.md. From an export to an instance, and to a solver: docs/recipes.md.";
+texts: docs/formats.md. From an export to an instance, and to a solver: docs/recipes.md. The pages are in
+share/pitc, beside the bin of pitc where it is installed, as /usr/share/pitc, and in its archive.";
 
 const AFTER_COMPILE: &str = "Example:
   pitc compile --plan march.plan --out out/march north.csv south.csv
@@ -53,7 +54,7 @@ const AFTER_CHECK: &str = "Example:
 
 It cannot tell whether the files are those of one run: only the status 0 of that run says so.";
 
-/// The program's command line. With no words at all the program reads a model from standard input.
+/// The program's command line. Without arguments the program reads a model from standard input.
 pub fn command_line<'a>(alloc: Global) -> Result<Command<'a>, AllocError>
     ensures { IfOk result (λ command. app_of command ≡ program) }
 {
