@@ -11,7 +11,7 @@ use Rattle.devices.specs.declared.sinks.sink.SinkFault.{SinkFault}
 use Rattle.pit_units.specs.declared.or_memory.OrMemory.{OrMemory}
 use Rattle.devices.specs.sinks.Writes.{IsWrittenOn, WritesOn}
 use Rattle.devices.proofs.Fronts.{cut_before, cut_then, written_then}
-pub use Rattle.devices.proofs.Fronts.{buffered, nothing_put}
+pub use Rattle.devices.proofs.Fronts.{buffered, cut_at_begin, nothing_put}
 
 pub text_of-append : (xs ys : List (List ℕ)) → text_of (xs ++ ys) ≡ text_of xs ++ text_of ys
 text_of-append [] ys = refl

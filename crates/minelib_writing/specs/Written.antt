@@ -66,9 +66,12 @@ section_lines values coefs limits =
 unfoldable pub text_blocks : Instance → List ℕ
 text_blocks i = text_of (lines_from block_fields 0 i.blocks)
 
--- the precedence file
+-- the precedence file, of an instance and of any lists of predecessors
 unfoldable pub text_prec : Instance → List ℕ
 text_prec i = text_of (lines_from prec_fields 0 i.preds)
+
+abbrev pub text_preds : List (List ℕ) → List ℕ
+text_preds lists = text_of (lines_from prec_fields 0 lists)
 
 -- the UPIT file
 unfoldable pub text_upit : Instance → List ℕ

@@ -3,6 +3,7 @@
 #![tactic(auto)]
 
 pub mod compile;
+pub mod destinations;
 pub mod instance_files;
 pub mod model;
 pub mod pipe_form;

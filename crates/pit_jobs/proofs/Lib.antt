@@ -1,4 +1,6 @@
 pub mod Accepted
 pub mod Commands
 pub mod FoundJob
+pub mod FoundRun
 pub mod Numbers
+pub mod ThinAccepted

@@ -10,6 +10,7 @@ use Rattle.pit_jobs.specs.declared.job.Job.{Job}
 use Rattle.pit_jobs.specs.declared.job.Job.TheVariants.{Check, Compile}
 use Rattle.pit_jobs.specs.declared.job.JobFault.{JobFault}
 use Rattle.pit_jobs.specs.declared.job.JobFault.TheVariants.{OutOfMemory, Line}
+use Rattle.pit_jobs.specs.declared.job.RunWords.{RunWords}
 use Rattle.pit_parts.specs.declared.settings.Settings.{Settings}
 use Rattle.pit_parts.specs.declared.ranges.TheConstants.{MAX_CAPACITY, MAX_VALUERS}
 
@@ -79,20 +80,27 @@ pub record FindsCheck (found : Option (Text × List Row)) (base : Text) : Type 0
   pub is_check : found ≡ Some (codes "check", rows)
   pub has_base : first_of (codes "base") rows ≡ Some base
 
--- clap found the subcommand `compile`, and these values behind it, given or by default; there is at least one ZONE
-pub record FindsCompile (found : Option (Text × List Row)) (plan out : Text) (settings : Settings) (zones : List Text) : Type 0 where
-  pub rows : List Row
-  pub is_compile : found ≡ Some (codes "compile", rows)
+-- clap found these values of a run, given or by default; there is at least one ZONE
+pub record FindsRun (rows : List Row) (plan out : Text) (settings : Settings) (zones : List Text) : Type 0 where
   pub has_plan : first_of (codes "plan") rows ≡ Some plan
   pub has_out : first_of (codes "out") rows ≡ Some out
   pub has_settings : FindsSettings rows settings
   pub has_zones : all_of (codes "zone") rows ≡ Some zones
   pub some_zone : 0 < length zones
 
+abbrev pub FindsWords : List Row → RunWords → Type 0
+FindsWords rows run = FindsRun rows (string_bytes run.plan) (string_bytes run.out) run.settings (map string_bytes run.zones.items)
+
+-- clap found the subcommand `compile`, and these values behind it
+pub record FindsCompile (found : Option (Text × List Row)) (run : RunWords) : Type 0 where
+  pub rows : List Row
+  pub is_compile : found ≡ Some (codes "compile", rows)
+  pub has_words : FindsWords rows run
+
 -- the job has the values that clap found
 abbrev pub Finds : Option (Text × List Row) → Job → Type 0
 Finds found (Check base) = FindsCheck found (string_bytes base)
-Finds found (Compile plan out settings zones) = FindsCompile found (string_bytes plan) (string_bytes out) settings (map string_bytes zones.items)
+Finds found (Compile plan out settings zones) = FindsCompile found (record { plan = plan; out = out; settings = settings; zones = zones })
 
 -- the job has the values that clap finds in these words, the program's name first
 unfoldable pub StatesJob : List Text → Job → Type 0

@@ -9,8 +9,8 @@ use clap::{Arg, Command, value_parser};
 use pit_parts::ranges::{MAX_CAPACITY, MAX_VALUERS};
 use std::alloc::{AllocError, Global};
 
-// The version, which the newest entry of CHANGELOG.md has too.
-const VERSION: &str = "0.2.0";
+/// The version, which the newest entry of CHANGELOG.md has too.
+pub(crate) const VERSION: &str = "0.2.0";
 
 const ABOUT: &str = "Turns the block models of an open pit mine into a MineLib instance.
 
@@ -86,14 +86,19 @@ fn compile_command<'a>(alloc: Global) -> Result<Command<'a>, AllocError>
         AFTER_COMPILE,
     )
     .arg(plan_option(alloc))?
-    .arg(out_option(alloc))?
+    .arg(out_option(
+        alloc,
+        "BASE",
+        "What the paths of the files begin with, as out/march: a name and no folder",
+    ))?
     .arg(valuers_option(alloc))?
     .arg(capacity_option(alloc))?
     .arg(zones(alloc))
 }
 
+/// The word `--plan P`.
 #[tactic(auto, unfolding(crate::specs::CommandLine::plan_word))]
-fn plan_option<'a>(alloc: Global) -> Arg<'a>
+pub(crate) fn plan_option<'a>(alloc: Global) -> Arg<'a>
     ensures rule { rule_of result ≡ plan_word }
     ensures local { result.global ≡ false }
 {
@@ -104,20 +109,22 @@ fn plan_option<'a>(alloc: Global) -> Arg<'a>
         .help("The file of the plan")
 }
 
+/// The word `--out`, with the name and the help of its value.
 #[tactic(auto, unfolding(crate::specs::CommandLine::out_word))]
-fn out_option<'a>(alloc: Global) -> Arg<'a>
+pub(crate) fn out_option<'a>(alloc: Global, name: &'a str, help: &'a str) -> Arg<'a>
     ensures rule { rule_of result ≡ out_word }
     ensures local { result.global ≡ false }
 {
     Arg::new(alloc, "out")
         .long("out")
-        .value_name("BASE")
+        .value_name(name)
         .required(true)
-        .help("What the paths of the files begin with, as out/march: a name and no folder")
+        .help(help)
 }
 
+/// The word `--valuers N`.
 #[tactic(auto, unfolding(crate::specs::CommandLine::valuers_word))]
-fn valuers_option<'a>(alloc: Global) -> Arg<'a>
+pub(crate) fn valuers_option<'a>(alloc: Global) -> Arg<'a>
     ensures rule { rule_of result ≡ valuers_word }
     ensures local { result.global ≡ false }
 {
@@ -129,8 +136,9 @@ fn valuers_option<'a>(alloc: Global) -> Arg<'a>
         .help("How many threads value blocks, from 1 to 64")
 }
 
+/// The word `--capacity N`.
 #[tactic(auto, unfolding(crate::specs::CommandLine::capacity_word))]
-fn capacity_option<'a>(alloc: Global) -> Arg<'a>
+pub(crate) fn capacity_option<'a>(alloc: Global) -> Arg<'a>
     ensures rule { rule_of result ≡ capacity_word }
     ensures local { result.global ≡ false }
 {
@@ -142,8 +150,9 @@ fn capacity_option<'a>(alloc: Global) -> Arg<'a>
         .help("How many blocks wait between the threads, from 1 to 4096")
 }
 
+/// The words ZONE.
 #[tactic(auto, unfolding(crate::specs::CommandLine::zone_word))]
-fn zones<'a>(alloc: Global) -> Arg<'a>
+pub(crate) fn zones<'a>(alloc: Global) -> Arg<'a>
     ensures rule { rule_of result ≡ zone_word }
     ensures local { result.global ≡ false }
 {

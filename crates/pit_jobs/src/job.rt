@@ -1,6 +1,6 @@
 //! What the words of a command line ask for.
 
-ghost use Rattle.std.specs.Prelude.{◌≡◌};
+ghost use Rattle.std.specs.Prelude.{◌≡◌, IsFalse, IsTrue, IfOk, OnErr};
 
 use pit_parts::settings::Settings;
 use std::alloc::{AllocError, Global};
@@ -21,6 +21,16 @@ pub enum Job {
     Check {
         base: String,
     },
+}
+
+/// What the words of a run ask for: the file of its plan, where it writes to, its settings, and its zone files in order. There is at
+/// least one.
+#[derive(Debug, Drop, PartialEq, Eq)]
+pub struct RunWords {
+    pub plan: String,
+    pub out: String,
+    pub settings: Settings,
+    pub zones: Vec<String>,
 }
 
 /// Why the words state no job.
@@ -55,6 +65,28 @@ impl From<clap::Error> for JobFault {
         }
         JobFault::Line(error)
     }
+}
+
+/// Appends the text of an error of `clap` to `lines` where it refuses the words, and else to `text`: its help, or its version. Answers
+/// whether it refuses them. Where memory is refused both are as they were.
+pub fn append_error(
+    alloc: Global,
+    error: &clap::Error,
+    text: &mut Vec<u8>,
+    lines: &mut Vec<u8>,
+) -> Result<bool, AllocError>
+    ensures quiet { IfOk result (λ refused. IsTrue refused → text.new.items ≡ text.old.items) }
+    ensures still { IfOk result (λ refused. IsFalse refused → lines.new.items ≡ lines.old.items) }
+    ensures kept { OnErr result
+        ((text.new.items ≡ text.old.items) × (lines.new.items ≡ lines.old.items)) }
+{
+    let words = error_text(alloc, error)?;
+    if error.use_stderr() {
+        lines.extend_from_slice(words.as_bytes())?;
+        return Ok(true);
+    }
+    text.extend_from_slice(words.as_bytes())?;
+    Ok(false)
 }
 
 /// The text of an error of `clap`: its help, its version, or why the words are refused. Fails only where memory is refused.

@@ -1,6 +1,8 @@
-//! The command line of `pitc`, and the job that its words state.
+//! The command line of `pitc`, and the job that its words state; and the same of `pitc_thin`.
 #![tactic(auto)]
 
 pub mod command_line;
 pub mod job;
+mod run_words;
 pub mod stated_job;
+pub mod thin_line;

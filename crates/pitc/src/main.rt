@@ -4,11 +4,6 @@
 //! output. `pitc compile` does so from files to files. `pitc check BASE` reads the files of an instance and prints its counts.
 #![tactic(auto)]
 
-ghost use Rattle.std.specs.Prelude.{◌≡◌, ◌≤◌};
-ghost use Rattle.pit_parts.specs.formulas.Formula.{IsRuled};
-ghost use Rattle.pit_parts.specs.formulas.Worth.{worth, mill, dump};
-ghost use Rattle.pit_parts.specs.declared.ranges.TheConstants.{MAX_COST, MAX_PRICE, MAX_RECOVERY};
-
 use devices::feeds::read_feed::ReadFeed;
 use devices::files::file_opener::FileOpener;
 use devices::files::opener::Opener;
@@ -17,6 +12,7 @@ use devices::sinks::mem_sink::MemSink;
 use devices::sinks::sink::Sink;
 use devices::sinks::write_sink::WriteSink;
 use pit_check::check::check;
+use pit_commands::destinations::destinations_of;
 use pit_commands::instance_files::sinks_of;
 use pit_commands::model::read_model;
 use pit_commands::task::Task;
@@ -26,12 +22,8 @@ use pit_edge::refused::Refused;
 use pit_edge::refused::fault_line::tell;
 use pit_edge::refused::status::{USAGE, finish};
 use pit_edge::words::words_of;
-use pit_jobs::job::{Job, JobFault, error_text};
+use pit_jobs::job::{Job, JobFault, append_error};
 use pit_jobs::stated_job::job;
-use pit_model::block::Block;
-use pit_model::destination::{Destination, Valuer};
-use pit_model::formula::Formula;
-use pit_model::worth::{dump_worth, mill_worth};
 use pit_parts::settings::Settings;
 use std::alloc::{Alloc, AllocError, Global};
 use std::env;
@@ -101,7 +93,10 @@ where
                 lines,
             ))
         }
-        Err(JobFault::Line(error)) => Ok(show(alloc, &error, text, lines)?),
+        Err(JobFault::Line(error)) => {
+            let refused = append_error(alloc, &error, text, lines)?;
+            Ok(if refused { USAGE } else { 0 })
+        }
         Err(JobFault::OutOfMemory) => Err(Refused::from(AllocError)),
     }
 }
@@ -155,8 +150,7 @@ where
     Ok(run(rt, alloc, &mut opener, &mut task, text, lines)?)
 }
 
-// Runs the task with the destinations of its plan, in its order. The closures are made beside the run that asks them, since a function
-// that made one and handed it out could promise nothing of it.
+// Runs the task with the destinations of its plan, in its order.
 fn run<R: Threads + Wait + Sync, O: Opener, S: Sink + Drop>(
     rt: &R,
     alloc: Global,
@@ -165,58 +159,7 @@ fn run<R: Threads + Wait + Sync, O: Opener, S: Sink + Drop>(
     text: &mut Vec<u8>,
     lines: &mut Vec<u8>,
 ) -> Result<u8, AllocError> {
-    let mut destinations = Vec::new(alloc);
-    for named in task.plan().formulas() {
-        let destination = match &named.formula {
-            Formula::Mill {
-                recovery,
-                price,
-                cost,
-            } => {
-                let (recovery, price, cost) = (*recovery, *price, *cost);
-                let valuer: Valuer = Box::new(
-                    alloc,
-                    move |block: Block| -> i128
-                        requires recovery { recovery ≤ MAX_RECOVERY }
-                        requires price { price ≤ MAX_PRICE }
-                        requires cost { cost ≤ MAX_COST }
-                        ensures { result ≡ mill block recovery price cost }
-                    { mill_worth(block, recovery, price, cost) },
-                )?;
-                let formula = Formula::Mill {
-                    recovery,
-                    price,
-                    cost,
-                };
-                Destination::new(formula, valuer)
-            }
-            Formula::Dump { cost } => {
-                let cost = *cost;
-                let valuer: Valuer = Box::new(
-                    alloc,
-                    move |block: Block| -> i128
-                        requires { cost ≤ MAX_COST }
-                        ensures { result ≡ dump block cost }
-                    { dump_worth(block, cost) },
-                )?;
-                Destination::new(Formula::Dump { cost }, valuer)
-            }
-            // Any other formula is kept whole, and asked itself.
-            _ => {
-                let kept = named.formula.copy(alloc)?;
-                let formula = named.formula.copy(alloc)?;
-                let valuer: Valuer = Box::new(
-                    alloc,
-                    move |block: Block| -> i128
-                        requires { IsRuled kept }
-                        ensures { result ≡ worth kept block }
-                    { kept.worth(block) },
-                )?;
-                Destination::new(formula, valuer)
-            }
-        };
-        destinations.push(destination)?;
-    }
+    let destinations = destinations_of(alloc, task.plan())?;
     Ok(task.run(
         rt,
         alloc,
@@ -226,20 +169,4 @@ fn run<R: Threads + Wait + Sync, O: Opener, S: Sink + Drop>(
         text,
         lines,
     ))
-}
-
-// Leaves help for standard output, and the text of a refused line for standard error. Answers the status.
-fn show(
-    alloc: Global,
-    error: &clap::Error,
-    text: &mut Vec<u8>,
-    lines: &mut Vec<u8>,
-) -> Result<u8, AllocError> {
-    let words = error_text(alloc, error)?;
-    if error.use_stderr() {
-        lines.extend_from_slice(words.as_bytes())?;
-        return Ok(USAGE);
-    }
-    text.extend_from_slice(words.as_bytes())?;
-    Ok(0)
 }

@@ -1,6 +1,6 @@
 //! The lines of predecessors, one for each block.
 
-ghost use Rattle.std.specs.Prelude.{◌≡◌, ◌<◌, ◌≤◌, ◌^◌, ◌++◌, ◌∷◌, [], All, length, take, drop, slice_index_or, OnOk};
+ghost use Rattle.std.specs.Prelude.{◌≡◌, ◌+◌, ◌<◌, ◌≤◌, ◌^◌, ◌++◌, ◌∷◌, [], All, length, take, drop, slice_index_or, sum_by, IfOk, OnOk};
 ghost use Rattle.precedence.specs.IdRuns.{ids_of};
 ghost use Rattle.minelib_lines.specs.Lines.{line_of, lines_from, text_of};
 ghost use Rattle.minelib_writing.specs.Written.{prec_fields};
@@ -30,14 +30,35 @@ pub fn write_preds<S: Sink, P: PredLists>(
     ensures { WritesOn (text_of (lines_from prec_fields 0 (P.lists preds.now)))
         buffer.old.items buffer.new.items (S.state sink.old) (S.state sink.new) result }
 {
+    let mut arcs = 0;
+    write_counted(alloc, sink, buffer, preds, texts, &mut arcs)
+}
+
+/// The same, and counts the predecessors of all blocks in `arcs`.
+pub fn write_counted<S: Sink, P: PredLists>(
+    alloc: Global,
+    sink: &mut S,
+    buffer: &mut Vec<u8>,
+    preds: &P,
+    texts: &IdText,
+    arcs: &mut u128,
+) -> Result<(), WriteFault>
+    requires few { length (P.lists preds.now) ≤ MAX_BLOCKS }
+    requires own { length (P.lists preds.now) ≤ texts.now }
+    requires preds { All (λ ids. All (λ id. id < texts.now) ids) (P.lists preds.now) }
+    requires none { arcs.old ≡ 0 }
+    ensures writes { WritesOn (text_of (lines_from prec_fields 0 (P.lists preds.now)))
+        buffer.old.items buffer.new.items (S.state sink.old) (S.state sink.new) result }
+    ensures counted { OnOk result (arcs.new ≡ sum_by length (P.lists preds.now)) }
+{
     let mut runs = Vec::new(alloc);
     for id in 0..preds.count() {
-        write_line(sink, buffer, preds, id as u32, texts, &mut runs)?;
+        write_line(sink, buffer, preds, id as u32, texts, &mut runs, arcs)?;
     }
     Ok(())
 }
 
-// Writes the line of one block. The vector is room for the runs of its predecessors.
+// Writes the line of one block, and adds to `arcs` how many predecessors it has. The vector is room for their runs.
 #[tactic(auto, using(crate::proofs::SectionsWritten::nothing_put))]
 fn write_line<S: Sink, P: PredLists>(
     sink: &mut S,
@@ -46,53 +67,63 @@ fn write_line<S: Sink, P: PredLists>(
     id: u32,
     texts: &IdText,
     runs: &mut Vec<IdRun>,
+    arcs: &mut u128,
 ) -> Result<(), WriteFault>
     requires block { id < length (P.lists preds.now) }
     requires own { id < texts.now }
     requires preds { All (λ pred. pred < texts.now) (slice_index_or (P.lists preds.now) id []) }
-    ensures { WritesOn
+    requires room { arcs.old < 2 ^ 127 }
+    ensures writes { WritesOn
         (text_of (take 1 (drop id (lines_from prec_fields 0 (P.lists preds.now)))))
         buffer.old.items buffer.new.items (S.state sink.old) (S.state sink.new) result }
+    ensures counted { OnOk result
+        (arcs.new ≡ arcs.old + length (slice_index_or (P.lists preds.now) id [])) }
+    ensures countable { OnOk result (length (slice_index_or (P.lists preds.now) id []) < 2 ^ 63) }
 {
-    put_line(buffer, preds, id, texts, runs)?;
+    *arcs += u128::from(put_line(buffer, preds, id, texts, runs)?);
     flush_full(sink, buffer)?;
     Ok(())
 }
 
+// Appends the line of a block, and answers how many predecessors it has.
 fn put_line<P: PredLists>(
     out: &mut Vec<u8>,
     preds: &P,
     id: u32,
     texts: &IdText,
     runs: &mut Vec<IdRun>,
-) -> Result<(), AllocError>
+) -> Result<u64, AllocError>
     requires block { id < length (P.lists preds.now) }
     requires own { id < texts.now }
     requires preds { All (λ pred. pred < texts.now) (slice_index_or (P.lists preds.now) id []) }
-    ensures { OnOk result (out.new.items
+    ensures text { OnOk result (out.new.items
         ≡ out.old.items ++ text_of (take 1 (drop id (lines_from prec_fields 0 (P.lists preds.now))))) }
+    ensures count { IfOk result (λ n. n ≡ length (slice_index_or (P.lists preds.now) id [])) }
+    ensures countable { IfOk result (λ n. n < 2 ^ 63) }
 {
     runs.clear();
     preds.add_runs(runs, id)?;
     put_preds(out, id, runs.as_slice(), texts)
 }
 
-fn put_preds(out: &mut Vec<u8>, id: u32, runs: &[IdRun], texts: &IdText) -> Result<(), AllocError>
+fn put_preds(out: &mut Vec<u8>, id: u32, runs: &[IdRun], texts: &IdText) -> Result<u64, AllocError>
     requires own { id < texts.now }
     requires preds { All (λ pred. pred < texts.now) (ids_of runs.now) }
     requires countable { length (ids_of runs.now) < 2 ^ 63 }
-    ensures { OnOk result (out.new.items
+    ensures text { OnOk result (out.new.items
         ≡ out.old.items ++ (line_of (prec_fields id (ids_of runs.now)) ++ 10 ∷ [])) }
+    ensures count { IfOk result (λ n. n ≡ length (ids_of runs.now)) }
 {
+    let count = count_of(runs);
     texts.put_one(out, id)?;
-    put_whole_behind(out, b' ', count_of(runs))?;
+    put_whole_behind(out, b' ', count)?;
     texts.put(out, runs)?;
     out.push(b'\n')?;
-    Ok(())
+    Ok(count)
 }
 
-// How many identifiers the runs have.
-fn count_of(runs: &[IdRun]) -> u64
+/// How many identifiers the runs have.
+pub fn count_of(runs: &[IdRun]) -> u64
     requires { length (ids_of runs.now) < 2 ^ 63 }
     ensures { result ≡ length (ids_of runs.now) }
 {

@@ -3,8 +3,9 @@ use Rattle.std.specs.Prelude.{◌≡◌, List, MatchOption, Option, false}
 use Rattle.clap.specs.Words.{App, Row, Text, app_of}
 use Rattle.clap.specs.declared.builder.Command.TheViews.{out-Command as fields_of}
 use Rattle.clap.specs.declared.builder.command.Command.{Command}
-use Rattle.pit_jobs.specs.CommandLine.{Finds}
+use Rattle.pit_jobs.specs.CommandLine.{Finds, FindsWords}
 use Rattle.pit_jobs.specs.declared.job.Job.{Job}
+use Rattle.pit_jobs.specs.declared.job.RunWords.{RunWords}
 
 -- the command takes these words, and has no argument that its subcommands share
 abbrev pub IsCommandOf : App → Command → Type 0
@@ -13,3 +14,7 @@ IsCommandOf words command = (app_of command ≡ words) × ((fields_of command).h
 -- the answer is a job with the values that clap found, or no job has them
 abbrev pub FindsIfAny : Option (Text × List Row) → Option Job → Type 0
 FindsIfAny found answer = MatchOption answer ((job : Job) → Finds found job → ⊥) (Finds found)
+
+-- the same of the values of a run
+abbrev pub FindsWordsIfAny : List Row → Option RunWords → Type 0
+FindsWordsIfAny rows answer = MatchOption answer ((run : RunWords) → FindsWords rows run → ⊥) (FindsWords rows)

@@ -2,8 +2,8 @@ use Rattle.std.proofs.Common.{subst}
 use Rattle.std.specs.Str.Parse.{ExplainsUnsignedError, HasUnsignedDigitsIfOk, ParsesUnsigned}
 use Rattle.clap.specs.Words.{found_of, rows_of}
 use Rattle.pit_jobs.proofs.Numbers.{ReadsNumber, out_of_range, reads_number}
-use Rattle.pit_jobs.proofs.stated_job.number_in.Goals as goal
-use Rattle.pit_jobs.proofs.stated_job.number_in.Goals.{After-get_one}
+use Rattle.pit_jobs.proofs.run_words.number_in.Goals as goal
+use Rattle.pit_jobs.proofs.run_words.number_in.Goals.{After-get_one}
 
 reads : (c : After-get_one) → ReadsNumber (rows_of (found_of c.args.found.now)) c.args.id.now c.args.most c.get_one.result
 reads c =

@@ -2,7 +2,7 @@ use Rattle.std.proofs.Common.{codes}
 use Rattle.std.proofs.lemmas.Option.{MatchOption-at_none}
 use Rattle.clap.specs.Words.{found_of, rows_of}
 use Rattle.pit_jobs.specs.CommandLine.{FindsNumber}
-use Rattle.pit_jobs.proofs.stated_job.settings_in.Goals as goal
+use Rattle.pit_jobs.proofs.run_words.settings_in.Goals as goal
 
 pub returns-in_err-valuers : goal.returns-in_err-valuers
 returns-in_err-valuers c =

@@ -1,0 +1,64 @@
+//! The precedence file of lists of predecessors, without an instance.
+
+ghost use Rattle.std.specs.Prelude.{◌≡◌, ◌<◌, ◌≤◌, ◌^◌, [], All, length, slice_index_or, sum_by, IfOk, MatchResult};
+ghost use Rattle.devices.specs.sinks.SinkState.{IsCutOff, IsWritten};
+ghost use Rattle.devices.specs.sinks.SinkSteps.{refusals};
+ghost use Rattle.minelib_writing.specs.Written.{text_preds};
+ghost use Rattle.pit_parts.specs.declared.ranges.TheConstants.{MAX_BLOCKS};
+
+use crate::id_text::IdText;
+use crate::lines::preds::{count_of, write_counted};
+use devices::sinks::sink::Sink;
+use devices::sinks::slices::{LARGE, flush};
+use devices::sinks::write_fault::WriteFault;
+use precedence::{IdRun, PredLists};
+use std::alloc::{AllocError, Global};
+
+/// Begins the sink and writes the precedence file of these lists, one for each block by identifier. Answers how many identifiers stand
+/// in them. Where it is refused the sink is left as by the writers of an instance.
+#[tactic(auto, using(crate::proofs::SectionsWritten::cut_at_begin))]
+pub fn write_lists<P: PredLists, S: Sink>(
+    alloc: Global,
+    preds: &P,
+    sink: &mut S,
+) -> Result<u128, WriteFault>
+    requires few { length (P.lists preds.now) ≤ MAX_BLOCKS }
+    requires below { All (λ ids. All (λ id. id < length (P.lists preds.now)) ids) (P.lists preds.now) }
+    ensures writes { MatchResult result
+        (λ _. IsWritten (text_preds (P.lists preds.now)) (S.state sink.old) (S.state sink.new))
+        (λ fault. IsCutOff (refusals fault) (text_preds (P.lists preds.now)) (S.state sink.old)
+        (S.state sink.new)) }
+    ensures arcs { IfOk result (λ arcs. arcs ≡ sum_by length (P.lists preds.now)) }
+{
+    let texts = IdText::below(alloc, preds.count())?;
+    let mut buffer = Vec::with_capacity(alloc, 2 * LARGE)?;
+    let mut arcs = 0;
+    sink.begin()?;
+    write_counted(alloc, sink, &mut buffer, preds, &texts, &mut arcs)?;
+    flush(sink, &mut buffer)?;
+    Ok(arcs)
+}
+
+/// How many identifiers stand in lists. Fails only where memory is refused.
+pub fn count_arcs<P: PredLists>(alloc: Global, preds: &P) -> Result<u128, AllocError>
+    requires few { length (P.lists preds.now) ≤ MAX_BLOCKS }
+    ensures { IfOk result (λ arcs. arcs ≡ sum_by length (P.lists preds.now)) }
+{
+    let mut runs = Vec::new(alloc);
+    let mut arcs = 0;
+    for id in 0..preds.count() {
+        arcs += u128::from(list_len(preds, id as u32, &mut runs)?);
+    }
+    Ok(arcs)
+}
+
+// How many identifiers stand in the list of a block. The vector is room for their runs.
+fn list_len<P: PredLists>(preds: &P, id: u32, runs: &mut Vec<IdRun>) -> Result<u64, AllocError>
+    requires { id < length (P.lists preds.now) }
+    ensures count { IfOk result (λ n. n ≡ length (slice_index_or (P.lists preds.now) id [])) }
+    ensures countable { IfOk result (λ n. n < 2 ^ 63) }
+{
+    runs.clear();
+    preds.add_runs(runs, id)?;
+    Ok(count_of(runs.as_slice()))
+}

@@ -1,0 +1,3 @@
+pub mod CountsText
+pub mod Thin
+pub mod inner
