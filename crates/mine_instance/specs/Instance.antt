@@ -1,8 +1,20 @@
--- An instance as contracts see it, whether its predecessors, coefficients and values are kept or found: with the list of each block's
--- predecessors, that of all coefficients, and that of each block's values.
+-- What an instance is: its parts, blocks by identifier.
 use Rattle.std.specs.Prelude.{ℕ, ℤ, List}
+use Rattle.pit_parts.specs.declared.block.Block.{Block}
+use Rattle.pit_parts.specs.declared.limit.Limit.{Limit}
 use Rattle.mine_instance.specs.declared.coefs.coef.Coef.{Coef}
-use Rattle.mine_instance.specs.declared.instance.Instance.{Instance as Parts}
 
-abbrev pub Instance : Type 0
-Instance = Parts (List (List ℕ)) (List Coef) (List (List ℤ))
+pub record Instance : Type 0 where
+  pub name : List ℕ
+  -- the discount rate, in millionths
+  pub rate : ℤ
+  pub periods : ℕ
+  pub destinations : ℕ
+  pub resources : ℕ
+  pub blocks : List Block
+  -- of each block those that it waits for
+  pub preds : List (List ℕ)
+  -- of each block those at each destination, in units of 100 cents
+  pub values : List (List ℤ)
+  pub coefs : List Coef
+  pub limits : List Limit

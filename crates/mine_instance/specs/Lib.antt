@@ -7,7 +7,6 @@ pub mod Instance
 pub mod OfModel
 pub mod OneSlope
 pub mod Order
-pub mod Seen
 pub mod Valid
 pub mod WorthsOf
 pub mod cpit

@@ -9,7 +9,6 @@ ghost use Rattle.precedence.specs.Identifier.{blocks_of_rows};
 ghost use Rattle.precedence.specs.Numbering.{IsNumbering, NumberingView};
 ghost use Rattle.rows.specs.Valued.{worths_by};
 ghost use Rattle.mine_instance.specs.OfModel.{instance, values_of, covering, covered};
-ghost use Rattle.mine_instance.specs.Seen.{seen};
 ghost use Rattle.mine_instance.specs.Valid.{IsValid};
 ghost use Rattle.pit_parts.specs.declared.ranges.TheConstants.{MAX_BLOCKS, MAX_DESTINATIONS, MAX_RESOURCES};
 
@@ -69,10 +68,8 @@ pub fn build_with<P: PredLists + Drop, V: ValueList + Drop>(
     requires values { V.list values ≡ map (values_of plan.now) blocks.items }
     ensures value { (listed : List Block) → (n : NumberingView) → IsNumbering listed n
         → n.blocks ≡ blocks.items
-        → IfOk result (λ built. seen P.lists (λ coefs. coefs) V.list built
-        ≡ instance plan.now listed) }
-    ensures valid { IfOk result
-        (λ built. IsValid (seen P.lists (λ coefs. coefs) V.list built)) }
+        → IfOk result (λ built. built ≡ instance plan.now listed) }
+    ensures valid { IfOk result IsValid }
 {
     let name = plan.name().copy(alloc)?;
     let pairs = covered_pairs(alloc, plan)?;

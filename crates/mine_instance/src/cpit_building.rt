@@ -4,7 +4,6 @@ ghost use Rattle.std.specs.Prelude.{◌≡◌, ◌==◌, ◌<◌, ◌++◌, leng
 ghost use Rattle.mine_instance.specs.Greatest.{greatest};
 ghost use Rattle.mine_instance.specs.Groups.{coefs_in};
 ghost use Rattle.mine_instance.specs.cpit.OfCpit.{cpit, is_chosen, without_destination};
-ghost use Rattle.mine_instance.specs.Seen.{seen};
 ghost use Rattle.mine_instance.specs.Valid.{IsValid};
 
 use crate::coefs::group::CoefGroup;
@@ -22,8 +21,8 @@ pub fn build_cpit<P: PredLists, C: CoefList, V: ValueList>(
     alloc: Global,
     instance: &Instance<P, C, V>,
 ) -> Result<Cpit, AllocError>
-    requires { IsValid (seen P.lists C.list V.list instance.now) }
-    ensures { IfOk result (λ built. built ≡ cpit (seen P.lists C.list V.list instance.now)) }
+    requires { IsValid instance.now }
+    ensures { IfOk result (λ built. built ≡ cpit instance.now) }
 {
     let name = instance.name.copy(alloc)?;
     let values = greatest_of(alloc, &instance.values)?;

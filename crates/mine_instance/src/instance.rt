@@ -1,7 +1,6 @@
 //! The instance of a model.
 
 ghost use Rattle.std.specs.Prelude.{◌≡◌, IfOk, length, sum_by};
-ghost use Rattle.mine_instance.specs.Seen.{seen};
 ghost use Rattle.mine_instance.specs.Valid.{IsValid};
 
 use crate::blocks::Blocks;
@@ -12,15 +11,16 @@ use crate::values::Values;
 use crate::values::list::{ValueList, keep as keep_values};
 use pit_parts::name::Name;
 use pit_units::Dec;
-use precedence::{PredLists, Preds, TakePreds};
+use precedence::{PredLists, Preds};
 use std::alloc::{AllocError, Global};
+use std::marker::Model;
 
 /// An instance of the production scheduling problem of MineLib (Espinoza, Goycoolea, Moreno and Newman 2013). Blocks,
 /// predecessors and values stand by identifier. `P` has the predecessors: `Preds` keeps their lists, and `FoundPreds` finds them. `C`
 /// has the coefficients: `Coefs` keeps and lends them, and `FoundCoefs` finds them. `V` has the values: `Values` keeps and lends them,
-/// and `FoundValues` finds them.
+/// and `FoundValues` finds them. Contracts see the lists, whether they are kept or found.
 #[derive(Debug, Drop)]
-pub struct Instance<P = Preds, C = Coefs, V = Values> {
+pub struct Instance<P: PredLists = Preds, C: CoefList = Coefs, V: ValueList = Values> {
     /// The NAME of the instance.
     pub name: Name,
     /// The discount rate, 0 to 1 in a valid instance.
@@ -43,7 +43,26 @@ pub struct Instance<P = Preds, C = Coefs, V = Values> {
     pub limits: Limits,
 }
 
-impl<P, C, V> Instance<P, C, V> {
+impl<P: PredLists, C: CoefList, V: ValueList> Model for Instance<P, C, V> {
+    ghost use Rattle.mine_instance.specs.Instance.{Instance as AnInstance};
+
+    ghost Value = { AnInstance };
+
+    ghost view = { λ i. record {
+      name = i.name;
+      rate = i.rate;
+      periods = i.periods;
+      destinations = i.destinations;
+      resources = i.resources;
+      blocks = i.blocks;
+      preds = P.lists i.preds;
+      values = V.list i.values;
+      coefs = C.list i.coefs;
+      limits = i.limits;
+    } };
+}
+
+impl<P: PredLists, C: CoefList, V: ValueList> Instance<P, C, V> {
     /// The number of blocks.
     pub fn blocks_len(&self) -> usize
         ensures { result ≡ length self.now.blocks }
@@ -57,21 +76,19 @@ impl<P, C, V> Instance<P, C, V> {
     {
         self.limits.as_slice().len()
     }
-}
 
-impl<P, C: CoefList, V> Instance<P, C, V> {
     /// The number of coefficients.
     pub fn coefs_len(&self) -> usize
-        ensures { result ≡ length (C.list self.now.coefs) }
+        ensures { result ≡ length self.now.coefs }
     {
         self.coefs.len()
     }
 }
 
-impl<P: TakePreds, C, V> Instance<P, C, V> {
+impl<C: CoefList, V: ValueList> Instance<Preds, C, V> {
     /// The number of arcs: pairs of a block and one that it has to wait for.
     pub fn arcs(&self) -> usize
-        ensures { result ≡ sum_by length (P.lists self.now.preds) }
+        ensures { result ≡ sum_by length self.now.preds }
     {
         self.preds.arcs()
     }
@@ -80,9 +97,8 @@ impl<P: TakePreds, C, V> Instance<P, C, V> {
 impl<P: PredLists + Drop, C: CoefList + Drop, V: ValueList + Drop> Instance<P, C, V> {
     /// The same valid instance, whose coefficients and values are kept. Fails only where memory is refused.
     pub fn kept(self, alloc: Global) -> Result<Instance<P>, AllocError>
-        requires { IsValid (seen P.lists C.list V.list self) }
-        ensures { IfOk result (λ kept. seen P.lists (λ coefs. coefs) (λ values. values) kept
-            ≡ seen P.lists C.list V.list self) }
+        requires { IsValid self }
+        ensures { IfOk result (λ kept. kept ≡ self) }
     {
         let coefs = keep_coefs(alloc, &self.coefs)?;
         let values = keep_values(alloc, &self.values, usize::from(self.destinations))?;

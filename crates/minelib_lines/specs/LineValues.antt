@@ -6,7 +6,7 @@ use Rattle.pit_parts.specs.declared.limit.Bound.{Bound}
 use Rattle.pit_parts.specs.declared.limit.Bound.TheVariants.{AtMost, AtLeast, Between}
 use Rattle.pit_parts.specs.declared.limit.Limit.{Limit}
 use Rattle.mine_instance.specs.cpit.Cpit.{CpitParts}
-use Rattle.mine_instance.specs.declared.instance.Instance.{Instance}
+use Rattle.mine_instance.specs.Instance.{Instance}
 use Rattle.mine_instance.specs.declared.coefs.coef.Coef.{Coef}
 use Rattle.mine_instance.specs.declared.cpit.CpitCoef.{CpitCoef}
 use Rattle.minelib_lines.specs.declared.problem.Problem.{Problem}
@@ -54,7 +54,7 @@ pub record StatedHeader : Type 0 where
   pub rate : ℤ
 
 -- of an instance
-abbrev pub header_of : {P C V : Type 0} → Instance P C V → StatedHeader
+abbrev pub header_of : Instance → StatedHeader
 header_of i = record {
   name = i.name;
   periods = i.periods;

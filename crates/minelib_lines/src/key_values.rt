@@ -7,9 +7,12 @@ ghost use Rattle.minelib_lines.specs.KeyParts.{said_by, value_in};
 ghost use Rattle.minelib_lines.specs.LineValues.{header_of, header_of_cpit};
 
 use crate::header_key::HeaderKey;
+use mine_instance::coefs::list::CoefList;
 use mine_instance::cpit::Cpit;
 use mine_instance::instance::Instance;
+use mine_instance::values::list::ValueList;
 use pit_units::Dec;
+use precedence::PredLists;
 
 /// What the header keys of a file say; what its keys do not say may be anything.
 #[derive(Drop)]
@@ -33,7 +36,10 @@ pub enum KeyValue<'a> {
 
 impl<'a> KeyValues<'a> {
     /// Of an instance, where TYPE names the problem so.
-    pub fn of_instance<P, C, V>(problem: &'a [u8], instance: &'a Instance<P, C, V>) -> KeyValues<'a>
+    pub fn of_instance<P: PredLists, C: CoefList, V: ValueList>(
+        problem: &'a [u8],
+        instance: &'a Instance<P, C, V>,
+    ) -> KeyValues<'a>
         ensures values { value_in result
             ≡ key_value problem.now (length instance.now.blocks) (header_of instance.now) }
         ensures kept { is_name instance.now.name ≡ true }
@@ -50,7 +56,7 @@ impl<'a> KeyValues<'a> {
     }
 
     /// Of an instance of which each block has one destination.
-    pub fn of_one_destination<P, C, V>(
+    pub fn of_one_destination<P: PredLists, C: CoefList, V: ValueList>(
         problem: &'a [u8],
         instance: &'a Instance<P, C, V>,
     ) -> KeyValues<'a>

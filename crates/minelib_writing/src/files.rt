@@ -3,7 +3,6 @@
 
 ghost use Rattle.std.specs.Prelude.{◌<◌, length, All, OnOk, ⊤};
 ghost use Rattle.devices.specs.sinks.Writes.{Writes};
-ghost use Rattle.mine_instance.specs.Seen.{seen};
 ghost use Rattle.mine_instance.specs.cpit.CpitKept.{IsCpit};
 ghost use Rattle.mine_instance.specs.cpit.OfCpit.{cpit as instance_cpit};
 ghost use Rattle.mine_instance.specs.Valid.{IsValid};
@@ -36,12 +35,12 @@ use precedence::PredLists;
 use std::alloc::Global;
 
 #[derive(Drop)]
-struct BlockFile<'a, P, C, V> {
+struct BlockFile<'a, P: PredLists, C: CoefList, V: ValueList> {
     instance: &'a Instance<P, C, V>,
 }
 
 impl<'a, P: PredLists, C: CoefList, V: ValueList> Text for BlockFile<'a, P, C, V> {
-    ghost text = { λ t. text_blocks (seen P.lists C.list V.list t.instance.now) };
+    ghost text = { λ t. text_blocks t.instance.now };
 
     ghost kept = { λ t. ⊤ };
 
@@ -52,7 +51,8 @@ impl<'a, P: PredLists, C: CoefList, V: ValueList> Text for BlockFile<'a, P, C, V
         sink: &mut S,
         buffer: &mut Vec<u8>,
     ) -> Result<(), WriteFault> {
-        let items = self.instance.blocks.as_slice();
+        let instance = self.instance;
+        let items = instance.blocks.as_slice();
         write_parts(alloc, sink, buffer, &Lines { items })
     }
 }
@@ -63,9 +63,8 @@ pub fn write_blocks<P: PredLists, C: CoefList, V: ValueList, S: Sink>(
     instance: &Instance<P, C, V>,
     sink: &mut S,
 ) -> Result<(), WriteFault>
-    requires { IsValid (seen P.lists C.list V.list instance.now) }
-    ensures { Writes (text_blocks (seen P.lists C.list V.list instance.now))
-        (S.state sink.old) (S.state sink.new) result }
+    requires { IsValid instance.now }
+    ensures { Writes (text_blocks instance.now) (S.state sink.old) (S.state sink.new) result }
 {
     write_text(alloc, &BlockFile { instance }, sink)
 }
@@ -73,11 +72,11 @@ pub fn write_blocks<P: PredLists, C: CoefList, V: ValueList, S: Sink>(
 #[derive(Drop)]
 struct PrecFile<'a, P: PredLists, C: CoefList, V: ValueList> {
     instance: &'a Instance<P, C, V>,
-    ghost valid: { IsValid (seen P.lists C.list V.list instance.now) },
+    ghost valid: { IsValid instance.now },
 }
 
 impl<'a, P: PredLists, C: CoefList, V: ValueList> Text for PrecFile<'a, P, C, V> {
-    ghost text = { λ t. text_prec (seen P.lists C.list V.list t.instance.now) };
+    ghost text = { λ t. text_prec t.instance.now };
 
     ghost kept = { λ t. ⊤ };
 
@@ -88,7 +87,8 @@ impl<'a, P: PredLists, C: CoefList, V: ValueList> Text for PrecFile<'a, P, C, V>
         sink: &mut S,
         buffer: &mut Vec<u8>,
     ) -> Result<(), WriteFault> {
-        let preds = &self.instance.preds;
+        let instance = self.instance;
+        let preds = &instance.preds;
         let texts = IdText::below(alloc, preds.count())?;
         write_preds(alloc, sink, buffer, preds, &texts)
     }
@@ -100,21 +100,20 @@ pub fn write_prec<P: PredLists, C: CoefList, V: ValueList, S: Sink>(
     instance: &Instance<P, C, V>,
     sink: &mut S,
 ) -> Result<(), WriteFault>
-    requires { IsValid (seen P.lists C.list V.list instance.now) }
-    ensures { Writes (text_prec (seen P.lists C.list V.list instance.now))
-        (S.state sink.old) (S.state sink.new) result }
+    requires { IsValid instance.now }
+    ensures { Writes (text_prec instance.now) (S.state sink.old) (S.state sink.new) result }
 {
     write_text(alloc, &PrecFile { instance }, sink)
 }
 
 #[derive(Drop)]
-struct UpitFile<'a, P, C, V: ValueList> {
+struct UpitFile<'a, P: PredLists, C: CoefList, V: ValueList> {
     instance: &'a Instance<P, C, V>,
-    ghost some: { All (λ of_block. 0 < length of_block) (V.list instance.now.values) },
+    ghost some: { All (λ of_block. 0 < length of_block) instance.now.values },
 }
 
 impl<'a, P: PredLists, C: CoefList, V: ValueList> Text for UpitFile<'a, P, C, V> {
-    ghost text = { λ t. text_upit (seen P.lists C.list V.list t.instance.now) };
+    ghost text = { λ t. text_upit t.instance.now };
 
     ghost kept = { λ t. ⊤ };
 
@@ -125,12 +124,13 @@ impl<'a, P: PredLists, C: CoefList, V: ValueList> Text for UpitFile<'a, P, C, V>
         sink: &mut S,
         buffer: &mut Vec<u8>,
     ) -> Result<(), WriteFault> {
-        let values = &self.instance.values;
+        let instance = self.instance;
+        let values = &instance.values;
         write_keys(
             alloc,
             sink,
             buffer,
-            &KeyValues::of_instance(b"UPIT", self.instance),
+            &KeyValues::of_instance(b"UPIT", instance),
             HeaderKey::of_upit(),
         )?;
         write_titled(
@@ -150,9 +150,8 @@ pub fn write_upit<P: PredLists, C: CoefList, V: ValueList, S: Sink>(
     instance: &Instance<P, C, V>,
     sink: &mut S,
 ) -> Result<(), WriteFault>
-    requires { IsValid (seen P.lists C.list V.list instance.now) }
-    ensures { Writes (text_upit (seen P.lists C.list V.list instance.now))
-        (S.state sink.old) (S.state sink.new) result }
+    requires { IsValid instance.now }
+    ensures { Writes (text_upit instance.now) (S.state sink.old) (S.state sink.new) result }
 {
     write_text(alloc, &UpitFile { instance }, sink)
 }
@@ -160,13 +159,13 @@ pub fn write_upit<P: PredLists, C: CoefList, V: ValueList, S: Sink>(
 #[derive(Drop)]
 struct PcpspFile<'a, P: PredLists, C: CoefList, V: ValueList> {
     instance: &'a Instance<P, C, V>,
-    ghost valid: { IsValid (seen P.lists C.list V.list instance.now) },
+    ghost valid: { IsValid instance.now },
 }
 
 impl<'a, P: PredLists, C: CoefList, V: ValueList> Text for PcpspFile<'a, P, C, V> {
-    ghost text = { λ t. text_pcpsp (seen P.lists C.list V.list t.instance.now) };
+    ghost text = { λ t. text_pcpsp t.instance.now };
 
-    ghost kept = { λ t. IsKept (seen P.lists C.list V.list t.instance.now) };
+    ghost kept = { λ t. IsKept t.instance.now };
 
     #[tactic(auto, using(crate::proofs::SectionsWritten::nothing_put))]
     fn write<S: Sink>(
@@ -210,10 +209,9 @@ pub fn write_pcpsp<P: PredLists, C: CoefList, V: ValueList, S: Sink>(
     instance: &Instance<P, C, V>,
     sink: &mut S,
 ) -> Result<(), WriteFault>
-    requires { IsValid (seen P.lists C.list V.list instance.now) }
-    ensures writes { Writes (text_pcpsp (seen P.lists C.list V.list instance.now))
-        (S.state sink.old) (S.state sink.new) result }
-    ensures kept { OnOk result (IsKept (seen P.lists C.list V.list instance.now)) }
+    requires { IsValid instance.now }
+    ensures writes { Writes (text_pcpsp instance.now) (S.state sink.old) (S.state sink.new) result }
+    ensures kept { OnOk result (IsKept instance.now) }
 {
     write_text(alloc, &PcpspFile { instance }, sink)
 }
@@ -275,14 +273,14 @@ pub fn write_cpit<S: Sink>(alloc: Global, cpit: &Cpit, sink: &mut S) -> Result<(
 #[derive(Drop)]
 struct ChosenFile<'a, P: PredLists, C: CoefList, V: ValueList> {
     instance: &'a Instance<P, C, V>,
-    ghost valid: { IsValid (seen P.lists C.list V.list instance.now) },
+    ghost valid: { IsValid instance.now },
 }
 
 impl<'a, P: PredLists, C: CoefList, V: ValueList> Text for ChosenFile<'a, P, C, V> {
-    ghost text = { λ t. text_cpit (instance_cpit (seen P.lists C.list V.list t.instance.now)) };
+    ghost text = { λ t. text_cpit (instance_cpit t.instance.now) };
 
-    ghost kept = { λ t. IsKeptCpit (instance_cpit (seen P.lists C.list V.list t.instance.now))
-        × IsCpit (instance_cpit (seen P.lists C.list V.list t.instance.now)) };
+    ghost kept = { λ t. IsKeptCpit (instance_cpit t.instance.now)
+        × IsCpit (instance_cpit t.instance.now) };
 
     #[tactic(auto, using(crate::proofs::SectionsWritten::nothing_put))]
     fn write<S: Sink>(
@@ -324,11 +322,11 @@ fn write_chosen<P: PredLists, C: CoefList, V: ValueList, S: Sink>(
     instance: &Instance<P, C, V>,
     sink: &mut S,
 ) -> Result<(), WriteFault>
-    requires { IsValid (seen P.lists C.list V.list instance.now) }
-    ensures writes { Writes (text_cpit (instance_cpit (seen P.lists C.list V.list instance.now)))
+    requires { IsValid instance.now }
+    ensures writes { Writes (text_cpit (instance_cpit instance.now))
         (S.state sink.old) (S.state sink.new) result }
-    ensures kept { OnOk result (IsKeptCpit (instance_cpit (seen P.lists C.list V.list instance.now))) }
-    ensures is { OnOk result (IsCpit (instance_cpit (seen P.lists C.list V.list instance.now))) }
+    ensures kept { OnOk result (IsKeptCpit (instance_cpit instance.now)) }
+    ensures is { OnOk result (IsCpit (instance_cpit instance.now)) }
 {
     write_text(alloc, &ChosenFile { instance }, sink)
 }
@@ -340,10 +338,9 @@ pub fn write_named<P: PredLists, C: CoefList, V: ValueList, S: Sink>(
     instance: &Instance<P, C, V>,
     sink: &mut S,
 ) -> Result<(), WriteFault>
-    requires { IsValid (seen P.lists C.list V.list instance.now) }
-    ensures writes { Writes (text_named name (seen P.lists C.list V.list instance.now))
-        (S.state sink.old) (S.state sink.new) result }
-    ensures kept { OnOk result (kept_named name (seen P.lists C.list V.list instance.now)) }
+    requires { IsValid instance.now }
+    ensures writes { Writes (text_named name instance.now) (S.state sink.old) (S.state sink.new) result }
+    ensures kept { OnOk result (kept_named name instance.now) }
 {
     match name {
         TextName::Blocks => write_blocks(alloc, instance, sink),

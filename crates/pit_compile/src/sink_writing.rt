@@ -1,7 +1,6 @@
 //! Writing the texts of an instance, one sink after the other.
 
 ghost use Rattle.std.specs.Prelude.{◌≡◌, IfErr, OnOk};
-ghost use Rattle.mine_instance.specs.Seen.{seen};
 ghost use Rattle.mine_instance.specs.Valid.{IsValid};
 ghost use Rattle.pit_compile.specs.SinkAnswers.{AreCutOff};
 ghost use Rattle.pit_compile.specs.inner.SinkWriting.{in_sink};
@@ -34,11 +33,11 @@ pub fn write_texts<P: PredLists, C: CoefList, V: ValueList, S: Sink>(
     instance: &Instance<P, C, V>,
     sinks: &mut Sinks<S>,
 ) -> Result<(), Refusal>
-    requires { IsValid (seen P.lists C.list V.list instance.now) }
+    requires { IsValid instance.now }
     ensures written { let told = all_told S.state in
-        OnOk result (AreWritten (seen P.lists C.list V.list instance.now) (told sinks.old) (told sinks.new)) }
+        OnOk result (AreWritten instance.now (told sinks.old) (told sinks.new)) }
     ensures refused { let told = all_told S.state in
-        IfErr result (AreCutOff (seen P.lists C.list V.list instance.now) (told sinks.old) (told sinks.new)) }
+        IfErr result (AreCutOff instance.now (told sinks.old) (told sinks.new)) }
 {
     for name in TextName::all() {
         in_sink(name, write_named(alloc, name, instance, sinks.of_mut(name)))?;

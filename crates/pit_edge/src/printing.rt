@@ -1,7 +1,6 @@
 //! How the texts of an instance are printed into one vector.
 
 ghost use Rattle.std.specs.Prelude.{◌≡◌, ◌++◌, length, take, OnErr, OnOk};
-ghost use Rattle.mine_instance.specs.Seen.{seen};
 ghost use Rattle.mine_instance.specs.Valid.{IsValid};
 ghost use Rattle.minelib_writing.specs.Texts.{ending_of, text_named};
 ghost use Rattle.pit_edge.specs.Sections.{printed, section};
@@ -23,9 +22,9 @@ pub fn print<P: PredLists, C: CoefList, V: ValueList>(
     instance: &Instance<P, C, V>,
     out: &mut Vec<u8>,
 ) -> Result<(), AllocError>
-    requires { IsValid (seen P.lists C.list V.list instance.now) }
+    requires { IsValid instance.now }
     ensures ok { OnOk result
-        (out.new.items ≡ out.old.items ++ printed (seen P.lists C.list V.list instance.now)) }
+        (out.new.items ≡ out.old.items ++ printed instance.now) }
     ensures err { OnErr result (out.new.items ≡ out.old.items) }
 {
     let kept = out.len();
@@ -45,9 +44,9 @@ fn print_sections<P: PredLists, C: CoefList, V: ValueList>(
     instance: &Instance<P, C, V>,
     sink: &mut SectionSink,
 ) -> Result<(), WriteFault>
-    requires { IsValid (seen P.lists C.list V.list instance.now) }
+    requires { IsValid instance.now }
     ensures ok { OnOk result (sink.new.before ++ sink.new.taken
-        ≡ (sink.old.before ++ sink.old.taken) ++ printed (seen P.lists C.list V.list instance.now)) }
+        ≡ (sink.old.before ++ sink.old.taken) ++ printed instance.now) }
     ensures err { OnErr result (take (length sink.old.before) sink.new.before ≡ sink.old.before) }
 {
     for name in TextName::all() {
@@ -63,10 +62,10 @@ fn print_section<P: PredLists, C: CoefList, V: ValueList>(
     instance: &Instance<P, C, V>,
     sink: &mut SectionSink,
 ) -> Result<(), WriteFault>
-    requires { IsValid (seen P.lists C.list V.list instance.now) }
+    requires { IsValid instance.now }
     ensures ok { OnOk result (sink.new.before ++ sink.new.taken
         ≡ (sink.old.before ++ sink.old.taken)
-        ++ section (ending_of name) (text_named name (seen P.lists C.list V.list instance.now))) }
+        ++ section (ending_of name) (text_named name instance.now)) }
     ensures front { take (length sink.old.before) sink.new.before ≡ sink.old.before }
 {
     let line = format!(in alloc; "== {name}\n")?;

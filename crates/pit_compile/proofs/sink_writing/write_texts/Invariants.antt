@@ -1,5 +1,4 @@
 use Rattle.std.proofs.Common.{◌≡◌, All, take, drop}
-use Rattle.mine_instance.specs.Seen.{seen}
 use Rattle.pit_compile.specs.Sinks.{all_told}
 use Rattle.pit_compile.proofs.OneMoreSink.{IsAsItWas, IsHeld}
 use Rattle.minelib_writing.specs.Texts.{all_texts}
@@ -8,6 +7,6 @@ use Rattle.pit_compile.proofs.sink_writing.write_texts.Given as goal
 abbrev pub invariant-loop-name : goal.invariant-loop-name
 invariant-loop-name g l = record {
   names : l.name-items ≡ all_texts;
-  written : All (IsHeld (seen g.P.PredLists.lists g.C.CoefList.list g.V.ValueList.list l.instance) (all_told g.S.Sink.state l.fn.sinks) (all_told g.S.Sink.state l.sinks)) (take l.name-index all_texts);
+  written : All (IsHeld l.instance (all_told g.S.Sink.state l.fn.sinks) (all_told g.S.Sink.state l.sinks)) (take l.name-index all_texts);
   still : All (IsAsItWas (all_told g.S.Sink.state l.fn.sinks) (all_told g.S.Sink.state l.sinks)) (drop l.name-index all_texts);
 }

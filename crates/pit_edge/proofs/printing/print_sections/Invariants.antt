@@ -1,5 +1,4 @@
 use Rattle.std.proofs.Common.{◌≡◌, ◌++◌, flat_map, length, take}
-use Rattle.mine_instance.specs.Seen.{seen}
 use Rattle.minelib_writing.specs.Texts.{all_texts, ending_of, text_named}
 use Rattle.pit_edge.specs.Sections.{section}
 use Rattle.pit_edge.proofs.printing.print_sections.Given as goal
@@ -9,6 +8,6 @@ invariant-loop-name g l = record {
   names : l.name-items ≡ all_texts;
   printed : l.sink.before ++ l.sink.taken
       ≡ (l.fn.sink.before ++ l.fn.sink.taken)
-      ++ flat_map (λ name. section (ending_of name) (text_named name (seen g.P.PredLists.lists g.C.CoefList.list g.V.ValueList.list l.instance))) (take l.name-index all_texts);
+      ++ flat_map (λ name. section (ending_of name) (text_named name l.instance)) (take l.name-index all_texts);
   front : take (length l.fn.sink.before) l.sink.before ≡ l.fn.sink.before;
 }

@@ -1,9 +1,9 @@
-use Rattle.std.proofs.Common.{rules}
+use Rattle.std.proofs.Common.{rules, ◌≡◌, ap}
 use Rattle.std.proofs.lemmas.List.{length-map}
 use Rattle.std.proofs.lemmas.List.Elements.{All-filter, All-map}
 use Rattle.mine_instance.specs.Greatest.{greatest}
+use Rattle.mine_instance.specs.Instance.{Instance}
 use Rattle.mine_instance.specs.cpit.OfCpit.{is_chosen, without_destination}
-use Rattle.mine_instance.specs.Seen.{seen}
 use Rattle.pit_units.specs.Decimal.{IsInDecimalRange}
 use Rattle.minelib_lines.specs.Kept.{HasDecimals}
 use Rattle.minelib_writing.specs.Written.{greatest_fields, limit_fields}
@@ -16,21 +16,27 @@ use Rattle.minelib_writing.proofs.files.ChosenFileText.write.Goals as goal
 -- the keys were cut short, and so is what stands under them
 pub returns-in_err-write_keys-clause-writes : goal.returns-in_err-write_keys-clause-writes
 returns-in_err-write_keys-clause-writes g c =
-    let i = seen g.P.PredLists.lists g.C.CoefList.list g.V.ValueList.list c.args.self.now.instance.now in
+    let i = c.args.self.now.instance.now in
     let cut = lines_cut_before (chosen_keys i) (chosen_sections i)
     (rw (c.of_one_destination.ensures.values, c.type_text.ensures, c.keys.ensures) at c.in_err-write_keys.ensures) in
     rw (chosen_text i c.args.self.now.valid) (search rules)
 
 pub returns-clause-writes : goal.returns-clause-writes
 returns-clause-writes g c =
-    let i = seen g.P.PredLists.lists g.C.CoefList.list g.V.ValueList.list c.args.self.now.instance.now in
+    let i = c.args.self.now.instance.now in
+    let seen_values : g.V.ValueList.list c.instance.inside.values ≡ i.values = ap (λ (i : Instance). i.values) c.instance.view_is in
+    let seen_coefs : g.C.CoefList.list c.instance.inside.coefs ≡ i.coefs = ap (λ (i : Instance). i.coefs) c.instance.view_is in
+    let seen_limits : c.instance.inside.limits ≡ i.limits = ap (λ (i : Instance). i.limits) c.instance.view_is in
     let first = rw (c.of_one_destination.ensures.values, c.type_text.ensures, c.keys.ensures) at c.in_ok-write_keys.ensures in
     rw (chosen_text i c.args.self.now.valid)
-    (goes_on _ _ (chosen_keys i) (chosen_sections i) c.write_sections.result first (rw c.as_slice.ensures at c.write_sections.ensures.writes))
+    (goes_on _ _ (chosen_keys i) (chosen_sections i) c.write_sections.result first (rw (c.as_slice.ensures, seen_values, seen_coefs, seen_limits) at c.write_sections.ensures.writes))
 
 pub returns-clause-kept : goal.returns-clause-kept
 returns-clause-kept g c =
-    let i = seen g.P.PredLists.lists g.C.CoefList.list g.V.ValueList.list c.args.self.now.instance.now in
+    let i = c.args.self.now.instance.now in
+    let seen_values : g.V.ValueList.list c.instance.inside.values ≡ i.values = ap (λ (i : Instance). i.values) c.instance.view_is in
+    let seen_coefs : g.C.CoefList.list c.instance.inside.coefs ≡ i.coefs = ap (λ (i : Instance). i.coefs) c.instance.view_is in
+    let seen_limits : c.instance.inside.limits ≡ i.limits = ap (λ (i : Instance). i.limits) c.instance.view_is in
     on_ok_three c.write_sections.result
     (λ values coefs limits. (
       record {
@@ -44,4 +50,5 @@ returns-clause-kept g c =
       },
       c.a_valid_instance_has_a_cpit.ensures i c.args.self.now.valid,
     ))
-    c.write_sections.ensures.values c.write_sections.ensures.coefs (rw c.as_slice.ensures at c.write_sections.ensures.limits)
+    (rw seen_values at c.write_sections.ensures.values) (rw seen_coefs at c.write_sections.ensures.coefs)
+    (rw (c.as_slice.ensures, seen_limits) at c.write_sections.ensures.limits)

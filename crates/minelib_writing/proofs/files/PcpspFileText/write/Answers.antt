@@ -1,8 +1,9 @@
-use Rattle.std.proofs.Common.{rules, All, length}
+use Rattle.std.proofs.Common.{rules, ◌≡◌, All, ap, length}
 use Rattle.std.proofs.lemmas.List.{length-map}
 use Rattle.minelib_writing.specs.inner.CoefParts.{coef_part}
 use Rattle.minelib_writing.specs.declared.lines.coefs.CoefForm.TheVariants.{OfAll}
 use Rattle.pit_units.specs.Decimal.{IsInDecimalRange}
+use Rattle.mine_instance.specs.Instance.{Instance}
 use Rattle.minelib_lines.specs.Kept.{HasDecimals}
 use Rattle.minelib_lines.specs.HeaderTable.{key_value, keys_of, type_text}
 use Rattle.minelib_lines.specs.LineValues.{header_of}
@@ -20,21 +21,24 @@ returns g c =
     let i = c.args.self.now.instance.now in
     let keys = key_lines (key_value (type_text Pcpsp) (length i.blocks) (header_of i)) (keys_of Pcpsp) in
     let limits = lines_from limit_fields 0 i.limits in
-    let sections = section_lines (lines_from value_fields 0 (g.V.ValueList.list i.values)) (lines_from (coef_fields Pcpsp) 0 (g.C.CoefList.list i.coefs)) limits in
+    let sections = section_lines (lines_from value_fields 0 i.values) (lines_from (coef_fields Pcpsp) 0 i.coefs) limits in
+    let seen_values : g.V.ValueList.list c.instance.inside.values ≡ i.values = ap (λ (i : Instance). i.values) c.instance.view_is in
+    let seen_coefs : g.C.CoefList.list c.instance.inside.coefs ≡ i.coefs = ap (λ (i : Instance). i.coefs) c.instance.view_is in
+    let seen_limits : c.instance.inside.limits ≡ i.limits = ap (λ (i : Instance). i.limits) c.instance.view_is in
     let first = rw (c.of_instance.ensures.values, c.type_text.ensures, c.keys.ensures) at c.in_ok-write_keys.ensures in
     let whole = goes_on _ _ keys sections c.write_sections.result first
-    (rw c.as_slice.ensures at c.write_sections.ensures.writes) in
+    (rw (c.as_slice.ensures, seen_values, seen_coefs, seen_limits) at c.write_sections.ensures.writes) in
     record {
       writes = whole;
       kept = on_ok_three c.write_sections.result
           (λ values coefs limits. record {
             name = c.of_instance.ensures.kept;
-            values = kept_all (λ values. All IsInDecimalRange values) (g.V.ValueList.list i.values) _ (length-line_parts value_fields (g.V.ValueList.list i.values)) values;
-            coefs = kept_all (λ c. IsInDecimalRange c.v) (g.C.CoefList.list i.coefs) _ (length-map (g.C.CoefList.list i.coefs) (coef_part g.V.ValueList.list OfAll)) coefs;
+            values = kept_all (λ values. All IsInDecimalRange values) i.values _ (length-line_parts value_fields i.values) values;
+            coefs = kept_all (λ c. IsInDecimalRange c.v) i.coefs _ (length-map i.coefs (coef_part g.V.ValueList.list OfAll)) coefs;
             limits = kept_all (λ l. HasDecimals l.bound) i.limits _ (length-line_parts limit_fields i.limits) limits;
           })
-          c.write_sections.ensures.values c.write_sections.ensures.coefs
-          (rw c.as_slice.ensures at c.write_sections.ensures.limits);
+          (rw seen_values at c.write_sections.ensures.values) (rw seen_coefs at c.write_sections.ensures.coefs)
+          (rw (c.as_slice.ensures, seen_limits) at c.write_sections.ensures.limits);
     }
 
 -- the keys were cut short, and so is what stands under them
@@ -44,6 +48,6 @@ returns-in_err-write_keys-clause-writes g c =
     let i = c.args.self.now.instance.now in
     let keys = key_lines (key_value (type_text Pcpsp) (length i.blocks) (header_of i)) (keys_of Pcpsp) in
     let limits = lines_from limit_fields 0 i.limits in
-    let sections = section_lines (lines_from value_fields 0 (g.V.ValueList.list i.values)) (lines_from (coef_fields Pcpsp) 0 (g.C.CoefList.list i.coefs)) limits in
+    let sections = section_lines (lines_from value_fields 0 i.values) (lines_from (coef_fields Pcpsp) 0 i.coefs) limits in
     let cut = lines_cut_before keys sections (rw (c.of_instance.ensures.values, c.type_text.ensures, c.keys.ensures) at c.in_err-write_keys.ensures) in
     search rules

@@ -1,6 +1,7 @@
-use Rattle.std.proofs.Common.{rules, ◌∷◌, length}
+use Rattle.std.proofs.Common.{rules, ◌≡◌, ◌∷◌, ap, length}
 use Rattle.std.specs.Prelude.{codes}
 use Rattle.std.proofs.lemmas.Result.{on_ok_weaker}
+use Rattle.mine_instance.specs.Instance.{Instance}
 use Rattle.minelib_lines.specs.HeaderTable.{key_value, upit_keys}
 use Rattle.minelib_lines.specs.LineValues.{header_of}
 use Rattle.minelib_lines.specs.Lines.{lines_from}
@@ -13,9 +14,10 @@ unfolding text_upit
 returns g c =
     let i = c.args.self.now.instance.now in
     let keys = key_lines (key_value (codes "UPIT") (length i.blocks) (header_of i)) upit_keys in
-    let values = codes "OBJECTIVE_FUNCTION:" ∷ lines_from greatest_fields 0 (g.V.ValueList.list i.values) in
+    let values = codes "OBJECTIVE_FUNCTION:" ∷ lines_from greatest_fields 0 i.values in
+    let seen_values : g.V.ValueList.list c.instance.inside.values ≡ i.values = ap (λ (i : Instance). i.values) c.instance.view_is in
     let first = rw (c.of_instance.ensures.values, c.of_upit.ensures) at c.in_ok-write_keys.ensures in
-    let whole = goes_on _ _ keys values c.write_titled.result first c.write_titled.ensures.writes in
+    let whole = goes_on _ _ keys values c.write_titled.result first (rw seen_values at c.write_titled.ensures.writes) in
     record {
       writes = whole;
       kept = on_ok_weaker c.write_titled.result (λ _. tt) c.write_titled.ensures.kept;
@@ -27,6 +29,6 @@ unfolding text_upit
 returns-in_err-write_keys-clause-writes g c =
     let i = c.args.self.now.instance.now in
     let keys = key_lines (key_value (codes "UPIT") (length i.blocks) (header_of i)) upit_keys in
-    let values = codes "OBJECTIVE_FUNCTION:" ∷ lines_from greatest_fields 0 (g.V.ValueList.list i.values) in
+    let values = codes "OBJECTIVE_FUNCTION:" ∷ lines_from greatest_fields 0 i.values in
     let cut = lines_cut_before keys values (rw (c.of_instance.ensures.values, c.of_upit.ensures) at c.in_err-write_keys.ensures) in
     search rules
