@@ -6,6 +6,7 @@ pub mod FoundFacts
 pub mod GreatestFacts
 pub mod GroupFacts
 pub mod HundredsFacts
+pub mod KeptLaws
 pub mod ModelFacts
 pub mod OrderLaws
 pub mod ValueFacts

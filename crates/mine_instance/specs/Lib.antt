@@ -4,6 +4,7 @@ pub mod Greatest
 pub mod Groups
 pub mod Hundreds
 pub mod Instance
+pub mod Kept
 pub mod OfModel
 pub mod OneSlope
 pub mod Order

@@ -8,6 +8,7 @@ ghost use Rattle.precedence.specs.Cone.{preds as cone_lists};
 ghost use Rattle.precedence.specs.Identifier.{blocks_of_rows};
 ghost use Rattle.precedence.specs.Numbering.{IsNumbering, NumberingView};
 ghost use Rattle.rows.specs.Valued.{worths_by};
+ghost use Rattle.mine_instance.specs.Kept.{IsKept};
 ghost use Rattle.mine_instance.specs.OfModel.{instance, values_of, covering, covered};
 ghost use Rattle.mine_instance.specs.Valid.{IsValid};
 ghost use Rattle.pit_parts.specs.declared.ranges.TheConstants.{MAX_BLOCKS, MAX_DESTINATIONS, MAX_RESOURCES};
@@ -41,6 +42,7 @@ pub fn build(
         rows.now }
     ensures value { IfOk result (λ built. built ≡ instance plan.now (blocks_of_rows rows.now)) }
     ensures valid { IfOk result IsValid }
+    ensures kept { IfOk result IsKept }
 {
     let blocks = Vec::from_slice(alloc, numbering.blocks())?;
     let positions = Vec::from_slice(alloc, numbering.positions())?;
@@ -70,8 +72,12 @@ pub fn build_with<P: PredLists + Drop, V: ValueList + Drop>(
         → n.blocks ≡ blocks.items
         → IfOk result (λ built. built ≡ instance plan.now listed) }
     ensures valid { IfOk result IsValid }
+    ensures kept { IfOk result IsKept }
 {
-    let name = plan.name().copy(alloc)?;
+    let own = plan.name();
+    // The text of a NAME spells one.
+    let _text = own.as_str();
+    let name = own.copy(alloc)?;
     let pairs = covered_pairs(alloc, plan)?;
     let coefs = FoundCoefs::new(alloc, pairs, blocks.as_slice())?;
     let limits = Vec::from_slice(alloc, plan.limits())?;

@@ -3,6 +3,7 @@
 ghost use Rattle.std.specs.Prelude.{◌≡◌, ◌==◌, ◌<◌, ◌++◌, length, map, filter, All, IfOk, OnOk};
 ghost use Rattle.mine_instance.specs.Greatest.{greatest};
 ghost use Rattle.mine_instance.specs.Groups.{coefs_in};
+ghost use Rattle.mine_instance.specs.Kept.{IsKept, IsKeptCpit};
 ghost use Rattle.mine_instance.specs.cpit.OfCpit.{cpit, is_chosen, without_destination};
 ghost use Rattle.mine_instance.specs.Valid.{IsValid};
 
@@ -16,13 +17,15 @@ use precedence::PredLists;
 use std::alloc::{AllocError, Global};
 
 /// The CPIT of a valid instance: each block goes to the first destination where it is worth most, and has the value and the
-/// coefficients of that destination. Fails only where memory is refused.
+/// coefficients of that destination. Where the instance has a NAME and decimals, as each that was built or read, so has the CPIT. Fails
+/// only where memory is refused.
 pub fn build_cpit<P: PredLists, C: CoefList, V: ValueList>(
     alloc: Global,
     instance: &Instance<P, C, V>,
 ) -> Result<Cpit, AllocError>
     requires { IsValid instance.now }
-    ensures { IfOk result (λ built. built ≡ cpit instance.now) }
+    ensures value { IfOk result (λ built. built ≡ cpit instance.now) }
+    ensures kept { IsKept instance.now → IfOk result IsKeptCpit }
 {
     let name = instance.name.copy(alloc)?;
     let values = greatest_of(alloc, &instance.values)?;

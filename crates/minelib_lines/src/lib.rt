@@ -3,5 +3,4 @@
 
 pub mod header_key;
 pub mod key_values;
-pub mod laws;
 pub mod problem;

@@ -1,4 +1,5 @@
 pub mod Finished
+pub mod KeptRead
 pub mod ModelFacts
 pub mod ModelShapes
 pub mod ModelSteps

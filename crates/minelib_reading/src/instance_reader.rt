@@ -1,6 +1,7 @@
 //! Reading an instance, and a constrained pit limit problem, from texts.
 
 ghost use Rattle.std.specs.Prelude.{◌≡◌, ◌≤◌, length, IfOk};
+ghost use Rattle.mine_instance.specs.Kept.{IsKept, IsKeptCpit};
 ghost use Rattle.mine_instance.specs.Valid.{IsValid};
 ghost use Rattle.minelib_reading.specs.Denotes.{cpit_denoted, denoted};
 ghost use Rattle.pit_units.specs.OrMemory.{Gives};
@@ -33,6 +34,7 @@ pub fn read_instance(
 ) -> Result<Instance, OrMemory<TextFault>>
     ensures denoted { Gives (λ x. x) result (denoted blocks.now prec.now pcpsp.now) }
     ensures valid { IfOk result IsValid }
+    ensures kept { IfOk result IsKept }
 {
     let blocks = match read_blocks(alloc, blocks) {
         Ok(blocks) => blocks,
@@ -61,6 +63,7 @@ pub fn read_cpit(alloc: Global, n: usize, text: &[u8]) -> Result<Cpit, OrMemory<
     requires { n ≤ MAX_BLOCKS }
     ensures denoted { Gives (λ x. x) result (cpit_denoted n text.now) }
     ensures blocks { IfOk result (λ cpit. length cpit.values ≡ n) }
+    ensures kept { IfOk result IsKeptCpit }
 {
     let model = match read_model(alloc, Problem::Cpit, n, text) {
         Ok(model) => model,

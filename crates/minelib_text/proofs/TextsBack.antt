@@ -7,7 +7,7 @@ use Rattle.minelib_reading.specs.Denotes.{Denotes, DenotesCpit}
 use Rattle.minelib_reading.specs.StatedModel.{model_of, alone, model_of_cpit}
 use Rattle.minelib_reading.proofs.spelled.SpelledDenotes.{spelled_denoted, spelled_cpit}
 use Rattle.pit_units.specs.Decimal.{IsInDecimalRange}
-use Rattle.minelib_lines.specs.Kept.{IsKept, IsKeptCpit}
+use Rattle.mine_instance.specs.Kept.{IsKept, IsKeptCpit}
 use Rattle.minelib_lines.specs.declared.problem.Problem.TheVariants.{Pcpsp, Cpit}
 use Rattle.minelib_writing.specs.Written.{text_blocks, text_prec, text_pcpsp, text_cpit, coef_fields, value_fields}
 use Rattle.minelib_text.proofs.BlocksBack.{blocks_back, preds_back}

@@ -9,7 +9,7 @@ ghost use Rattle.mine_instance.specs.OneSlope.{instance_by};
 ghost use Rattle.mine_instance.specs.Valid.{IsValid};
 ghost use Rattle.mine_instance.specs.Instance.{Instance as AnInstance};
 ghost use Rattle.minelib_reading.specs.Denotes.{Denotes, DenotesCpit};
-ghost use Rattle.minelib_lines.specs.Kept.{IsKept, IsKeptCpit};
+ghost use Rattle.mine_instance.specs.Kept.{IsKept, IsKeptCpit};
 ghost use Rattle.minelib_reading.specs.ModelLines.{blank_model, model_grammar, model_in};
 ghost use Rattle.minelib_text.specs.SameTexts.{HaveSameTexts};
 ghost use Rattle.minelib_lines.specs.Lines.{text_of};
@@ -25,8 +25,8 @@ ghost use Rattle.pit_parts.specs.declared.block.Block.{Block};
 ghost use Rattle.precedence.specs.ConeLaws.{IsEven};
 ghost use Rattle.pit_parts.specs.declared.ranges.TheConstants.{MAX_BLOCKS};
 
-/// The texts of a valid instance denote that instance. That it has a NAME and decimals (`IsKept`), `write_pcpsp` says of every
-/// instance that it wrote.
+/// The texts of a valid instance denote that instance. That it has a NAME and decimals (`IsKept`), `build` and `read_instance` say of
+/// what they answer, and `write_pcpsp` of every instance that it wrote.
 #[tactic(auto, using(crate::proofs::TextsBack::written_again))]
 pub fn written_is_read()
     ensures { (i : AnInstance) → IsValid i → IsKept i
@@ -34,7 +34,8 @@ pub fn written_is_read()
 {}
 
 /// The text of a CPIT denotes that CPIT. That its parts are in their ranges and orders (`IsCpit`), with a NAME and decimals
-/// (`IsKeptCpit`), `write_cpit` says of every CPIT that it wrote.
+/// (`IsKeptCpit`), `write_cpit` says of every CPIT that it wrote; the latter `read_cpit` says of what it answers, and `build_cpit`
+/// where the instance has them.
 #[tactic(auto, using(crate::proofs::TextsBack::written_cpit_again))]
 pub fn written_cpit_is_read()
     ensures { (c : CpitParts) → IsCpit c → IsKeptCpit c

@@ -3,7 +3,7 @@ use Rattle.std.specs.Prelude.{⊤}
 use Rattle.mine_instance.specs.cpit.CpitKept.{IsCpit}
 use Rattle.mine_instance.specs.cpit.OfCpit.{cpit}
 use Rattle.mine_instance.specs.Instance.{Instance}
-use Rattle.minelib_lines.specs.Kept.{IsKept, IsKeptCpit}
+use Rattle.mine_instance.specs.Kept.{IsKept, IsKeptCpit}
 use Rattle.minelib_writing.specs.declared.text_name.TextName.{TextName}
 use Rattle.minelib_writing.specs.declared.text_name.TextName.TheVariants.{Pcpsp, Cpit}
 

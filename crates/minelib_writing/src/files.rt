@@ -6,7 +6,7 @@ ghost use Rattle.devices.specs.sinks.Writes.{Writes};
 ghost use Rattle.mine_instance.specs.cpit.CpitKept.{IsCpit};
 ghost use Rattle.mine_instance.specs.cpit.OfCpit.{cpit as instance_cpit};
 ghost use Rattle.mine_instance.specs.Valid.{IsValid};
-ghost use Rattle.minelib_lines.specs.Kept.{IsKept, IsKeptCpit};
+ghost use Rattle.mine_instance.specs.Kept.{IsKept, IsKeptCpit};
 ghost use Rattle.minelib_writing.specs.Texts.{text_named};
 ghost use Rattle.minelib_writing.specs.TextsKept.{kept_named};
 ghost use Rattle.minelib_writing.specs.Written.{text_blocks, text_prec, text_upit, text_pcpsp, text_cpit};

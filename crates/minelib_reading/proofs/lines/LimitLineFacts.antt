@@ -11,7 +11,7 @@ use Rattle.pit_parts.specs.declared.limit.Bound.{Bound}
 use Rattle.pit_parts.specs.declared.limit.Bound.TheVariants.{AtMost, AtLeast, Between}
 use Rattle.pit_parts.specs.declared.limit.Limit.{Limit}
 use Rattle.text_lines.specs.FieldValues.{decimal_in, first_by, whole_in}
-use Rattle.minelib_lines.specs.Kept.{HasDecimals}
+use Rattle.mine_instance.specs.Kept.{HasDecimals}
 use Rattle.text_lines.specs.LineKinds.{text_kinds}
 use Rattle.minelib_reading.specs.Fields.{any}
 use Rattle.minelib_reading.specs.inner.ModelParts.{limit_of_line}

@@ -2,7 +2,7 @@
 
 ghost use Rattle.std.specs.Prelude.{◌≡◌, ◌++◌, ◌∷◌, [], ◌*◌, pos, OnOk, decimal, ⊤};
 ghost use Rattle.pit_units.specs.Decimal.{IsInDecimalRange, shortest};
-ghost use Rattle.minelib_lines.specs.Kept.{HasDecimals};
+ghost use Rattle.mine_instance.specs.Kept.{HasDecimals};
 ghost use Rattle.minelib_lines.specs.Lines.{line_of};
 ghost use Rattle.forms.specs.Words.{written};
 ghost use Rattle.minelib_lines.specs.LineValues.{bound_values};

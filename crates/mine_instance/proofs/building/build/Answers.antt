@@ -44,3 +44,6 @@ returns-clause-value c =
 
 pub returns-clause-valid : goal.returns-clause-valid
 returns-clause-valid c = rw c.in_ok-kept.ensures c.in_ok-found.ensures.valid
+
+pub returns-clause-kept : goal.returns-clause-kept
+returns-clause-kept c = rw c.in_ok-kept.ensures c.in_ok-found.ensures.kept

@@ -1,4 +1,5 @@
 use Rattle.minelib_lines.specs.declared.problem.Problem.TheVariants.{Cpit}
+use Rattle.minelib_reading.proofs.models.KeptRead.{cpit_is_kept}
 use Rattle.minelib_reading.proofs.models.ValidRead.{cpit_is_valid, model_is_valid}
 use Rattle.minelib_reading.proofs.instance_reader.read_cpit.Goals as goal
 
@@ -11,3 +12,6 @@ into_cpit-requires-clause-cpit c = (cpit_is_valid c.args.n c.args.text.now c.in-
 pub returns-clause-blocks : goal.returns-clause-blocks
 returns-clause-blocks c =
     rw (c.in_ok-into_cpit.ensures) ((cpit_is_valid c.args.n c.args.text.now c.in-Ok.model c.requires c.in-Ok.ensures).1)
+
+pub returns-clause-kept : goal.returns-clause-kept
+returns-clause-kept c = rw (c.in_ok-into_cpit.ensures) (cpit_is_kept c.args.n c.args.text.now c.in-Ok.model c.in-Ok.ensures)

@@ -5,7 +5,7 @@ use Rattle.mine_instance.specs.Greatest.{greatest}
 use Rattle.mine_instance.specs.Instance.{Instance}
 use Rattle.mine_instance.specs.cpit.OfCpit.{is_chosen, without_destination}
 use Rattle.pit_units.specs.Decimal.{IsInDecimalRange}
-use Rattle.minelib_lines.specs.Kept.{HasDecimals}
+use Rattle.mine_instance.specs.Kept.{HasDecimals}
 use Rattle.minelib_writing.specs.Written.{greatest_fields, limit_fields}
 use Rattle.minelib_writing.proofs.ChosenFacts.{chosen_keys, chosen_sections, chosen_text}
 use Rattle.minelib_writing.proofs.KeptFacts.{kept_all, on_ok_three}

@@ -4,7 +4,7 @@ use Rattle.minelib_writing.specs.inner.CoefParts.{coef_part}
 use Rattle.minelib_writing.specs.declared.lines.coefs.CoefForm.TheVariants.{OfAll}
 use Rattle.pit_units.specs.Decimal.{IsInDecimalRange}
 use Rattle.mine_instance.specs.Instance.{Instance}
-use Rattle.minelib_lines.specs.Kept.{HasDecimals}
+use Rattle.mine_instance.specs.Kept.{HasDecimals}
 use Rattle.minelib_lines.specs.HeaderTable.{key_value, keys_of, type_text}
 use Rattle.minelib_lines.specs.LineValues.{header_of}
 use Rattle.minelib_lines.specs.Lines.{lines_from}

@@ -15,11 +15,11 @@ use Rattle.pit_parts.specs.declared.limit.Bound.TheVariants.{AtMost, AtLeast, Be
 use Rattle.pit_parts.proofs.WorthFacts.{worth_bound}
 use Rattle.mine_instance.specs.Greatest.{first_greatest, greatest}
 use Rattle.mine_instance.specs.Instance.{Instance}
-use Rattle.mine_instance.specs.OfModel.{block_coefs, by_identifier, coef_at, covered, in_hundreds, instance, values_of}
+use Rattle.mine_instance.specs.OfModel.{block_coefs, by_identifier, coef_at, covered, in_hundreds, instance, instance_of, values_of}
 use Rattle.mine_instance.specs.cpit.OfCpit.{cpit, is_chosen, without_destination}
 use Rattle.mine_instance.specs.declared.coefs.coef.Coef.{Coef}
 use Rattle.mine_instance.proofs.ModelFacts.{worths_fit}
-use Rattle.minelib_lines.specs.Kept.{HasDecimals, IsKept, IsKeptCpit}
+use Rattle.mine_instance.specs.Kept.{HasDecimals, IsKept, IsKeptCpit}
 
 -- worths, as values
 value_fits : (cents : ℤ) → IsWorth cents → IsInDecimalRange (in_hundreds cents)
@@ -57,13 +57,16 @@ bound_fits (AtMost v) is = tonnes_fit v is
 bound_fits (AtLeast v) is = tonnes_fit v is
 bound_fits (Between v w) is = (tonnes_fit v is.0, tonnes_fit w is.1)
 
-pub instance_kept : (plan : PlanParts) (listed : List Block) → is_name plan.name ≡ true → IsPlan plan → IsKept (instance plan listed)
-instance_kept plan listed named is = record {
+pub instance_of_kept : (plan : PlanParts) (blocks : List Block) → is_name plan.name ≡ true → IsPlan plan → IsKept (instance_of plan blocks)
+instance_of_kept plan blocks named is = record {
   name = named;
-  values = All-map (λ values. All IsInDecimalRange values) (values_of plan) (by_identifier listed) (λ k d within. values_fit plan is _);
-  coefs = coefs_fit (covered plan) (enumerate_from 0 (by_identifier listed));
+  values = All-map (λ values. All IsInDecimalRange values) (values_of plan) blocks (λ k d within. values_fit plan is _);
+  coefs = coefs_fit (covered plan) (enumerate_from 0 blocks);
   limits = λ k d within. bound_fits (get_or plan.limits k d).bound (is.limits k d within).2.tonnes;
 }
+
+pub instance_kept : (plan : PlanParts) (listed : List Block) → is_name plan.name ≡ true → IsPlan plan → IsKept (instance plan listed)
+instance_kept plan listed named is = instance_of_kept plan (by_identifier listed) named is
 
 -- a number of a list, or 0
 number_fits : (numbers : List ℤ) (place : ℕ) → All IsInDecimalRange numbers → IsInDecimalRange (slice_index_or numbers place (pos 0))
