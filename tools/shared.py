@@ -52,6 +52,14 @@ def with_program(doc):
     return parser
 
 
+def with_programs(doc):
+    """The same, where the second word is a built pitc_thin."""
+    parser = with_program(doc)
+    help_of_it = "a built pitc_thin, as crates/pitc_thin/out/pitc_thin, which rt run leaves there"
+    parser.add_argument("thin", type=os.path.abspath, help=help_of_it)
+    return parser
+
+
 def pages_with_recipes():
     """The pages whose blocks of commands are run."""
     return sorted(glob.glob(os.path.join(TOP, "docs/*.md")))
