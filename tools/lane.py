@@ -1,4 +1,4 @@
-"""Looks whether the lane of a built pitc has as many places as `--capacity` asks for.
+"""Looks whether the lane of a built pitc or pitc_thin has as many places as `--capacity` asks for.
 
 One allocation has to be the same number of bytes for each place, at each capacity.
 """
@@ -24,14 +24,14 @@ def is_lane(sizes, width):
     return all(sizes[one][width * one] > sizes[other][width * one] for one, other in pairs)
 
 
-def faults(program, library):
-    """What is wrong with the number of its places."""
-    runs = {places: memory.compiles(*memory.ONE, places) for places in CAPACITIES}
+def faults(program, library, with_capacity, usual):
+    """What is wrong with the number of its places, by runs with a capacity and usual ones."""
+    runs = {places: with_capacity(*memory.ONE, places) for places in CAPACITIES}
     sizes = {places: sizes_of(program, library, run) for places, run in runs.items()}
     widths = range(1, max(sizes[CAPACITIES[-1]], default=0) // CAPACITIES[-1] + 1)
     lanes = [width for width in widths if is_lane(sizes, width)]
     if len(lanes) != 1:
         return ["no allocation has as many places as --capacity asks for"]
-    size, usual = lanes[0] * USUAL, [memory.compiles(*memory.ONE), memory.pipes(*memory.ONE)]
+    size = lanes[0] * USUAL
     return [f"{trial.name}: the lane has not {USUAL} places" for trial in usual
             if sizes_of(program, library, trial)[size] <= sizes[1][size]]

@@ -1,7 +1,7 @@
 """The commands whose allocations tools/refused-memory refuses, one by one.
 
-What they answer with ample memory is in other tables. Where a run of `compile` may write there are
-files before it.
+What they answer with ample memory is in other tables. Where a run of `compile` or of pitc_thin may
+write there are files before it.
 """
 from rows.instance import LIMITED, MILL, ORE, PLAN, SAME, at, plain_texts, plan_of
 from rows.trial import Trial, piped, zone_file
@@ -13,6 +13,10 @@ LEACH = plan_of(
     rest="periods,2|rate,0.1|resource,plant,mill|limit,plant,1,I,0,900|limit,plant,0,L,500.5|",
 )
 GOOD = LEACH, zone_file("0,0,0,1000,5000", "10,0,0,0,7"), zone_file("0,0,10,1,0", "10,0,10,1,0")
+
+# Blocks on four benches, each in the cones of those up to three below.
+PLACES = [f"{x},{y},{z},1,0" for z in range(0, 40, 10) for y in range(0, 30, 10) for x in range(0, 30, 10)]
+BENCHES = plan_of(cones=["1,1,3"]), zone_file(*PLACES)
 
 ONE = "one_ore_block", (PLAN, ORE)
 
@@ -44,7 +48,16 @@ def checks(name, texts):
     return Trial(f"check {name}", words=["check", "base"], files=at("base", texts))
 
 
+def thins(name, model, capacity=None):
+    """A run of pitc_thin. The file that it writes stands first."""
+    plan, *zones = model
+    files = {f"zone{number}": text for number, text in enumerate(zones)}
+    words = compile_words("plan", "thin", files, capacity=capacity)[1:]
+    return Trial(f"pitc_thin {name}", words=words, files={"thin": b"before\n", "plan": plan, **files})
+
+
 def trials():
+    """Those of pitc."""
     for name, model, is_checked in MODELS:
         yield compiles(name, model)
         yield pipes(name, model)
@@ -59,3 +72,14 @@ def trials():
     yield pipes("with wrong settings", [LEACH])
     yield Trial("refused words", words=["nope"])
     yield Trial("help", words=["--help"])
+
+
+def trials_of_thin():
+    """Those of pitc_thin."""
+    for name, model, _ in MODELS:
+        yield thins(name, model)
+    yield thins("arcs that follow from others", BENCHES)
+    yield thins("with a faulty plan", [b"name\n", ORE])
+    yield thins("with wrong settings", (LEACH, ORE))
+    yield Trial("pitc_thin, refused words", words=["nope"])
+    yield Trial("pitc_thin, help", words=["--help"])

@@ -4,8 +4,9 @@ Its rows are run by the program pitc_thin, which stands beside pitc.
 """
 import random
 
+from rows import words as words_of_compile
 from rows.compile_form import REFUSED, compile_words
-from rows.trial import Folder, Link, Trial, refused, zone_file
+from rows.trial import Folder, Front, Link, Parts, Trial, refused, zone_file
 
 PLAN = """name,one
 grid,0,0,0,{sizes}
@@ -127,22 +128,59 @@ def of_random_zones():
         yield thinned(f"random zones {seed}", cells, zones, sizes)
 
 
-def words_of(words):
-    """The words of a refused run of compile, as those of pitc_thin, and its files."""
+def thin_words(words):
+    """The words of a run of compile, as those of pitc_thin, and its files."""
     run = compile_words(words)
     return {"words": ["--out", "thin", *run["words"][3:]], "files": run["files"]}
 
 
 def of_refusals():
     for name, line, words in REFUSED:
-        yield refused(name, line, **words_of(words))
+        yield refused(name, line, **thin_words(words))
     for name, put in (("a folder", Folder()), ("a full device", Link("/dev/full"))):
-        run = words_of("one ore")
+        run = thin_words("one ore")
         run["files"]["thin"] = put
         yield refused(f"{name} in the place of the file", "sink prec: SinkFailed", **run)
 
 
+# The words of a run of pitc_thin that ask for a text, and parts of it.
+ABOUT = "Writes the precedences of a model without arcs that follow from others."
+SHOWN = [
+    ("--help", ABOUT, "a solver has fewer arcs to take", "prints `rows N arcs M of L`", "[default: 64]"),
+    ("-h", ABOUT), ("--version", "pitc_thin "), ("-V", "pitc_thin "),
+    ("--plan one.plan --help", ABOUT), ("ore.csv -h", ABOUT),
+    ("--plan one.plan --out base ore.csv --version", "pitc_thin "),
+    ("--plan one.plan --out base --version ore.csv", "pitc_thin "),
+]
+
+# The words that are refused beside those of compile.
+ALSO_REFUSED = ["help", "check base", "compile", "ore.csv help"]
+
+
+def of_words():
+    """The words of runs of compile, but for their first, and the words that are those of pitc_thin alone."""
+    files, one = words_of_compile.FEW, {"out": b"rows 1 arcs 0 of 0\n", "files": words_of_compile.FEW}
+    for words in words_of_compile.TAKEN:
+        yield Trial(f"words that are taken: {words}", words=words.split()[1:], left={"base": b"0 0\n"}, **one)
+    for base, named in words_of_compile.BASES:
+        words = [*words_of_compile.ONE, *named, "ore.csv"]
+        if base:
+            yield Trial(f"a file of any spelling: {words}", words=words, left={base: b"0 0\n"}, **one)
+        else:
+            yield refused(f"a file without a name: {words}", "sink prec: SinkFailed", words=words, files=files)
+    for words, *parts in SHOWN:
+        out = Parts([part.encode() for part in parts])
+        yield Trial(f"words that ask: {words}", words=words.split(), files=files, out=out)
+    of_compile = [words.split()[1:] for words in words_of_compile.REFUSED if words.split()[0] == "compile"]
+    asking = [words.split() for words, *_ in SHOWN]
+    for words in [*of_compile, *map(str.split, ALSO_REFUSED)]:
+        if words not in asking:
+            yield Trial(f"words that are refused: {words}", 2, words=words, files=files, errors=Front(b"error: "))
+    yield refused("words that are not UTF-8", "command line: NotUtf8", words=[b"--plan", b"\xFF"], files=files)
+
+
 def trials():
+    yield from of_words()
     yield from of_zones()
     yield from of_random_zones()
     yield from of_refusals()
