@@ -522,8 +522,9 @@ def _look_at_ranges(problem: Problem, path: str) -> None:
                               f"{limit.resource} {limit.period}")
 
 
-def read_instance(base: str, texts: Sequence[str] = TEXTS) -> Instance:
-    """The files BASE.blocks and so on, those of `texts`; BASE.upit and BASE.cpit may be lacking.
+def read_instance(base: str, texts: Sequence[str] = TEXTS, precedence: Optional[str] = None) -> Instance:
+    """The files BASE.blocks and so on, those of `texts`; BASE.upit and BASE.cpit may be lacking. The
+    precedence file is the one at `precedence` where it is given, as that of `pitc_thin`.
 
     Raises BadInstance where a file is none, or they are of other numbers of blocks.
     """
@@ -532,7 +533,7 @@ def read_instance(base: str, texts: Sequence[str] = TEXTS) -> Instance:
                "cpit": lambda path: read_problem(path, "CPIT")}
     parts = {}
     for text in texts:
-        path = f"{base}.{text}"
+        path = precedence if text == "prec" and precedence is not None else f"{base}.{text}"
         if text in ("upit", "cpit") and not os.path.exists(path):
             continue
         parts["precedence" if text == "prec" else text] = readers[text](path)

@@ -7,10 +7,21 @@ import pytest
 sys.path.insert(0, os.path.dirname(os.path.dirname(os.path.abspath(__file__))))
 
 
+def _built(name: str, variable: str) -> str:
+    """The path of a built program, which the environment names."""
+    program = os.environ.get(variable, "")
+    if not os.access(program, os.X_OK):
+        pytest.skip(f"no built {name}: tools/python-tests PROGRAM names one")
+    return os.path.abspath(program)
+
+
 @pytest.fixture
 def pitc():
     """The path of a built pitc, which the environment names as PITC."""
-    program = os.environ.get("PITC", "")
-    if not os.access(program, os.X_OK):
-        pytest.skip("no built pitc: tools/python-tests PROGRAM names one")
-    return os.path.abspath(program)
+    return _built("pitc", "PITC")
+
+
+@pytest.fixture
+def pitc_thin():
+    """The path of a built pitc_thin, which the environment names as PITC_THIN."""
+    return _built("pitc_thin", "PITC_THIN")

@@ -4,3 +4,14 @@ A module has `HELP`, what the command does with an example; `add_arguments(parse
 its words; and `run(args)`, which answers the status to end with. Packages that take long to load,
 as pandas, are imported by the functions that need them or by modules beside this folder.
 """
+from __future__ import annotations
+
+import argparse
+
+#: What a command says of its precedence file.
+PRECEDENCE = "BASE.prec, or what pitc_thin wrote"
+
+
+def add_precedence_option(parser: argparse.ArgumentParser) -> None:
+    """The option --prec of commands that read an instance by its base."""
+    parser.add_argument("--prec", metavar="FILE", help="a precedence file in place of BASE.prec, as that of pitc_thin")

@@ -3,6 +3,8 @@ from __future__ import annotations
 
 import argparse
 
+from pit_tools.commands import PRECEDENCE
+
 HELP = """\
 Tells what a schedule of a CPIT or a PCPSP is worth and uses, and what it breaks: a block that is mined
 sooner than one it waits for, more than once, or split over periods; a limit that is not kept.
@@ -20,7 +22,7 @@ is 1 where something is broken. What is off by a millionth is not counted.
 
 def add_arguments(parser: argparse.ArgumentParser) -> None:
     parser.add_argument("problem", help="BASE.cpit or BASE.pcpsp")
-    parser.add_argument("precedence", help="BASE.prec")
+    parser.add_argument("precedence", help=PRECEDENCE)
     parser.add_argument("schedule", nargs="?", help="the schedule")
     parser.add_argument("--solution", metavar="FILE", help="a solver's answer in place of a schedule")
     parser.add_argument("--out", metavar="FILE", help="writes the schedule of --solution")

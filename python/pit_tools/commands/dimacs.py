@@ -3,10 +3,12 @@ from __future__ import annotations
 
 import argparse
 
+from pit_tools.commands import PRECEDENCE
+
 HELP = """\
 Writes the ultimate pit of an instance as a maximum flow in the DIMACS form, which solvers of flows read.
 
-    pit-tools dimacs deposit.upit deposit.prec --out deposit.max
+    pit-tools dimacs deposit.upit deposit.thin --out deposit.max
 
 Node b + 1 is block b; then come the source and the sink. Capacities are cents. The flow from the source
 to blocks of worth, less the maximum flow, is what the pit is worth; the source's side of a minimum cut is
@@ -16,7 +18,7 @@ the pit. (LEMON's solver wants `-long`, without which it answers 0.)
 
 def add_arguments(parser: argparse.ArgumentParser) -> None:
     parser.add_argument("upit", help="BASE.upit")
-    parser.add_argument("precedence", help="BASE.prec")
+    parser.add_argument("precedence", help=PRECEDENCE)
     parser.add_argument("--out", required=True, metavar="FILE", help="where it goes")
 
 

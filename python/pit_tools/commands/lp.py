@@ -3,11 +3,13 @@ from __future__ import annotations
 
 import argparse
 
+from pit_tools.commands import PRECEDENCE
+
 HELP = """\
 Writes a UPIT, a CPIT or a PCPSP as a program in the LP format (that of CPLEX), which glpsol, cbc,
 HiGHS, SCIP, Gurobi and others read.
 
-    pit-tools lp deposit.upit deposit.prec --out deposit.lp
+    pit-tools lp deposit.upit deposit.thin --out deposit.lp
     pit-tools lp small.pcpsp small.prec --out small.lp
     cbc small.lp solve solution small.sol
     pit-tools check-schedule small.pcpsp small.prec --solution small.sol
@@ -15,18 +17,18 @@ HiGHS, SCIP, Gurobi and others read.
 A UPIT has a variable x12 for block 12, which is 0 or 1 by itself. The others have w12_3, what is mined
 of block 12 by the end of period 3; x12_3, what is mined of it in period 3, 0 or 1 (--relaxed has no x);
 and a PCPSP y12_1_3, the share of it that goes to destination 1 in period 3. A value of period t counts 1 / (1 + rate)^t. Arcs that others imply
-are left out, where a C++ compiler is there: no answer changes.
+are left out, where a C++ compiler is there: no answer changes. --all-arcs leaves those of the file.
 """
 
 
 def add_arguments(parser: argparse.ArgumentParser) -> None:
     parser.add_argument("problem", help="BASE.upit, BASE.cpit or BASE.pcpsp")
-    parser.add_argument("precedence", help="BASE.prec")
+    parser.add_argument("precedence", help=PRECEDENCE)
     parser.add_argument("--out", metavar="FILE", help="where it goes; else it is printed")
     parser.add_argument("--relaxed", action="store_true", help="lets blocks be split over periods: a bound")
     parser.add_argument("--whole", action="store_true", help="lets no block of a PCPSP be split over destinations")
     parser.add_argument("--by-period", action="store_true", help="without w: rows are longer, and cbc is quicker")
-    parser.add_argument("--all-arcs", action="store_true", help="with arcs that others imply")
+    parser.add_argument("--all-arcs", action="store_true", help="all arcs of the file, also such as others imply")
 
 
 def run(args: argparse.Namespace) -> int:

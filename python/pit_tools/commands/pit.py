@@ -3,6 +3,8 @@ from __future__ import annotations
 
 import argparse
 
+from pit_tools.commands import add_precedence_option
+
 HELP = """\
 Finds the ultimate pit of an instance: the blocks of greatest value in all, each with all that it
 waits for. A program of C++ does it, in a second or two for a million blocks at K = 1; where no C++
@@ -13,6 +15,10 @@ compiler is there, HiGHS solves it up to some ten thousand blocks.
 reads deposit.blocks, deposit.prec and deposit.upit, writes the identifiers of the pit's blocks, one
 a line, and prints how many they are, their tonnes and their worth in units of 100 cents.
 
+    pit-tools pit deposit --prec deposit.thin
+
+reads the arcs of deposit.thin, which pitc_thin wrote: the same pit, by fewer arcs.
+
     pit-tools pit deposit --plan deposit.plan --K 1,2,4,9,plan --out k
 
 finds the pit for one K after the other, that of all zones, or the plan's own where `plan` stands. It
@@ -22,6 +28,7 @@ reads no precedences, since they follow from the plan, and writes k1.pit, k2.pit
 
 def add_arguments(parser: argparse.ArgumentParser) -> None:
     parser.add_argument("base", help="the instance: BASE.blocks, BASE.prec, BASE.upit")
+    add_precedence_option(parser)
     parser.add_argument("--out", metavar="FILE", help="where the pit's blocks go; with --K the beginning of the names")
     parser.add_argument("--plan", metavar="PLAN", help="finds the arcs by this plan, and not by BASE.prec")
     parser.add_argument("--K", metavar="LIST", default="plan", help="benches that cones go up, as 1,2,4,plan; needs --plan")
@@ -33,11 +40,13 @@ def run(args: argparse.Namespace) -> int:
     from pit_tools.instance import read_instance
     from pit_tools.pits import told, write_pit
 
+    if args.plan and args.prec:
+        raise UserError("--plan finds the arcs, so it goes without --prec")
     if args.plan:
         return _by_plan(args)
     if args.K != "plan":
         raise UserError("--K needs --plan")
-    mine = read_instance(args.base, ("blocks", "prec", "upit"))
+    mine = read_instance(args.base, ("blocks", "prec", "upit"), args.prec)
     if mine.upit is None:
         raise UserError(f"cannot open {args.base}.upit: No such file or directory")
     in_pit = ultimate_pit(mine.upit.values, mine.precedence)

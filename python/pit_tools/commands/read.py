@@ -3,6 +3,8 @@ from __future__ import annotations
 
 import argparse
 
+from pit_tools.commands import add_precedence_option
+
 HELP = """\
 Reads the files of an instance into arrays and sparse matrices, and prints the counts that
 `pitc check` prints.
@@ -10,6 +12,7 @@ Reads the files of an instance into arrays and sparse matrices, and prints the c
     pit-tools read deposit
     pit-tools read deposit --write copy              the same files again, to the byte
     pit-tools read deposit --arrays deposit.npz      for numpy.load
+    pit-tools read deposit --prec deposit.thin          with the arcs that pitc_thin left
     pit-tools read deposit --immediate fewer         the files without arcs that others imply
 
 A program of your own calls pit_tools.instance.read_instance.
@@ -18,6 +21,7 @@ A program of your own calls pit_tools.instance.read_instance.
 
 def add_arguments(parser: argparse.ArgumentParser) -> None:
     parser.add_argument("base", help="the instance: BASE.blocks, BASE.prec, BASE.upit, BASE.pcpsp, BASE.cpit")
+    add_precedence_option(parser)
     parser.add_argument("--write", metavar="BASE", help="writes the files at another base")
     parser.add_argument("--arrays", metavar="FILE", help="writes blocks, values, uses and the precedences' "
                         "indptr and indices into a .npz file")
@@ -30,7 +34,7 @@ def run(args: argparse.Namespace) -> int:
 
     from pit_tools.instance import read_instance, write_instance
 
-    mine = read_instance(args.base)
+    mine = read_instance(args.base, precedence=args.prec)
     print(mine.counts())
     if args.write:
         write_instance(mine, args.write)

@@ -3,6 +3,8 @@ from __future__ import annotations
 
 import argparse
 
+from pit_tools.commands import PRECEDENCE
+
 HELP = """\
 Finds the best schedule of a CPIT or a PCPSP of some hundred blocks, or a good one of some thousand, by
 HiGHS, which comes with scipy; or the bound of the relaxation.
@@ -20,10 +22,11 @@ discounted is for the solver to say: here it is not.
 
 def add_arguments(parser: argparse.ArgumentParser) -> None:
     parser.add_argument("problem", help="BASE.cpit or BASE.pcpsp")
-    parser.add_argument("precedence", help="BASE.prec")
+    parser.add_argument("precedence", help=PRECEDENCE)
     parser.add_argument("--out", metavar="FILE", help="where the schedule goes")
     parser.add_argument("--relaxed", action="store_true", help="lets blocks be split over periods: its value is a bound")
     parser.add_argument("--whole", action="store_true", help="lets no block of a PCPSP be split over destinations")
+    parser.add_argument("--all-arcs", action="store_true", help="all arcs of the file, also such as others imply")
     parser.add_argument("--seconds", type=float, default=60, metavar="N", help="stops after so many (60); 0 for never")
     parser.add_argument("--ratio", type=float, default=0.0, metavar="R", help="stops once no schedule can be better by more, as 0.01")
 
@@ -35,7 +38,7 @@ def run(args: argparse.Namespace) -> int:
     from pit_tools.schedules import write_schedule
 
     problem = read_problem(args.problem)
-    precedence = fewer_arcs(read_precedence(args.precedence, len(problem.values)))
+    precedence = fewer_arcs(read_precedence(args.precedence, len(problem.values)), args.all_arcs)
     program = program_of(problem, precedence, args.relaxed, args.whole)
     answer = solve(program, args.seconds or None, args.ratio)
     if answer.values is None:
