@@ -16,8 +16,9 @@ HiGHS, SCIP, Gurobi and others read.
 
 A UPIT has a variable x12 for block 12, which is 0 or 1 by itself. The others have w12_3, what is mined
 of block 12 by the end of period 3; x12_3, what is mined of it in period 3, 0 or 1 (--relaxed has no x);
-and a PCPSP y12_1_3, the share of it that goes to destination 1 in period 3. A value of period t counts 1 / (1 + rate)^t. Arcs that others imply
-are left out, where a C++ compiler is there: no answer changes. --all-arcs leaves those of the file.
+and a PCPSP y12_1_3, the share of it that goes to destination 1 in period 3. A value of period t counts
+1 / (1 + rate)^t. Arcs that others imply are left out, where a C++ compiler is there, but with --all-arcs:
+no answer changes.
 """
 
 
