@@ -1,0 +1,371 @@
+"""One text of definitions: what some calls promise, each word behind the words that it uses.
+
+A page of the project is printed whole. Of a file of code the text has the types, traits, constants
+and calls that are used, without bodies and private fields; of the toolchain's library, and of the
+crates that come with it, the definitions that are used. tools/library_words.py tells the words that
+no source defines, or whose source says less than a sentence.
+"""
+import functools
+import os
+import re
+import subprocess
+from typing import Dict, Iterator, List, NamedTuple, Optional, Set, Tuple
+
+import library_words
+import shared
+
+# The parts of the text, each with the calls whose contracts stand at its end.
+PARTS: Dict[str, List[Tuple[str, str]]] = {
+    "run": [("crates/pit_compile/src/running.rt", "run")],
+    "pipe": [("crates/pit_model/src/plan_reader.rt", "read_plan"),
+             ("crates/pit_commands/src/model.rt", "read_model"),
+             ("crates/pit_commands/src/pipe_form.rt", "pipe")],
+    "check": [("crates/pit_check/src/check.rt", "check")],
+}
+
+WORD = r"(?:\[\]|[^\s(){}:]+)"
+IMPORT = re.compile(r"(?m)^ *((?:\w+ )*?)use ([\w.]+?)(?:\.\{(.*?)\})?(?: as ([^\s;]+))?;?$")
+DECLARED = re.compile(rf"(?m)^(?: *(?:abbrev|unfoldable|opaque) (?:pub )?| *pub (?=record|data)|pub )(?:record |data )?({WORD})(?= )")
+PRIVATE = re.compile(rf"(?m)^({WORD})(?: \{{[^}}]*\}})? : ")
+CONSTRUCTORS = re.compile(rf"(?m)^  (?!pub )({WORD}(?: {WORD})*) : ")
+DATA = re.compile(r"(?m)^(?:pub )?data ")
+CLAUSE = re.compile(r"(?s)(?:ensures|requires)(?: \w+)? \{(.*?)\}(?=\s*(?:;|,|\Z|ensures|requires))")
+MODULE = re.compile(r"(?m)^ *module .*")
+ITEM = re.compile(r"(?m)^((?://[^\n]*\n|#\[[^\n]*\n)*)pub(?:\(crate\))? "
+                  r"((?:const|type) (\w+)[^;]*;|(?:struct|enum|trait|fn) (\w+)(?:[^{\n]*;$|(?s:.*?)^(?:\}|\{)$))")
+FIELD = re.compile(r"(?m)(?:^    ///[^\n]*\n)*^    (?!pub\b|///)[^\n]*,\n")
+SEEN = r"(?ms)^impl[^\n]* for {}\b[^\n]*\{{$.*?ghost Value = ([^\n]*?);$"
+TOKEN = re.compile(r"\[\]|[^\s(){}\[\],;:`\"]+")
+
+
+class Piece(NamedTuple):
+    """A part of a file that is printed whole, with the names that it defines."""
+
+    path: str
+    names: Tuple[str, ...]
+    text: str
+
+
+class Imports(NamedTuple):
+    """Words by the pages that they come from, pages by their short names, and the words that are passed on."""
+
+    words: Dict[str, Tuple[str, str]]
+    pages: Dict[str, str]
+    passed: Dict[str, Tuple[str, str]]
+
+
+def is_own(path: str) -> bool:
+    """Whether a file is the project's."""
+    return path.startswith("crates/")
+
+
+def is_code(path: str) -> bool:
+    return path.endswith(".rt")
+
+
+@functools.lru_cache(None)
+def library() -> str:
+    """The folder of the toolchain's libraries."""
+    told = subprocess.run(["rt", "doc"], capture_output=True, text=True, check=True)
+    return os.path.join(os.path.dirname(told.stdout.strip()), "rattle")
+
+
+@functools.lru_cache(None)
+def file_of(page: str) -> Optional[str]:
+    """The file of a page that is named as imports name it, if its source is there."""
+    first, *rest = page.split(".")
+    tops = {"lib": "logic/Lib", "mathlib": "antt/port/mathlib/src"}
+    if first in tops:
+        path = os.path.join(library(), tops[first], *rest) + ".antt"
+    elif first != "Rattle" or len(rest) < 3:
+        return None
+    else:
+        crate = f"crates/{rest[0]}" if os.path.isdir(f"crates/{rest[0]}") else os.path.join(library(), rest[0])
+        if rest[1:3] == ["specs", "declared"]:
+            ends = [part for part in rest[3:] if part not in ("TheVariants", "TheConstants")]
+            ends = ends if rest[-1] == "TheConstants" else ends[:-1]
+            path = os.path.join(crate, "src", *(ends or ["lib"])) + ".rt"
+        else:
+            path = os.path.join(crate, *rest[1:]) + ".antt"
+            lent = f"{crate}/specs/Lib.antt"
+            if not os.path.isfile(path) and rest[1] == "specs" and os.path.isfile(lent):
+                passed = re.search(rf"(?m)^pub use (\S+\.{rest[2]})$", shared.read(lent))
+                return file_of(".".join([passed[1], *rest[3:]])) if passed else None
+    return path if os.path.isfile(path) else None
+
+
+@functools.lru_cache(None)
+def pieces(path: str) -> List[Piece]:
+    """The parts of a file, in its order."""
+    text = shared.read(path)
+    if is_code(path):
+        return [code_piece(path, text, *found) for found in ITEM.findall(text)]
+    found: List[Piece] = []
+    over = ""
+    for part in filter(str.strip, re.split(r"\n\n+", re.sub(r"(?m)^ *(?:\w+ )*(?:use|mod) .*\n?", "\n", text))):
+        part = part.strip("\n")
+        over = MODULE.findall(part)[-1] if MODULE.search(part) else over if part.startswith("  ") else ""
+        code = re.sub(r"(?m)--.*", "", part)
+        names = DECLARED.findall(code) + PRIVATE.findall(code)
+        if DATA.search(code):
+            names += " ".join(CONSTRUCTORS.findall(code)).split()
+        shown = part if is_own(path) or MODULE.search(part) or not over else f"{over}\n{part}"
+        found.append(Piece(path, tuple(dict.fromkeys(names)), shown))
+    return found
+
+
+def code_piece(path: str, text: str, comment: str, item: str, constant: str, other: str) -> Piece:
+    """A type, a trait or a constant, or a call without its body. Of a type that is seen as something else, what it is seen as."""
+    name, comment = constant or other, re.sub(r"(?m)^#\[.*\n", "", comment)
+    seen = re.search(SEEN.format(name), text)
+    if seen:
+        item = f"{item.split(' ')[0]} {name}, seen as {seen[1]}"
+    elif item.startswith("struct"):
+        item = FIELD.sub("", item) if is_own(path) else item
+    elif item.startswith("fn"):
+        item = item.rstrip("{").rstrip()
+    return Piece(path, (name,), comment + item)
+
+
+@functools.lru_cache(None)
+def imports(path: str) -> Imports:
+    found = Imports({}, {}, {})
+    for how, page, listed, alias in IMPORT.findall(shared.read(path)):
+        if not listed:
+            found.pages[alias or page.split(".")[-1]] = page
+        for word in filter(None, listed.split(", ")):
+            name, _, own = word.partition(" as ")
+            found.words[own or name] = page, name
+            if "pub" in how:
+                found.passed[own or name] = page, name
+    return found
+
+
+def find(page: str, name: str) -> Optional[Piece]:
+    """Where a word of a page is defined: there, or where it is passed on from."""
+    path = file_of(page)
+    if not path:
+        return None
+    name = page.split(".")[-2] if page.endswith(".TheVariants") else name
+    for piece in pieces(path):
+        if name in piece.names:
+            return piece
+    passed = imports(path).passed
+    return find(*passed[name]) if name in passed else None
+
+
+@functools.lru_cache(None)
+def code_imports(path: str) -> Dict[str, List[str]]:
+    """The words that a file of code imports from the project, by their paths."""
+    found = {}
+    for line in re.findall(r"(?m)^(?:pub )?use ([^;]+);", shared.read(path)):
+        front, _, listed = line.partition("{")
+        for word in re.split(r",\s*", listed.strip("} \n")) if listed else [""]:
+            way, _, own = (front + word.strip()).partition(" as ")
+            found[own or way.split("::")[-1]] = way.split("::")
+    return found
+
+
+def find_in_code(here: str, way: List[str]) -> Optional[Piece]:
+    """What a path of Rust names from a file of a crate, if the project declares it."""
+    crate = here.split("/src/")[0] if way[0] == "crate" else f"crates/{way[0]}"
+    path = next(filter(os.path.isfile, (f"{crate}/src/{'/'.join(part)}.rt" for part in (way[1:-1], ["lib"]))), None)
+    if not path:
+        return None
+    for piece in pieces(path):
+        if way[-1] in piece.names:
+            return piece
+    passed = code_imports(path)
+    for at in range(1, len(way)):
+        if way[at] in passed and passed[way[at]] != way[:at + 1]:
+            front = passed[way[at]]
+            front = front if front[0] == "crate" or os.path.isdir(f"crates/{front[0]}") else ["crate", *front]
+            return find_in_code(path, [*front, *way[at + 1:]])
+    return None
+
+
+def code_of(piece: Piece) -> str:
+    """Without comments and how operators bind; of code without the signs of Rust."""
+    if is_code(piece.path):
+        return re.sub(r"(?<=\w)<|>|&|::", " ", re.sub("//.*", "", piece.text))
+    return re.sub(r'(?m)(?:(?<=\s)|^)--.*|^ *infix.*|"[^"\n]*"', "", piece.text)
+
+
+@functools.lru_cache(None)
+def tokens_of(piece: Piece) -> Tuple[str, ...]:
+    """Its words and signs, in order; a word behind a point stays with what stands before."""
+    return tuple(token.rstrip(".") for token in TOKEN.findall(code_of(piece)) if token[0] != ".")
+
+
+def bound(piece: Piece) -> Set[str]:
+    """Its variables and fields: before a colon in brackets, behind λ and `let`, left of an arrow, and on the left of an equation."""
+    modules = "" if is_code(piece.path) else "\n".join(MODULE.findall(shared.read(piece.path)))
+    code = code_of(piece) + modules
+    groups = re.findall(r"[({]([^(){}:]+) : |λ ([^.]*)\.|\blet (\S+) =|\n +(?:pub )?(\S+) (?::|=) |[{;] (\w+) =|(\w+) ←", code)
+    groups += [(left,) for left in re.findall(r"(?m)^ *(\S.*?) =(?: |$)", re.sub(r"\{\w+ = \w+\}", "", code))]
+    return set(re.findall(r"[^\s(){}:,]+", " ".join(" ".join(group) for group in groups)))
+
+
+def is_data(piece: Piece) -> bool:
+    """Whether it declares variants, whose names are no variables."""
+    return DATA.search(piece.text) is not None
+
+
+def is_said(name: str, heads: Set[str]) -> bool:
+    """Whether a word stands there, or each sign of one that has places for its operands."""
+    return name in heads or "◌" in name and all(sign in heads for sign in name.split("◌") if sign)
+
+
+@functools.lru_cache(None)
+def used(piece: Piece) -> Dict[str, Optional[Piece]]:
+    """The words that a piece uses, each with the piece that defines it, or none where no source here does."""
+    words, pages, _ = imports(piece.path)
+    tokens = tokens_of(piece)
+    heads = {token.split(".")[0] for token in tokens}
+    found = {name: find(*source) for name, source in words.items() if is_said(name, heads)}
+    for front, _, name in (token.partition(".") for token in tokens):
+        if front in pages and name:
+            found[f"{front}.{name}"] = find(pages[front], name.split(".")[0])
+    own = heads - bound(piece)
+    for other in pieces(piece.path):
+        found.update((name, other) for name in other.names if is_said(name, heads if is_data(other) else own))
+    if is_code(piece.path):
+        ways = {name: way for name, way in code_imports(piece.path).items() if name in heads and name not in found}
+        code = {name: find_in_code(piece.path, way) for name, way in ways.items()}
+        found.update((name, other) for name, other in code.items() if other)
+    return {name: other for name, other in found.items() if name not in piece.names}
+
+
+# The words of the library that a list tells, and no definition.
+LISTED = {word for words in library_words.LIBRARY for word in words}
+
+
+def is_listed(name: str, other: Optional[Piece]) -> bool:
+    """Whether a used word is one of these: the library's, and no word of the project that has its name."""
+    return name in LISTED and not (other and is_own(other.path))
+
+
+def needs(piece: Piece) -> Iterator[Piece]:
+    """The pieces that have to stand before one."""
+    return (other for name, other in used(piece).items() if other and not is_listed(name, other))
+
+
+def ordered(roots: List[Piece]) -> List[Piece]:
+    """All that some pieces stand on, each behind what it uses, and they themselves. A page stays whole."""
+    found: Dict[Piece, None] = {}
+    begun: Set[Piece] = set()
+
+    def visit(piece: Piece) -> None:
+        if piece in begun:
+            return
+        group = [piece]
+        if not is_code(piece.path):
+            group = [other for other in pieces(piece.path) if is_own(piece.path) or other in wanted]
+        begun.update(group)
+        for one in group:
+            for other in needs(one):
+                visit(other)
+        found.update(dict.fromkeys(group))
+
+    wanted = closure(roots)
+    for root in roots:
+        visit(root)
+    return list(found)
+
+
+def closure(roots: List[Piece]) -> Set[Piece]:
+    """The same in no order."""
+    found: Set[Piece] = set()
+    more = list(roots)
+    while more:
+        piece = more.pop()
+        if piece not in found:
+            found.add(piece)
+            more += needs(piece)
+            more += pieces(piece.path) if is_own(piece.path) and not is_code(piece.path) else []
+    return found
+
+
+def unknown(piece: Piece) -> Set[str]:
+    """What a definition or a clause says that is no variable of it, no word that is found, no number and no sign of the language."""
+    said, names = piece, {*used(piece), *piece.names, *library_words.SIGNS}
+    if is_code(piece.path):
+        code = re.sub("//.*", "", piece.text)
+        said = piece._replace(text=" ".join(CLAUSE.findall(code)))
+        named = re.findall(r"\w+(?=:)|(?<=[<,])\s*\w+(?=[:,>])|(?<=type )\w+", code)
+        names.update(["result", "self", "Self", *map(str.strip, named)])
+    known = {part for name in names for part in [name.split(".")[0], *name.split("◌")]} | bound(said)
+    return {token.split(".")[0] for token in tokens_of(said) if not token[0].isdigit()} - known
+
+
+def unmet(printed: List[Piece]) -> Iterator[str]:
+    """The words of a text that stand before their definitions, and those that nothing defines."""
+    before: Set[Piece] = set()
+    for piece in printed:
+        for name, other in used(piece).items():
+            if is_listed(name, other):
+                continue
+            if not other:
+                yield f"{piece.path}: {name} is nowhere defined"
+            elif other not in before and other != piece:
+                yield f"{piece.path}: {name} is used before it is defined"
+        yield from (f"{piece.path}: {name} is nowhere defined" for name in unknown(piece))
+        before.add(piece)
+
+
+def roots_of(part: str) -> List[Piece]:
+    """The contracts of a part."""
+    return [piece for path, name in PARTS[part] for piece in pieces(path) if name in piece.names]
+
+
+def lines_of(some: List[Piece]) -> int:
+    """How many lines pieces have, blank ones left out."""
+    return sum(bool(line.strip()) for piece in some for line in piece.text.split("\n"))
+
+
+class Book(NamedTuple):
+    """The pieces of each of some parts, none twice, and the sentences of the library's words that have no definition there."""
+
+    parts: Dict[str, List[Piece]]
+    listed: List[Tuple[Tuple[str, ...], str]]
+
+    def counts(self) -> str:
+        """The pages of the project, code among them, and their lines; the definitions of the library, and its other words."""
+        own = [piece for some in self.parts.values() for piece in some if is_own(piece.path)]
+        lent = [piece for some in self.parts.values() for piece in some if not is_own(piece.path)]
+        words, sentences = sum(len(piece.names) > 0 for piece in lent), sum(len(names) for names, _ in self.listed)
+        return (f"{len({piece.path for piece in own})} pages, {lines_of(own):,} lines; of the library {words} definitions, "
+                f"{lines_of(lent):,} lines, and {sentences} words by a sentence")
+
+
+def book_of(parts: List[str]) -> Book:
+    """The text of some parts, in their order."""
+    told: Dict[str, List[Piece]] = {}
+    before: Set[Piece] = set()
+    all_of = ordered([root for part in parts for root in roots_of(part)])
+    for part in parts:
+        until = max(all_of.index(root) for root in roots_of(part)) + 1
+        told[part] = [piece for piece in all_of[:until] if piece not in before]
+        before.update(told[part])
+    words = {name for piece in all_of for name, other in used(piece).items() if is_listed(name, other)}
+    sentences = ((tuple(name for name in names if name in words), says) for names, says in library_words.LIBRARY.items())
+    return Book(told, [(names, says) for names, says in sentences if names])
+
+
+def text_of(book: Book) -> Iterator[str]:
+    """The book as lines: what signs and words mean, and then each part, with the path of each page above it."""
+    headed: Set[str] = set()
+    yield "# How to read this\n"
+    for sign, says in [*library_words.LANGUAGE.items(), *((", ".join(names), says) for names, says in book.listed)]:
+        yield f"    {sign}: {says}"
+    for part, some in book.parts.items():
+        yield f"\n# {part}"
+        path = ""
+        for piece in some:
+            if piece.path != path:
+                path = piece.path
+                name = path if is_own(path) else "the library, " + os.path.relpath(path, library())
+                yield f"\n## {name}{', more of it' if path in headed else ''}"
+                headed.add(path)
+            yield f"\n{piece.text}"
+    yield f"\n{book.counts()}"
