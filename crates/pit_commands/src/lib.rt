@@ -3,7 +3,6 @@
 #![tactic(auto)]
 
 pub mod compile;
-pub mod destinations;
 pub mod instance_files;
 pub mod model;
 pub mod pipe_form;

@@ -3,10 +3,14 @@
 //! It reads a plan and its zone files as `pitc compile` does, and writes one precedence file.
 #![tactic(auto)]
 
+ghost use Rattle.std.specs.Prelude.{◌≡◌, ◌≤◌};
+ghost use Rattle.pit_parts.specs.formulas.Formula.{IsRuled};
+ghost use Rattle.pit_parts.specs.formulas.Worth.{worth, mill, dump};
+ghost use Rattle.pit_parts.specs.declared.ranges.TheConstants.{MAX_COST, MAX_PRICE, MAX_RECOVERY};
+
 use devices::files::file_opener::FileOpener;
 use devices::files::system_files::SystemFiles;
 use devices::sinks::write_sink::WriteSink;
-use pit_commands::destinations::destinations_of;
 use pit_edge::plan_file::read_plan_file;
 use pit_edge::refused::Refused;
 use pit_edge::refused::fault_line::tell;
@@ -14,6 +18,11 @@ use pit_edge::refused::status::{USAGE, finish};
 use pit_edge::words::words_of;
 use pit_jobs::job::{JobFault, RunWords, append_error};
 use pit_jobs::thin_line::thin_run;
+use pit_model::block::Block;
+use pit_model::destination::{Destination, Valuer};
+use pit_model::formula::Formula;
+use pit_model::plan::Plan;
+use pit_model::worth::{dump_worth, mill_worth};
 use std::alloc::{Alloc, AllocError, Global};
 use std::env;
 use std::process::ExitCode;
@@ -65,30 +74,91 @@ where
 fn thin<R: Files + Threads + Wait + Sync>(
     rt: &R,
     alloc: Global,
-    run: RunWords,
+    words: RunWords,
     text: &mut Vec<u8>,
     lines: &mut Vec<u8>,
 ) -> Result<u8, Refused>
 where
     R::File: Send,
 {
-    let RunWords {
-        plan,
-        out,
-        settings,
-        zones,
-    } = run;
     let files = SystemFiles::new(rt);
-    let plan = read_plan_file(alloc, &mut FileOpener::new(&files), plan.as_str())?;
-    let destinations = destinations_of(alloc, &plan)?;
+    let plan = read_plan_file(alloc, &mut FileOpener::new(&files), words.plan.as_str())?;
+    Ok(run(rt, alloc, &plan, words, text, lines)?)
+}
+
+// The same of this plan, with its destinations, in their order. The closures are made beside the run that asks them, since a function that
+// made one and handed it out could promise nothing of it.
+fn run<R: Files + Threads + Wait + Sync>(
+    rt: &R,
+    alloc: Global,
+    plan: &Plan,
+    words: RunWords,
+    text: &mut Vec<u8>,
+    lines: &mut Vec<u8>,
+) -> Result<u8, AllocError>
+where
+    R::File: Send,
+{
+    let mut destinations = Vec::new(alloc);
+    for named in plan.formulas() {
+        let destination = match &named.formula {
+            Formula::Mill {
+                recovery,
+                price,
+                cost,
+            } => {
+                let (recovery, price, cost) = (*recovery, *price, *cost);
+                let valuer: Valuer = Box::new(
+                    alloc,
+                    move |block: Block| -> i128
+                        requires recovery { recovery ≤ MAX_RECOVERY }
+                        requires price { price ≤ MAX_PRICE }
+                        requires cost { cost ≤ MAX_COST }
+                        ensures { result ≡ mill block recovery price cost }
+                    { mill_worth(block, recovery, price, cost) },
+                )?;
+                let formula = Formula::Mill {
+                    recovery,
+                    price,
+                    cost,
+                };
+                Destination::new(formula, valuer)
+            }
+            Formula::Dump { cost } => {
+                let cost = *cost;
+                let valuer: Valuer = Box::new(
+                    alloc,
+                    move |block: Block| -> i128
+                        requires { cost ≤ MAX_COST }
+                        ensures { result ≡ dump block cost }
+                    { dump_worth(block, cost) },
+                )?;
+                Destination::new(Formula::Dump { cost }, valuer)
+            }
+            // Any other formula is kept whole, and asked itself.
+            _ => {
+                let kept = named.formula.copy(alloc)?;
+                let formula = named.formula.copy(alloc)?;
+                let valuer: Valuer = Box::new(
+                    alloc,
+                    move |block: Block| -> i128
+                        requires { IsRuled kept }
+                        ensures { result ≡ worth kept block }
+                    { kept.worth(block) },
+                )?;
+                Destination::new(formula, valuer)
+            }
+        };
+        destinations.push(destination)?;
+    }
     Ok(thin_files(
         rt,
         alloc,
-        &plan,
+        plan,
         destinations.as_slice(),
-        settings,
-        out,
-        zones.as_slice(),
+        words.settings,
+        words.out,
+        words.zones.as_slice(),
         text,
         lines,
     ))
