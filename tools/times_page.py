@@ -1,0 +1,65 @@
+"""The parts of docs/times.md and docs/lane.md that tools write: what they measured, of which commit, on which machine.
+
+A part stands between a line `<!-- NAME -->` and a line `<!-- end of NAME -->`. Its first line has the commit and the machine.
+"""
+import os
+import re
+import subprocess
+import time
+from typing import Iterable, List, Sequence
+
+import shared
+
+PAGES = ["docs/times.md", "docs/lane.md"]
+PART = re.compile(r"(?ms)^<!-- (?!end of )([\w ]+) -->\n(.*?)^<!-- end of \1 -->$")
+COMMIT = re.compile(r"\bCommit ([0-9a-f]{8})\b")
+
+
+def git(*words: str) -> str:
+    return subprocess.run(["git", *words], cwd=shared.TOP, capture_output=True, text=True, check=True).stdout.strip()
+
+
+def commit() -> str:
+    """The commit of the crates that stand here, and whether they differ from it."""
+    changed = " with changes" if git("status", "--porcelain", "crates") else ""
+    return git("rev-parse", "--short=8", "HEAD") + changed
+
+
+def machine() -> str:
+    """The processors and the memory of this machine, and its other work, where there is any."""
+    told = shared.read("/proc/cpuinfo")
+    models = re.findall(r"(?m)^model name\s*: (.*)$", told)
+    kilobytes = int(re.search(r"MemTotal:\s+(\d+)", shared.read("/proc/meminfo"))[1])
+    kind = "virtual processors" if re.search(r"(?m)^flags.*\bhypervisor\b", told) else "processors"
+    load = os.getloadavg()[0]
+    busy = f", beside other work (a load of {load:.1f} at the beginning)" if load > 0.5 else ", with no other work"
+    model = " ".join(models[0].split()) if models else os.uname().machine
+    return f"{os.cpu_count()} {kind} ({model}), {kilobytes / 2**20:.0f} GB{busy}"
+
+
+def head() -> str:
+    """The first line of a part, as it is to be before anything is measured."""
+    return f"Commit {commit()}, {time.strftime('%Y-%m-%d', time.gmtime())}; {machine()}."
+
+
+def table(columns: Sequence[str], rows: Iterable[Sequence[object]]) -> List[str]:
+    head, *lines = [f"| {' | '.join(map(str, row))} |" for row in [columns, *rows]]
+    return [head, "|" + "---|" * len(columns), *lines]
+
+
+def parts() -> dict:
+    """The parts of the pages, by their names."""
+    found = [part for page in PAGES for part in PART.findall(shared.read(os.path.join(shared.TOP, page)))]
+    return dict(found)
+
+
+def write_part(name: str, lines: Iterable[str]) -> None:
+    """Puts these lines in place of the part of this name."""
+    for page in PAGES:
+        path = os.path.join(shared.TOP, page)
+        text = shared.read(path)
+        part = re.compile(rf"(?ms)^(<!-- {name} -->\n).*?^(<!-- end of {name} -->)$")
+        if part.search(text):
+            shared.write(path, part.sub(lambda found: found[1] + "\n".join(lines) + "\n" + found[2], text))
+            return
+    raise SystemExit(f"no page has a part {name}")
