@@ -2,3 +2,4 @@ pub mod HeaderTable
 pub mod KeyParts
 pub mod LineValues
 pub mod Lines
+pub mod WrittenLines

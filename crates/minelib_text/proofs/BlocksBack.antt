@@ -19,7 +19,7 @@ use Rattle.minelib_reading.proofs.lines.BlockLineFacts.{block_fits}
 use Rattle.minelib_reading.proofs.lines.FormFields.{ArePlain}
 use Rattle.minelib_reading.proofs.models.Places.{is_place, stands_there}
 use Rattle.minelib_reading.proofs.lines.PrecLineFacts.{fine, wholes_fit}
-use Rattle.minelib_writing.specs.Written.{block_fields, prec_fields}
+use Rattle.minelib_lines.specs.WrittenLines.{block_fields, prec_fields}
 use Rattle.text_lines.specs.TextLines.{fields_of}
 use Rattle.minelib_text.proofs.LinesBack.{text_spells}
 use Rattle.minelib_text.proofs.PlainLines.{form_line}

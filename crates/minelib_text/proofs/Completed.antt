@@ -9,7 +9,7 @@ use Rattle.std.proofs.lemmas.List.Elements.{All-replicate}
 use Rattle.pit_units.specs.Decimal.{IsInDecimalRange}
 use Rattle.minelib_lines.specs.HeaderTable.{has_key, header_keys, key_value, type_text}
 use Rattle.minelib_lines.specs.Lines.{line_of}
-use Rattle.minelib_writing.specs.Written.{key_line, value_fields}
+use Rattle.minelib_lines.specs.WrittenLines.{key_line, value_fields}
 use Rattle.minelib_lines.specs.LineValues.{StatedHeader}
 use Rattle.minelib_reading.specs.HeaderNumbers.{with_key, count_in, is_given, is_complete}
 use Rattle.minelib_reading.specs.ModelLines.{ModelDraftView, blank_header, is_next, is_ready, is_whole, model_grammar, model_line, name_with}

@@ -23,7 +23,7 @@ use Rattle.minelib_lines.specs.declared.header_key.HeaderKey.{HeaderKey}
 use Rattle.minelib_lines.specs.declared.header_key.HeaderKey.TheVariants as key
 use Rattle.minelib_lines.specs.declared.problem.Problem.{Problem}
 use Rattle.minelib_lines.specs.declared.problem.Problem.TheVariants.{Pcpsp, Cpit}
-use Rattle.minelib_writing.specs.Written.{key_line, key_lines}
+use Rattle.minelib_lines.specs.WrittenLines.{key_line, key_lines}
 use Rattle.minelib_reading.proofs.lines.FormFields.{ArePlain, spelled_fields}
 use Rattle.minelib_reading.proofs.keys.HeaderFacts.{contains_cases, each_key}
 use Rattle.minelib_reading.proofs.models.ModelShapes.{field_fine}

@@ -20,7 +20,8 @@ use Rattle.minelib_reading.proofs.lines.ValuesLineFacts.{many_fine, many_plain, 
 use Rattle.minelib_reading.specs.ItemForms.{coef_form, limit_form, values_form}
 use Rattle.minelib_reading.specs.spelled.SpelledModel.{AreModelLines, HasDestination, IsSingle, SpellCoef, SpellLimit, SpellValues}
 use Rattle.minelib_reading.specs.StatedModel.{StatedModel}
-use Rattle.minelib_writing.specs.Written.{value_fields, coef_fields, limit_fields, key_lines, section_lines}
+use Rattle.minelib_lines.specs.WrittenLines.{coef_fields, key_lines, limit_fields, value_fields}
+use Rattle.minelib_writing.specs.Written.{section_lines}
 use Rattle.text_lines.specs.TextLines.{Line, fields_of, lines_in}
 use Rattle.text_lines.proofs.PlainText.{IsLine}
 use Rattle.minelib_text.proofs.KeysBack.{header_lines, section_line, word_field}

@@ -27,20 +27,22 @@ ghost use Rattle.pit_parts.specs.declared.ranges.TheConstants.{MAX_BLOCKS};
 
 /// The texts of a valid instance denote that instance. That it has a NAME and decimals (`IsKept`), `build` and `read_instance` say of
 /// what they answer, and `write_pcpsp` of every instance that it wrote.
-#[tactic(auto, using(crate::proofs::TextsBack::written_again))]
 pub fn written_is_read()
     ensures { (i : AnInstance) → IsValid i → IsKept i
         → Denotes (text_blocks i) (text_prec i) (text_pcpsp i) i }
-{}
+{
+    minelib_writing::laws::texts_go_by_forms();
+}
 
 /// The text of a CPIT denotes that CPIT. That its parts are in their ranges and orders (`IsCpit`), with a NAME and decimals
 /// (`IsKeptCpit`), `write_cpit` says of every CPIT that it wrote; the latter `read_cpit` says of what it answers, and `build_cpit`
 /// where the instance has them.
-#[tactic(auto, using(crate::proofs::TextsBack::written_cpit_again))]
 pub fn written_cpit_is_read()
     ensures { (c : CpitParts) → IsCpit c → IsKeptCpit c
         → DenotesCpit (length c.values) (text_cpit c) c }
-{}
+{
+    minelib_writing::laws::texts_go_by_forms();
+}
 
 /// Where the cone of each zone has one slope on all sides, the texts of a model's instance are those of the instance with predecessors by the
 /// test with one slope.

@@ -8,12 +8,9 @@ use Rattle.std.proofs.lemmas.List.Sums.{AllPass-from_list_all, fails_before_firs
 use Rattle.pit_units.specs.Decimal.{shortest}
 use Rattle.mine_instance.specs.Greatest.{greatest, is_greatest}
 use Rattle.mine_instance.specs.Instance.{Instance}
-use Rattle.minelib_lines.specs.HeaderTable.{key_value, upit_keys}
-use Rattle.minelib_lines.specs.LineValues.{header_of}
 use Rattle.minelib_lines.specs.Lines.{lines_from, line_of, text_of}
 use Rattle.minelib_writing.specs.TextLaws.{best_lines, IsBest}
-use Rattle.minelib_writing.specs.Written.{greatest_fields, key_lines, text_upit}
-use Rattle.minelib_writing.proofs.FieldsWritten.{values_written}
+use Rattle.minelib_writing.specs.Written.{greatest_line, text_upit, upit_header}
 use Rattle.minelib_writing.proofs.SectionsWritten.{text_of-append}
 
 le_is : (m n : ℤ) → m ≤ℤ n → int_le m n ≡ true
@@ -51,21 +48,18 @@ greatest_is values best is = same (greatest values) best (is.most place (pos 0) 
         is.one.0 best is.one.1)
 
 lines_are : (n : ℕ) (values : List (List ℤ)) (best : List ℤ) → AllZip IsBest values best
-    → text_of (lines_from greatest_fields n values) ≡ best_lines n best
+    → text_of (lines_from greatest_line n values) ≡ best_lines n best
 lines_are n [] [] are = refl
 lines_are n [] (b ∷ best) are = absurd are
 lines_are n (of_block ∷ values) [] are = absurd are
 lines_are n (of_block ∷ values) (b ∷ best) are =
-    let fields : greatest_fields n of_block ≡ decimal n ∷ shortest b ∷ [] =
-    values_written n (greatest of_block ∷ []) ∙ ap (λ v. decimal n ∷ shortest v ∷ []) (greatest_is of_block b are.0) in
-    λ i. (line_of (fields i) ++ 10 ∷ []) ++ lines_are (n + 1) values best are.1 i
+    λ i. (line_of (decimal n ∷ shortest (greatest_is of_block b are.0 i) ∷ []) ++ 10 ∷ []) ++ lines_are (n + 1) values best are.1 i
 
 pub upit_is : (i : Instance) (best : List ℤ) → AllZip IsBest i.values best
     → text_upit i
-    ≡ text_of (key_lines (key_value (codes "UPIT") (length i.blocks) (header_of i)) upit_keys)
-    ++ ((codes "OBJECTIVE_FUNCTION:" ++ 10 ∷ []) ++ best_lines 0 best)
+    ≡ text_of (upit_header i) ++ ((codes "OBJECTIVE_FUNCTION:" ++ 10 ∷ []) ++ best_lines 0 best)
 unfolding text_upit
 upit_is i best are =
-    let keys = key_lines (key_value (codes "UPIT") (length i.blocks) (header_of i)) upit_keys in
-    text_of-append keys (codes "OBJECTIVE_FUNCTION:" ∷ lines_from greatest_fields 0 i.values)
+    let keys = upit_header i in
+    text_of-append keys (codes "OBJECTIVE_FUNCTION:" ∷ lines_from greatest_line 0 i.values)
     ∙ ap (λ lines. text_of keys ++ ((codes "OBJECTIVE_FUNCTION:" ++ 10 ∷ []) ++ lines)) (lines_are 0 i.values best are)

@@ -9,12 +9,14 @@ use Rattle.mine_instance.specs.Valid.{IsValid}
 use Rattle.minelib_lines.specs.HeaderTable.{key_value, keys_of, type_text}
 use Rattle.minelib_lines.specs.LineValues.{header_of}
 use Rattle.minelib_lines.specs.Lines.{line_of, lines_from, text_of}
+use Rattle.minelib_lines.specs.WrittenLines.{key_lines}
 use Rattle.minelib_lines.specs.declared.problem.Problem.TheVariants.{Cpit}
-use Rattle.minelib_writing.specs.Written.{cpit_coef_fields, cpit_value_fields, greatest_fields, key_lines, limit_fields, section_lines, text_cpit}
+use Rattle.minelib_writing.specs.Written.{cpit_coef_line, greatest_line, limit_line, one_value_line, section_lines, text_cpit}
+use Rattle.minelib_writing.proofs.PlainFacts.{cpit_by_keys}
 
-greatest_lines : (n : ℕ) (values : List (List ℤ)) → lines_from cpit_value_fields n (map greatest values) ≡ lines_from greatest_fields n values
+greatest_lines : (n : ℕ) (values : List (List ℤ)) → lines_from one_value_line n (map greatest values) ≡ lines_from greatest_line n values
 greatest_lines n [] = refl
-greatest_lines n (of_block ∷ values) = ap (λ rest. line_of (greatest_fields n of_block) ∷ rest) (greatest_lines (n + 1) values)
+greatest_lines n (of_block ∷ values) = ap (λ rest. line_of (greatest_line n of_block) ∷ rest) (greatest_lines (n + 1) values)
 
 -- its keys, and its sections
 abbrev pub chosen_keys : Instance → List (List ℕ)
@@ -23,13 +25,13 @@ chosen_keys i =
 
 abbrev pub chosen_sections : Instance → List (List ℕ)
 chosen_sections i =
-    section_lines (lines_from greatest_fields 0 i.values)
-    (lines_from cpit_coef_fields 0 (map without_destination (filter (is_chosen i.values) i.coefs))) (lines_from limit_fields 0 i.limits)
+    section_lines (lines_from greatest_line 0 i.values)
+    (lines_from cpit_coef_line 0 (map without_destination (filter (is_chosen i.values) i.coefs))) (lines_from limit_line 0 i.limits)
 
 pub chosen_text : (i : Instance) → IsValid i → text_cpit (cpit i) ≡ text_of (chosen_keys i ++ chosen_sections i)
-unfolding text_cpit
 chosen_text i v =
     let count : length (map greatest i.values) ≡ length i.blocks = length-map i.values greatest ∙ v.lengths.values in
-    let coefs = lines_from cpit_coef_fields 0 (map without_destination (filter (is_chosen i.values) i.coefs)) in
-    λ j. text_of (key_lines (key_value (type_text Cpit) (count j) (record (header_of i) { destinations = 1 })) (keys_of Cpit)
-    ++ section_lines (greatest_lines 0 i.values j) coefs (lines_from limit_fields 0 i.limits))
+    let coefs = lines_from cpit_coef_line 0 (map without_destination (filter (is_chosen i.values) i.coefs)) in
+    cpit_by_keys (cpit i)
+    ∙ (λ j. text_of (key_lines (key_value (type_text Cpit) (count j) (record (header_of i) { destinations = 1 })) (keys_of Cpit)
+    ++ section_lines (greatest_lines 0 i.values j) coefs (lines_from limit_line 0 i.limits)))

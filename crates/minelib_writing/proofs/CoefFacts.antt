@@ -15,20 +15,19 @@ use Rattle.mine_instance.specs.OfModel.{coef_of}
 use Rattle.mine_instance.specs.declared.coefs.coef.Coef.{Coef}
 use Rattle.minelib_writing.specs.declared.lines.coefs.CoefForm.TheVariants.{OfChosen}
 use Rattle.minelib_writing.specs.inner.CoefParts.{coef_part, coef_text, cpit_coef_text, has_values}
-use Rattle.minelib_writing.proofs.FieldsWritten.{whole_written}
 use Rattle.minelib_writing.proofs.numbers.OneDigit.{one_digit}
 
 -- the line of a coefficient, whose destination and resource are digits
-pub coef_line : (c : Coef) → c.d < 10 → c.r < 10
+pub coef_text_is : (c : Coef) → c.d < 10 → c.r < 10
     → coef_text c ≡ decimal c.b ++ 32 ∷ (48 + c.d) ∷ 32 ∷ (48 + c.r) ∷ 32 ∷ (shortest c.v ++ 10 ∷ [])
-coef_line c h k =
-    rw (whole_written c.b, whole_written c.d, whole_written c.r, one_digit c.d h, one_digit c.r k)
+coef_text_is c h k =
+    rw (one_digit c.d h, one_digit c.r k)
     (append_assoc (decimal c.b) (32 ∷ (48 + c.d) ∷ 32 ∷ (48 + c.r) ∷ 32 ∷ shortest c.v) (10 ∷ []))
 
 -- the same in a CPIT
-pub cpit_coef_line : (c : Coef) → c.r < 10 → cpit_coef_text c ≡ decimal c.b ++ 32 ∷ (48 + c.r) ∷ 32 ∷ (shortest c.v ++ 10 ∷ [])
-cpit_coef_line c h =
-    rw (whole_written c.b, whole_written c.r, one_digit c.r h)
+pub cpit_coef_text_is : (c : Coef) → c.r < 10 → cpit_coef_text c ≡ decimal c.b ++ 32 ∷ (48 + c.r) ∷ 32 ∷ (shortest c.v ++ 10 ∷ [])
+cpit_coef_text_is c h =
+    rw (one_digit c.r h)
     (append_assoc (decimal c.b) (32 ∷ (48 + c.r) ∷ 32 ∷ shortest c.v) (10 ∷ []))
 
 -- where something stands from a place on, the room has the places before it

@@ -7,8 +7,8 @@ use Rattle.std.specs.Prelude.{codes}
 use Rattle.forms.specs.Words.{Value, written_value}
 use Rattle.minelib_lines.specs.HeaderTable.{key_word}
 use Rattle.minelib_lines.specs.Lines.{line_of, lines_from, text_of}
+use Rattle.minelib_lines.specs.WrittenLines.{key_line, key_lines}
 use Rattle.minelib_lines.specs.declared.header_key.HeaderKey.{HeaderKey}
-use Rattle.minelib_writing.specs.Written.{key_line, key_lines}
 use Rattle.minelib_writing.specs.inner.Parts.{line_parts}
 
 pub length-lines_from : {A : Type 0} (fields : ℕ → A → List (List ℕ)) (n : ℕ) (xs : List A) → length (lines_from fields n xs) ≡ length xs

@@ -1,3 +1,4 @@
+pub mod Endings
 pub mod TextLaws
 pub mod Texts
 pub mod TextsKept

@@ -1,5 +1,5 @@
 -- The texts of an instance by their names.
-use Rattle.std.specs.Prelude.{ℕ, List, [], ◌∷◌, codes}
+use Rattle.std.specs.Prelude.{ℕ, List, [], ◌∷◌}
 use Rattle.mine_instance.specs.cpit.OfCpit.{cpit}
 use Rattle.mine_instance.specs.Instance.{Instance}
 use Rattle.minelib_writing.specs.Written.{text_blocks, text_prec, text_upit, text_pcpsp, text_cpit}
@@ -9,14 +9,6 @@ use Rattle.minelib_writing.specs.declared.text_name.TextName.TheVariants as text
 -- in the order of writing
 abbrev pub all_texts : List TextName
 all_texts = text.Blocks ∷ text.Prec ∷ text.Upit ∷ text.Pcpsp ∷ text.Cpit ∷ []
-
--- a text by the ending of its file
-abbrev pub ending_of : TextName → List ℕ
-ending_of text.Blocks = codes "blocks"
-ending_of text.Prec = codes "prec"
-ending_of text.Upit = codes "upit"
-ending_of text.Pcpsp = codes "pcpsp"
-ending_of text.Cpit = codes "cpit"
 
 -- the text of this name; that of a CPIT is of the instance's
 abbrev pub text_named : TextName → Instance → List ℕ

@@ -1,59 +1,58 @@
--- The MineLib texts of an instance (Espinoza, Goycoolea, Moreno and Newman 2013, in this project's profile), as lines of fields.
-use Rattle.std.specs.Prelude.{ℕ, List, [], ◌∷◌, ◌++◌, ℤ, codes, length, map}
-use Rattle.forms.specs.Words.{Value, written, written_value}
+-- The MineLib texts of an instance (Espinoza, Goycoolea, Moreno and Newman 2013, in this project's profile): each line with its fields from
+-- left to right. `decimal` is a whole number in digits, and `shortest` the shortest decimal of so many millionths.
+use Rattle.std.specs.Prelude.{ℕ, ◌*◌, List, [], ◌∷◌, ◌++◌, ℤ, pos, codes, decimal, length, map}
+use Rattle.pit_units.specs.Decimal.{shortest}
 use Rattle.pit_parts.specs.declared.block.Block.{Block}
+use Rattle.pit_parts.specs.declared.limit.Bound.{Bound}
+use Rattle.pit_parts.specs.declared.limit.Bound.TheVariants.{AtMost, AtLeast, Between}
 use Rattle.pit_parts.specs.declared.limit.Limit.{Limit}
 use Rattle.mine_instance.specs.cpit.Cpit.{CpitParts}
 use Rattle.mine_instance.specs.Greatest.{greatest}
+use Rattle.mine_instance.specs.Instance.{Instance}
 use Rattle.mine_instance.specs.declared.coefs.coef.Coef.{Coef}
 use Rattle.mine_instance.specs.declared.cpit.CpitCoef.{CpitCoef}
-use Rattle.mine_instance.specs.Instance.{Instance}
-use Rattle.minelib_lines.specs.HeaderTable.{key_value, key_word, keys_of, type_text, upit_keys}
-use Rattle.minelib_lines.specs.Lines.{text_of, line_of, lines_from}
-use Rattle.minelib_lines.specs.LineValues.{block_values, preds_values, coef_values, limit_values, values_values, at_only_destination, header_of, header_of_cpit}
-use Rattle.minelib_lines.specs.declared.header_key.HeaderKey.{HeaderKey}
-use Rattle.minelib_lines.specs.declared.problem.Problem.{Problem}
-use Rattle.minelib_lines.specs.declared.problem.Problem.TheVariants.{Pcpsp, Cpit}
+use Rattle.minelib_lines.specs.Lines.{line_of, lines_from, text_of}
 
--- `id x y z tonnes grade zone`
-abbrev pub block_fields : ℕ → Block → List (List ℕ)
-block_fields n b = written (block_values n b)
+-- `id x y z tonnes grade zone`: a kilogram is a thousandth of a tonne
+abbrev pub block_line : ℕ → Block → List (List ℕ)
+block_line id b =
+    decimal id ∷ decimal b.x ∷ decimal b.y ∷ decimal b.z
+    ∷ shortest (pos (b.kg * 1000)) ∷ shortest (pos b.grade) ∷ decimal b.zone ∷ []
 
 -- `id k p1 .. pk`
-abbrev pub prec_fields : ℕ → List ℕ → List (List ℕ)
-prec_fields n ids = written (preds_values n ids)
+abbrev pub prec_line : ℕ → List ℕ → List (List ℕ)
+prec_line id ids = decimal id ∷ decimal (length ids) ∷ map decimal ids
 
--- `b v0 v1 ..`
-abbrev pub value_fields : ℕ → List ℤ → List (List ℕ)
-value_fields n values = written (values_values n values)
+-- `b v0 v1 ..`, and `b v` with one value
+abbrev pub value_line : ℕ → List ℤ → List (List ℕ)
+value_line b values = decimal b ∷ map shortest values
 
--- `b v`, the greatest of the block's values
-abbrev pub greatest_fields : ℕ → List ℤ → List (List ℕ)
-greatest_fields n values = value_fields n (greatest values ∷ [])
+abbrev pub one_value_line : ℕ → ℤ → List (List ℕ)
+one_value_line b value = decimal b ∷ shortest value ∷ []
 
--- `b d r v`, or `b r v`; the place of a line among its kind is given to each, and is no field of a coefficient or of a limit
-abbrev pub coef_fields : Problem → ℕ → Coef → List (List ℕ)
-coef_fields problem n c = written (coef_values problem c)
+-- `b v` with the greatest of a block's values
+abbrev pub greatest_line : ℕ → List ℤ → List (List ℕ)
+greatest_line b values = one_value_line b (greatest values)
 
--- `r t` and the bound: `L v`, `G v` or `I v w`
-abbrev pub limit_fields : ℕ → Limit → List (List ℕ)
-limit_fields n l = written (limit_values l)
+-- `b d r v`, and `b r v` of a CPIT; n, the line's number among its kind, is not written, nor is it in the line of a limit
+abbrev pub coef_line : ℕ → Coef → List (List ℕ)
+coef_line n c = decimal c.b ∷ decimal c.d ∷ decimal c.r ∷ shortest c.v ∷ []
 
--- `b v`, the one value of a block of a CPIT
-abbrev pub cpit_value_fields : ℕ → ℤ → List (List ℕ)
-cpit_value_fields n value = value_fields n (value ∷ [])
+abbrev pub cpit_coef_line : ℕ → CpitCoef → List (List ℕ)
+cpit_coef_line n c = decimal c.b ∷ decimal c.r ∷ shortest c.v ∷ []
 
--- `b r v`
-abbrev pub cpit_coef_fields : ℕ → CpitCoef → List (List ℕ)
-cpit_coef_fields n c = coef_fields Cpit n (at_only_destination c)
+-- `r t L v`, `r t G v` or `r t I v w`
+abbrev pub bound_fields : Bound → List (List ℕ)
+bound_fields (AtMost v) = codes "L" ∷ shortest v ∷ []
+bound_fields (AtLeast v) = codes "G" ∷ shortest v ∷ []
+bound_fields (Between v w) = codes "I" ∷ shortest v ∷ shortest w ∷ []
+
+abbrev pub limit_line : ℕ → Limit → List (List ℕ)
+limit_line n l = decimal l.resource ∷ decimal l.period ∷ bound_fields l.bound
 
 -- `KEY: value`
-abbrev pub key_line : HeaderKey → Value → List ℕ
-key_line k value = line_of ((key_word k ++ codes ":") ∷ written_value value ∷ [])
-
--- a line for each of these header keys, by the value of each
-abbrev pub key_lines : (HeaderKey → Value) → List HeaderKey → List (List ℕ)
-key_lines value keys = map (λ k. key_line k (value k)) keys
+abbrev pub header_line : List ℕ → List ℕ → List ℕ
+header_line key value = line_of (key ∷ value ∷ [])
 
 -- the objective, the coefficients and the limits, each under its section line
 abbrev pub section_lines : List (List ℕ) → List (List ℕ) → List (List ℕ) → List (List ℕ)
@@ -64,29 +63,55 @@ section_lines values coefs limits =
 
 -- the block file
 unfoldable pub text_blocks : Instance → List ℕ
-text_blocks i = text_of (lines_from block_fields 0 i.blocks)
+text_blocks i = text_of (lines_from block_line 0 i.blocks)
 
--- the precedence file, of an instance and of any lists of predecessors
-unfoldable pub text_prec : Instance → List ℕ
-text_prec i = text_of (lines_from prec_fields 0 i.preds)
-
+-- the precedence file, of any lists of predecessors and of an instance
 abbrev pub text_preds : List (List ℕ) → List ℕ
-text_preds lists = text_of (lines_from prec_fields 0 lists)
+text_preds lists = text_of (lines_from prec_line 0 lists)
+
+unfoldable pub text_prec : Instance → List ℕ
+text_prec i = text_preds i.preds
 
 -- the UPIT file
+abbrev pub upit_header : Instance → List (List ℕ)
+upit_header i =
+    header_line (codes "NAME:") i.name
+    ∷ header_line (codes "TYPE:") (codes "UPIT")
+    ∷ header_line (codes "NBLOCKS:") (decimal (length i.blocks)) ∷ []
+
 unfoldable pub text_upit : Instance → List ℕ
 text_upit i =
-    text_of (key_lines (key_value (codes "UPIT") (length i.blocks) (header_of i)) upit_keys
-    ++ (codes "OBJECTIVE_FUNCTION:" ∷ lines_from greatest_fields 0 i.values))
+    text_of (upit_header i
+    ++ (codes "OBJECTIVE_FUNCTION:" ∷ lines_from greatest_line 0 i.values))
 
--- the PCPSP file
+-- the PCPSP file; there are no general side constraints
+abbrev pub pcpsp_header : Instance → List (List ℕ)
+pcpsp_header i =
+    header_line (codes "NAME:") i.name
+    ∷ header_line (codes "TYPE:") (codes "PCPSP")
+    ∷ header_line (codes "NBLOCKS:") (decimal (length i.blocks))
+    ∷ header_line (codes "NPERIODS:") (decimal i.periods)
+    ∷ header_line (codes "NDESTINATIONS:") (decimal i.destinations)
+    ∷ header_line (codes "NRESOURCE_SIDE_CONSTRAINTS:") (decimal i.resources)
+    ∷ header_line (codes "NGENERAL_SIDE_CONSTRAINTS:") (decimal 0)
+    ∷ header_line (codes "DISCOUNT_RATE:") (shortest i.rate) ∷ []
+
 unfoldable pub text_pcpsp : Instance → List ℕ
 text_pcpsp i =
-    text_of (key_lines (key_value (type_text Pcpsp) (length i.blocks) (header_of i)) (keys_of Pcpsp)
-    ++ section_lines (lines_from value_fields 0 i.values) (lines_from (coef_fields Pcpsp) 0 i.coefs) (lines_from limit_fields 0 i.limits))
+    text_of (pcpsp_header i
+    ++ section_lines (lines_from value_line 0 i.values) (lines_from coef_line 0 i.coefs) (lines_from limit_line 0 i.limits))
 
 -- the CPIT file
+abbrev pub cpit_header : CpitParts → List (List ℕ)
+cpit_header c =
+    header_line (codes "NAME:") c.name
+    ∷ header_line (codes "TYPE:") (codes "CPIT")
+    ∷ header_line (codes "NBLOCKS:") (decimal (length c.values))
+    ∷ header_line (codes "NPERIODS:") (decimal c.periods)
+    ∷ header_line (codes "NRESOURCE_SIDE_CONSTRAINTS:") (decimal c.resources)
+    ∷ header_line (codes "DISCOUNT_RATE:") (shortest c.rate) ∷ []
+
 unfoldable pub text_cpit : CpitParts → List ℕ
 text_cpit c =
-    text_of (key_lines (key_value (type_text Cpit) (length c.values) (header_of_cpit c)) (keys_of Cpit)
-    ++ section_lines (lines_from cpit_value_fields 0 c.values) (lines_from cpit_coef_fields 0 c.coefs) (lines_from limit_fields 0 c.limits))
+    text_of (cpit_header c
+    ++ section_lines (lines_from one_value_line 0 c.values) (lines_from cpit_coef_line 0 c.coefs) (lines_from limit_line 0 c.limits))

@@ -4,7 +4,7 @@ ghost use Rattle.std.specs.Prelude.{◌≡◌, ◌++◌, ◌∷◌, [], OnOk};
 ghost use Rattle.forms.specs.Words.{written_value};
 ghost use Rattle.minelib_lines.specs.KeyParts.{value_in};
 ghost use Rattle.minelib_lines.specs.Lines.{text_of};
-ghost use Rattle.minelib_writing.specs.Written.{key_line, key_lines};
+ghost use Rattle.minelib_lines.specs.WrittenLines.{key_line, key_lines};
 ghost use Rattle.devices.specs.sinks.Writes.{WritesOn};
 
 use crate::fields::{put_decimal_to, put_text, put_whole_to};
@@ -62,7 +62,7 @@ fn put_key(
 }
 
 // Appends the value of a key.
-#[tactic(auto, using(crate::proofs::FieldsWritten::whole_written))]
+#[tactic(auto, using(crate::proofs::PlainFacts::whole_written))]
 fn put_value(
     alloc: Global,
     out: &mut Vec<u8>,

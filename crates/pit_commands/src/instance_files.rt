@@ -1,7 +1,7 @@
 //! The files of an instance that a compile writes: a sink for each, at its path.
 
 ghost use Rattle.std.specs.Prelude.{◌≡◌, string_bytes, IfOk};
-ghost use Rattle.minelib_writing.specs.Texts.{ending_of};
+ghost use Rattle.minelib_writing.specs.Endings.{ending_of};
 ghost use Rattle.minelib_writing.specs.declared.text_name.TextName.{TextName as AName};
 ghost use Rattle.pit_compile.specs.Sinks.{sink_of};
 ghost use Rattle.devices.specs.sinks.FileSinkView.{unbegun};

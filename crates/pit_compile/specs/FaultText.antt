@@ -1,6 +1,6 @@
 -- The words that show why a run is refused.
 use Rattle.std.specs.Prelude.{ℕ, List, ◌++◌, codes, decimal}
-use Rattle.minelib_writing.specs.Texts.{ending_of}
+use Rattle.minelib_writing.specs.Endings.{ending_of}
 use Rattle.zone_csv.specs.FaultText.{row_fault_text}
 use Rattle.pit_compile.specs.declared.refusal.Refusal.{Refusal}
 use Rattle.pit_compile.specs.declared.refusal.Refusal.TheVariants as refusal

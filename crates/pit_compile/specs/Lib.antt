@@ -7,6 +7,7 @@ pub mod SinkAnswers
 pub mod SinkLent
 pub mod Sinks
 pub mod Starts
+pub mod Suits
 pub mod Verdict
 pub mod ZoneFiles
 pub mod inner

@@ -11,7 +11,7 @@ use Rattle.pit_compile.specs.Settings.{IsSettingsFault}
 use Rattle.pit_compile.specs.Sinks.{AreWritten, AreCutOffAt}
 use Rattle.pit_compile.specs.Verdict.{IsAccepted}
 use Rattle.pit_compile.specs.declared.refusal.Refusal.{Refusal}
-use Rattle.pit_compile.specs.declared.refusal.Refusal.TheVariants.{Settings, NoThread, FeedFailed, TooLong, Row, Same, SinkFailed, OutOfMemory}
+use Rattle.pit_compile.specs.declared.refusal.Refusal.TheVariants.{Settings, NoThread, FeedFailed, SinkFailed, OutOfMemory}
 use Rattle.pit_compile.specs.declared.settings.SettingsFault.{SettingsFault}
 
 -- the zone files are accepted, every row of every file passed the lane whole, and each sink holds its text of their instance
@@ -37,12 +37,10 @@ abbrev pub IsRefused : PlanParts → List (Option (List ℕ)) → (ℕ → Type 
 IsRefused plan lefts Failed old new (Settings kind) = new ≡ old
 IsRefused plan lefts Failed old new NoThread = new ≡ old
 IsRefused plan lefts Failed old new (FeedFailed file) = IsFeedFault plan lefts Failed file × (new ≡ old)
-IsRefused plan lefts Failed old new (TooLong file) = IsVerdict plan lefts (TooLong file) × (new ≡ old)
-IsRefused plan lefts Failed old new (Row file fault) = IsVerdict plan lefts (Row file fault) × (new ≡ old)
-IsRefused plan lefts Failed old new (Same first again) = IsVerdict plan lefts (Same first again) × (new ≡ old)
 IsRefused plan lefts Failed old new (SinkFailed which) = IsStopped plan lefts which 1 old new
 IsRefused plan lefts Failed old new OutOfMemory =
     (new ≡ old) ⊎ ((which : TextName) × IsStopped plan lefts which 0 old new)
+IsRefused plan lefts Failed old new verdict = IsVerdict plan lefts verdict × (new ≡ old)
 
 -- what a run answers and does to its sinks, of a plan, destinations of these formulas, and settings, where it may start so many threads
 pub record Runs (plan : PlanParts) (formulas : List Formula) (chosen : Chosen) (lefts : List (Option (List ℕ))) (Failed : ℕ → Type 0)

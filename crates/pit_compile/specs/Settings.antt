@@ -1,4 +1,4 @@
--- Whether the settings of a run fit its plan, for so many zone files and these formulas of the destinations.
+-- What is wrong with the settings of a run, for its plan, so many zone files and these formulas of the destinations.
 use Rattle.std.specs.Prelude.{◌≡◌, ◌≢◌, ℕ, ◌≤◌, List, length}
 use Rattle.pit_parts.specs.PlanFormulas.{formulas_of_plan}
 use Rattle.pit_parts.specs.Plan.{PlanParts}
@@ -6,19 +6,11 @@ use Rattle.pit_parts.specs.declared.formulas.formula.Formula.{Formula}
 use Rattle.pit_parts.specs.declared.settings.Settings.{Settings}
 use Rattle.pit_compile.specs.declared.settings.SettingsFault.{SettingsFault}
 use Rattle.pit_compile.specs.declared.settings.SettingsFault.TheVariants.{Files, Valuers, Capacity, Destinations}
-use Rattle.pit_parts.specs.declared.ranges.TheConstants.{MAX_CAPACITY, MAX_VALUERS, MAX_ZONES}
+use Rattle.pit_parts.specs.declared.ranges.TheConstants.{MAX_CAPACITY, MAX_VALUERS}
 
 -- a number from 1 on, and not above the most
 abbrev pub IsFrom1To : ℕ → ℕ → Type 0
 IsFrom1To most n = (1 ≤ n) × (n ≤ most)
-
--- nothing is wrong with them. A plan has at most 64 zones
-pub record Suits (plan : PlanParts) (files : ℕ) (formulas : List Formula) (settings : Settings) : Type 0 where
-  pub files_fit : files ≡ length plan.cones
-  pub few_files : files ≤ MAX_ZONES
-  pub valuers_fit : IsFrom1To MAX_VALUERS settings.valuers
-  pub capacity_fits : IsFrom1To MAX_CAPACITY settings.capacity
-  pub destinations_fit : formulas ≡ formulas_of_plan plan
 
 -- this is wrong with them, and nothing that stands before it in this list
 abbrev pub IsSettingsFault : PlanParts → ℕ → List Formula → Settings → SettingsFault → Type 0

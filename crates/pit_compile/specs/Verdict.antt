@@ -6,7 +6,7 @@ use Rattle.pit_parts.specs.declared.block.Block.{Block}
 use Rattle.rows.specs.declared.item.Valued.{Valued}
 use Rattle.pit_compile.specs.Rows.{model_rows, fault_in}
 use Rattle.pit_compile.specs.declared.refusal.Refusal.{Refusal}
-use Rattle.pit_compile.specs.declared.refusal.Refusal.TheVariants.{Settings, NoThread, FeedFailed, TooLong, Row, Same, SinkFailed, OutOfMemory}
+use Rattle.pit_compile.specs.declared.refusal.Refusal.TheVariants.{TooLong, Row, Same}
 use Rattle.pit_compile.specs.declared.refusal.RowAt.{RowAt}
 
 -- no two blocks of the list stand at one place of the grid
@@ -37,8 +37,4 @@ abbrev pub IsRefusedBy : PlanParts → List (List ℕ) → Refusal → Type 0
 IsRefusedBy plan texts (TooLong file) = fault_in texts plan.grid 0 ≡ Some (TooLong file)
 IsRefusedBy plan texts (Row file fault) = fault_in texts plan.grid 0 ≡ Some (Row file fault)
 IsRefusedBy plan texts (Same first again) = (fault_in texts plan.grid 0 ≡ None) × IsFirstRepeat (model_rows plan texts) first again
-IsRefusedBy plan texts (Settings kind) = ⊥
-IsRefusedBy plan texts NoThread = ⊥
-IsRefusedBy plan texts (FeedFailed file) = ⊥
-IsRefusedBy plan texts (SinkFailed which) = ⊥
-IsRefusedBy plan texts OutOfMemory = ⊥
+IsRefusedBy plan texts other = ⊥

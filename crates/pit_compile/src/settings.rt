@@ -1,7 +1,8 @@
 //! What a run may take, and whether its settings fit its plan.
 
 ghost use Rattle.std.specs.Prelude.{◌≡◌, ◌↔◌, Err, IsTrue, IfErr, OnOk, length, map};
-ghost use Rattle.pit_compile.specs.Settings.{IsSettingsFault, Suits};
+ghost use Rattle.pit_compile.specs.Settings.{IsSettingsFault};
+ghost use Rattle.pit_compile.specs.Suits.{Suits};
 ghost use Rattle.pit_compile.specs.declared.settings.SettingsFault.{SettingsFault as ASettingsFault};
 ghost use Rattle.pit_parts.specs.Destinations.{formulas_of};
 ghost use Rattle.pit_parts.specs.PlanFormulas.{formulas_of_plan};

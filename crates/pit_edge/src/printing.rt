@@ -2,7 +2,8 @@
 
 ghost use Rattle.std.specs.Prelude.{◌≡◌, ◌++◌, length, take, OnErr, OnOk};
 ghost use Rattle.mine_instance.specs.Valid.{IsValid};
-ghost use Rattle.minelib_writing.specs.Texts.{ending_of, text_named};
+ghost use Rattle.minelib_writing.specs.Endings.{ending_of};
+ghost use Rattle.minelib_writing.specs.Texts.{text_named};
 ghost use Rattle.pit_edge.specs.Sections.{printed, section};
 
 use devices::sinks::section_sink::SectionSink;

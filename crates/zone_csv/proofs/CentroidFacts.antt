@@ -7,7 +7,8 @@ use Rattle.std.proofs.lemmas.Nat.{div-add-mod'}
 use Rattle.std.proofs.Math.Nat.{mul-div_left, div-lt_iff_lt-mul}
 use Rattle.forms.specs.Words.{is_on_step}
 use Rattle.pit_parts.specs.declared.grid.Axis.{Axis}
-use Rattle.zone_csv.specs.Cell.{IsInGrid, centroid, index_at, least}
+use Rattle.zone_csv.specs.Cell.{index_at, least}
+use Rattle.zone_csv.specs.RowShape.{IsInGrid, centroid}
 
 module _ (axis : Axis) (some : 0 < axis.size) where
   abbrev size : ℕ

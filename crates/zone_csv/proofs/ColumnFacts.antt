@@ -8,8 +8,10 @@ use Rattle.forms.specs.Words.{Check, failing, unless}
 use Rattle.zone_csv.proofs.RowFacts.{AreOfRow, failing_of_row}
 use Rattle.zone_csv.specs.Cell.{a_fault, trimmed_at}
 use Rattle.zone_csv.specs.Columns.{all_columns, column_name}
-use Rattle.zone_csv.specs.Header.{a_column, asked_of_column, asked_of_header, columns_of, place_in, places_in, places_of}
+use Rattle.zone_csv.proofs.HeaderFacts.{columns_are}
+use Rattle.zone_csv.specs.Header.{columns_of, places_in, places_of}
 use Rattle.zone_csv.specs.NamedColumns.{NamesColumn, NamesColumns}
+use Rattle.zone_csv.specs.RowShape.{a_column, asked_of_column, asked_of_header, place_in}
 use Rattle.zone_csv.specs.declared.columns.Columns.{Columns}
 use Rattle.zone_csv.specs.declared.row_fault.Column.{Column}
 use Rattle.zone_csv.specs.declared.row_fault.Column.TheVariants.{X}
@@ -118,22 +120,19 @@ passed (Some fault) made other e = absurd cc
 passed None made other e = (refl, cc)
 
 pub columns_named : (header : List (List ℕ)) (columns : Columns) → columns_of header ≡ Ok columns → NamesColumns header columns
-unfolding columns_of
 columns_named header columns e =
-    let all = passed (failing (asked_of_header header)) _ columns e in
+    let all = passed (failing (asked_of_header header)) _ columns (sym (columns_are header) ∙ e) in
     subst (NamesColumns header) all.1 (record { width = refl; places = columns_stand header all_columns all.0 })
 
 pub named_columns : (header : List (List ℕ)) (columns : Columns) → NamesColumns header columns → columns_of header ≡ Ok columns
-unfolding columns_of
 named_columns header columns named =
     let all = standing_columns header all_columns columns.places named.places in
-    rw all.0 (λ i. Ok (record { width = sym named.width i; places = all.1 i }))
+    rw (columns_are header, all.0) (λ i. Ok (record { width = sym named.width i; places = all.1 i }))
 
 -- a header is refused with what fails first in it
 pub header_fails : (header : List (List ℕ)) (fault : RowFault) → failing (asked_of_header header) ≡ Some fault
     → columns_of header ≡ Err fault
-unfolding columns_of
-header_fails header fault e = rw e refl
+header_fails header fault e = rw (columns_are header, e) refl
 
 refused : {S : Type 0} (found : Option RowFault) (made : S) (fault : RowFault)
     → ◌≡◌ {A = Result S RowFault} (unless found (Ok made)) (Err fault)
@@ -143,8 +142,7 @@ refused None made fault e = absurd cc
 
 pub refused_header : (header : List (List ℕ)) (fault : RowFault) → columns_of header ≡ Err fault
     → failing (asked_of_header header) ≡ Some fault
-unfolding columns_of
-refused_header header fault e = refused (failing (asked_of_header header)) _ fault e
+refused_header header fault e = refused (failing (asked_of_header header)) _ fault (sym (columns_are header) ∙ e)
 
 -- what is asked of a header is of its row
 of_row_1 : (header : List (List ℕ)) (columns : List Column) → AreOfRow 1 (flat_map (asked_of_column header) columns)
@@ -153,3 +151,12 @@ of_row_1 header (column ∷ columns) = (refl, (refl, of_row_1 header columns))
 
 pub fault_of_header : (header : List (List ℕ)) (fault : RowFault) → failing (asked_of_header header) ≡ Some fault → fault.row ≡ 1
 fault_of_header header fault e = failing_of_row 1 (asked_of_header header) fault (of_row_1 header all_columns) e
+
+-- columns that a header names have five places
+pub five_places : (header : List (List ℕ)) (columns : Columns) → NamesColumns header columns → length columns.places ≡ 5
+five_places header columns named = sym (as_many all_columns columns.places named.places)
+  where
+    as_many : (left : List Column) (places : List ℕ) → AllZip (IsNamed header) left places → length left ≡ length places
+    as_many [] [] all = refl
+    as_many (column ∷ left) (place ∷ places) all = ap suc (as_many left places all.1)
+    as_many _ _ all = absurd all

@@ -1,14 +1,11 @@
 -- What a row's answer tells of its number, and that a row states a block exactly where its cells spell the block's values.
 use Rattle.std.proofs.Common.{rules, ◌≡◌, ℕ, ◌*◌, ◌/◌, ◌%◌, ◌^◌, ◌<◌, ◌≤◌, Bool, true, false, List, [], ◌∷◌, ◌++◌, suc, arith, refl, sym, ◌∙◌, ap, subst, leb-true, inl, inr, pos, negsuc, Some, None, Ok, Err, min, length}
-use Rattle.std.specs.Prelude.{Option, map, nat_le, slice_index_or, unsigned_abs, ◌↔◌, if◌then◌else◌}
+use Rattle.std.specs.Prelude.{Option, map, nat_le, unsigned_abs, ◌↔◌, if◌then◌else◌}
 use Rattle.std.proofs.Math.Nat.{min-eq_left, mul-div_left}
 use Rattle.std.proofs.lemmas.Bool.{eq-eqb, le-leb}
-use Rattle.std.proofs.lemmas.Grind.{same_number_lists}
 use Rattle.std.proofs.lemmas.Int.{ints}
-use Rattle.std.proofs.lemmas.List.FromFn.{get_or-map-range_with_len, length-map-range_with_len}
-use Rattle.std.specs.List.{range_with_len}
 use Rattle.forms.proofs.ShapeFacts.{IsAnswer, said_answers, states_said, fails_said}
-use Rattle.forms.specs.Words.{Demand, FailsFirst, asked, asked_of_field, asked_of_fields, Field, Decimal, Stepped, Word, Value, Millionths, Bytes, millionths, FieldFault, next_kinds, read, ◌>>=◌, Says, Spell, Check, Shape, failing, Fails, States}
+use Rattle.forms.specs.Words.{Demand, FailsFirst, asked, asked_of_field, asked_of_fields, Field, Decimal, Stepped, Word, Value, Millionths, Bytes, millionths, FieldFault, next_kinds, ◌>>=◌, Says, Spell, Check, Shape, failing, Fails, States}
 use Rattle.pit_parts.specs.Block.{block_with}
 use Rattle.pit_parts.specs.declared.block.Block.{Block}
 use Rattle.pit_parts.specs.declared.grid.Axis.{Axis}
@@ -16,9 +13,12 @@ use Rattle.pit_parts.specs.declared.grid.Grid.{Grid}
 use Rattle.pit_units.proofs.Multiples.{stands_multiple}
 use Rattle.pit_parts.proofs.BlockFacts.{block_again}
 use Rattle.zone_csv.proofs.CentroidFacts.{centroid_index, index_is_centroid}
-use Rattle.zone_csv.specs.Cell.{a_tonnage, centroid, coordinate, grade, index_at, trimmed_at}
-use Rattle.zone_csv.specs.Columns.{all_columns, field_of}
-use Rattle.zone_csv.specs.Row.{block_of, row_of, row_shape, row_values}
+use Rattle.zone_csv.proofs.ShapeFacts.{row_is}
+use Rattle.zone_csv.specs.Cell.{index_at}
+use Rattle.zone_csv.specs.Columns.{all_columns}
+use Rattle.zone_csv.specs.Row.{cell_in, index_said, row_of, size_said}
+use Rattle.zone_csv.specs.RowShape.{a_tonnage, block_of, centroid, coordinate, field_of, grade, row_shape, row_values}
+use Rattle.zone_csv.specs.declared.row_fault.Column.TheVariants.{X, Y, Z, Tonnes, Grade}
 use Rattle.zone_csv.specs.declared.columns.Columns.{Columns}
 use Rattle.zone_csv.specs.declared.row_fault.RowFault.{RowFault}
 
@@ -64,32 +64,29 @@ module _ (grid : Grid) (zone : ℕ) (columns : Columns) (number : ℕ) (cells : 
   abbrev shape : Shape RowFault Block
   shape = row_shape grid zone columns number cells
 
-  abbrev place_at : ℕ → ℕ
-  place_at k = slice_index_or columns.places k 0
-
-  -- what is read of a row that is not too many, and has a cell for each column of the header, place by place
-  pub row_read : number ≤ 1000001 → length cells ≡ columns.width → length columns.places ≡ length all_columns
+  -- what is read of a row that is not too many, and as wide as the header
+  pub row_read : number ≤ 1000001 → length cells ≡ columns.width
       → row_of grid zone columns number cells
-      ≡ (read shape.kinds shape.form (map (trimmed_at cells) (map place_at (range_with_len 0 (length all_columns))))
-      >>= λ values. Ok (shape.next values))
+      ≡ (index_said number X grid.x (cell_in columns cells 0) >>= λ x.
+      index_said number Y grid.y (cell_in columns cells 1) >>= λ y.
+      index_said number Z grid.z (cell_in columns cells 2) >>= λ z.
+      size_said number Tonnes 3 (10 ^ 9 * 1000) (cell_in columns cells 3) >>= λ tonnes.
+      size_said number Grade 6 (10 ^ 12) (cell_in columns cells 4) >>= λ grade.
+      Ok (block_with x y z (tonnes / 1000) grade zone))
   unfolding row_of
-  row_read few wide count =
-      let places = same_number_lists columns.places (map place_at (range_with_len 0 (length all_columns)))
-      (count ∙ sym (length-map-range_with_len place_at 0 (length all_columns)))
-      (λ k there. sym (get_or-map-range_with_len place_at 0 (length all_columns) k k 0 (omega (arith, count, there)) (omega arith))) in
-      rw (le-leb number 1000001 few, eq-eqb (length cells) columns.width wide, ap (map (trimmed_at cells)) places) refl
+  row_read few wide = rw (le-leb number 1000001 few, eq-eqb (length cells) columns.width wide) refl
 
-  pub row_answers : IsAnswer shape (row_of grid zone columns number cells)
-  unfolding row_of
-  row_answers = said_answers shape refl
+  pub row_answers : length columns.places ≡ 5 → IsAnswer shape (row_of grid zone columns number cells)
+  row_answers five = subst (IsAnswer shape) (sym (row_is grid zone columns number cells five)) (said_answers shape refl)
 
-  pub states_row : (b : Block) → States shape b → row_of grid zone columns number cells ≡ Ok b
-  unfolding row_of
-  states_row b states = states_said shape b refl states
+  pub states_row : length columns.places ≡ 5 → (b : Block) → States shape b → row_of grid zone columns number cells ≡ Ok b
+  states_row five b states = row_is grid zone columns number cells five ∙ states_said shape b refl states
 
-  pub fails_row : (fault : RowFault) → Fails shape fault → row_of grid zone columns number cells ≡ Err fault
-  unfolding row_of
-  fails_row fault fails = fails_said shape fault refl fails
+  pub fails_row : length columns.places ≡ 5 → (fault : RowFault) → Fails shape fault → row_of grid zone columns number cells ≡ Err fault
+  fails_row five fault fails = row_is grid zone columns number cells five ∙ fails_said shape fault refl fails
+
+  pub fails_alone : (b : Block) (fault : RowFault) → Fails shape fault → States shape b → ⊥
+  fails_alone b fault fails states = absurd (cc (fails_said shape fault refl fails, states_said shape b refl states))
 
   -- a row with a block is within the first 1,000,001 records, and its block is of the zone
   pub row_within : (b : Block) → States shape b → number ≤ 1000001

@@ -1,5 +1,5 @@
 -- A zone file has the blocks and the fault that its records state, and no others; its blocks are few, and of its zone.
-use Rattle.std.proofs.Common.{◌≡◌, ℕ, ◌+◌, ◌<◌, ◌≤◌, List, [], ◌∷◌, length, arith, refl, sym, ap, subst, inl, inr, Ok, Err, Some, None, min}
+use Rattle.std.proofs.Common.{◌≡◌, ℕ, ◌+◌, ◌<◌, ◌≤◌, List, [], ◌∷◌, length, arith, refl, sym, ◌∙◌, ap, subst, inl, inr, Ok, Err, Some, None, min}
 use Rattle.std.specs.Prelude.{Result, Option, All, MatchOption, ◌⊎◌, ◌↔◌}
 use Rattle.std.specs.Result.{ok_prefix}
 use Rattle.std.proofs.Math.Nat.{min-eq_left}
@@ -8,12 +8,14 @@ use Rattle.forms.proofs.ShapeFacts.{IsAnswer}
 use Rattle.records.specs.Records.{records_of}
 use Rattle.pit_parts.specs.declared.block.Block.{Block}
 use Rattle.pit_parts.specs.declared.grid.Grid.{Grid}
-use Rattle.zone_csv.proofs.ColumnFacts.{columns_named, fault_of_header, header_fails, named_columns, refused_header}
+use Rattle.zone_csv.proofs.ColumnFacts.{columns_named, fault_of_header, five_places, header_fails, named_columns, refused_header}
 use Rattle.zone_csv.proofs.RowFacts.{fails_row, fault_of_row, row_answers, row_within, states_row, zone_of_row}
 use Rattle.zone_csv.specs.Header.{columns_of}
 use Rattle.zone_csv.specs.NamedColumns.{NamesColumns}
-use Rattle.zone_csv.specs.Row.{row_of, row_shape}
+use Rattle.zone_csv.specs.Row.{row_of}
+use Rattle.zone_csv.specs.RowShape.{row_shape}
 use Rattle.zone_csv.specs.Zone.{below_header, blocks_of, fault_of, first_fault, records_say, rows_say}
+use Rattle.zone_csv.specs.ZoneReaderView.{Ahead, ZoneReaderView}
 use Rattle.zone_csv.specs.ZoneKept.{AccountsForRecords, HasFewBlocks, HasOwnBlocks}
 use Rattle.zone_csv.specs.ZoneStates.{HeaderFails, RowsState, ZoneStates, header_record}
 use Rattle.zone_csv.specs.declared.columns.Columns.{Columns}
@@ -39,14 +41,14 @@ no_columns : (columns : Columns) → NamesColumns [] columns → ⊥
 no_columns columns named = absurd (cc (header_fails [] _ refl, named_columns [] columns named))
 
 module _ (grid : Grid) (zone : ℕ) where
-  module _ (columns : Columns) where
+  module _ (columns : Columns) (five : length columns.places ≡ 5) where
     -- rows state what they say
     rows_told : (rows : List (List (List ℕ))) (number : ℕ)
         → RowsState grid zone columns number rows (ok_prefix (rows_say grid zone columns rows number))
         (first_fault (rows_say grid zone columns rows number))
     rows_told [] number = tt
     rows_told (row ∷ rows) number =
-        by (row_of grid zone columns number row) (row_answers grid zone columns number row) (rows_told rows (number + 1))
+        by (row_of grid zone columns number row) (row_answers grid zone columns number row five) (rows_told rows (number + 1))
       where
         by : (r : Result Block RowFault) → IsAnswer (row_shape grid zone columns number row) r
             → RowsState grid zone columns (number + 1) rows
@@ -63,10 +65,10 @@ module _ (grid : Grid) (zone : ℕ) where
         → (first_fault (rows_say grid zone columns rows number) ≡ fault) × (ok_prefix (rows_say grid zone columns rows number) ≡ blocks)
     told_rows [] number [] None h = (refl, refl)
     told_rows (row ∷ rows) number [] (Some fault) fails =
-        let here = fails_row grid zone columns number row fault fails in
+        let here = fails_row grid zone columns number row five fault fails in
         (rw here refl, rw here refl)
     told_rows (row ∷ rows) number (b ∷ blocks) fault (states, rest) =
-        let here = states_row grid zone columns number row b states in
+        let here = states_row grid zone columns number row five b states in
         let more = told_rows rows (number + 1) blocks fault rest in
         (rw here more.0, rw here (ap (λ bs. b ∷ bs) more.1))
     told_rows _ number _ _ h = absurd h
@@ -108,7 +110,9 @@ module _ (grid : Grid) (zone : ℕ) where
 
       by : (r : Result Columns RowFault) → columns_of header ≡ r
           → Tell grid zone (header ∷ rows) (ok_prefix (below_header grid zone r rows)) (first_fault (below_header grid zone r rows))
-      by (Ok columns) e = below columns _ _ (columns_named header columns e) (rows_told columns rows 2)
+      by (Ok columns) e =
+          let named = columns_named header columns e in
+          below columns _ _ named (rows_told columns (five_places header columns named) rows 2)
       by (Err fault) e = inl (refl, refused_header header fault e)
 
   -- and say what they tell
@@ -118,7 +122,7 @@ module _ (grid : Grid) (zone : ℕ) where
   stated_records [] blocks fault (columns, named, states) = absurd (no_columns columns named)
   stated_records (header ∷ rows) blocks fault (columns, named, states) =
       let above = named_columns header columns named in
-      let below = told_rows columns rows 2 blocks fault states in
+      let below = told_rows columns (five_places header columns named) rows 2 blocks fault states in
       (rw above below.0, rw above below.1)
 
   pub tell_back : (records : List (List (List ℕ))) (blocks : List Block) (fault : Option RowFault) → Tell grid zone records blocks fault
@@ -134,7 +138,7 @@ module _ (grid : Grid) (zone : ℕ) where
       → (length blocks ≤ 1000000) × All (λ (b : Block). b.zone ≡ min zone 63) blocks × IsWhole (length records) fault blocks
   behind [] blocks fault (columns, named, states) = absurd (no_columns columns named)
   behind (header ∷ rows) blocks fault (columns, named, states) =
-      let all = rows_kept columns rows 2 blocks fault (omega arith) states in
+      let all = rows_kept columns (five_places header columns named) rows 2 blocks fault (omega arith) states in
       (omega (arith, all.0), all.1, whole fault all.2)
     where
       whole : (fault : Option RowFault) → Accounts (length rows) 2 fault (length blocks) → IsWhole (length (header ∷ rows)) fault blocks
@@ -167,6 +171,16 @@ zone_tells grid zone text blocks fault = (to, tell_back grid zone (records_of te
     to h =
         subst (λ bs. Tell grid zone (records_of text) bs fault) h.1
         (subst (Tell grid zone (records_of text) (blocks_of grid zone text)) h.0 (zone_told grid zone text))
+
+-- so a reader that has all of the file to say says just what its records tell
+pub reader_tells : (grid : Grid) (zone : ℕ) (text : List ℕ) (view : ZoneReaderView)
+    → view ≡ Ahead (blocks_of grid zone text) (fault_of grid zone text) → (blocks : List Block) (fault : Option RowFault)
+    → (view ≡ Ahead blocks fault) ↔ Tell grid zone (records_of text) blocks fault
+reader_tells grid zone text view says blocks fault =
+    let tells = zone_tells grid zone text blocks fault in (
+      λ is. let same : Ahead (blocks_of grid zone text) (fault_of grid zone text) ≡ Ahead blocks fault = sym says ∙ is in tells.0 (cc, cc),
+      λ told. let back = tells.1 told in says ∙ (λ i. Ahead (back.1 i) (back.0 i)),
+    )
 
 pub zone_kept : (grid : Grid) (zone : ℕ) (text : List ℕ)
     → (length (blocks_of grid zone text) ≤ 1000000) × All (λ (b : Block). b.zone ≡ min zone 63) (blocks_of grid zone text)

@@ -1,8 +1,5 @@
--- The columns of a zone file: their order, their names, and what their cells are.
-use Rattle.std.specs.Prelude.{ℕ, false, List, [], ◌∷◌, codes}
-use Rattle.forms.specs.Words.{Field, Word}
-use Rattle.pit_parts.specs.declared.grid.Grid.{Grid}
-use Rattle.zone_csv.specs.Cell.{a_tonnage, coordinate, grade}
+-- The columns of a zone file: their order, and their names.
+use Rattle.std.specs.Prelude.{ℕ, List, [], ◌∷◌, codes}
 use Rattle.zone_csv.specs.declared.row_fault.Column.{Column}
 use Rattle.zone_csv.specs.declared.row_fault.Column.TheVariants.{X, Y, Z, Tonnes, Grade, Whole}
 
@@ -18,12 +15,3 @@ column_name Z = codes "z"
 column_name Tonnes = codes "tonnes"
 column_name Grade = codes "grade"
 column_name Whole = codes "whole"
-
--- what a cell of the column has to be; no cell is the row as a whole
-abbrev pub field_of : Grid → Column → Field
-field_of grid X = coordinate grid.x
-field_of grid Y = coordinate grid.y
-field_of grid Z = coordinate grid.z
-field_of grid Tonnes = a_tonnage
-field_of grid Grade = grade
-field_of grid Whole = Word (λ cell. false)

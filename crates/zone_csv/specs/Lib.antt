@@ -4,6 +4,7 @@ pub mod FaultText
 pub mod Header
 pub mod NamedColumns
 pub mod Row
+pub mod RowShape
 pub mod Zone
 pub mod ZoneKept
 pub mod ZoneReaderView

@@ -1,46 +1,53 @@
--- What a row of a zone file looks like, and what it then says: a block, or its first fault.
-use Rattle.std.specs.Prelude.{ℕ, ◌*◌, ◌/◌, ◌+◌, ◌==◌, nat_le, List, [], ◌∷◌, ◌++◌, length, map, slice_index_or, pos, unsigned_abs, Result}
-use Rattle.forms.specs.Words.{Value, Millionths, number_at, Shape, check, said}
+-- What a row of a zone file says, cell by cell: a block, or its first fault.
+use Rattle.std.specs.Prelude.{ℕ, ◌+◌, ◌*◌, ◌/◌, ◌%◌, ◌==◌, nat_le, not, List, length, slice_index_or, ℤ, pos, ◌-ℤ◌, unsigned_abs, Result, Ok, Err, if◌then◌else◌}
+use Rattle.forms.specs.Words.{◌>>=◌}
+use Rattle.pit_units.specs.Decimal.{decimal_within}
+use Rattle.pit_units.specs.declared.fault.DecFault.{DecFault}
+use Rattle.pit_units.specs.declared.fault.DecFault.TheVariants as dec
 use Rattle.pit_parts.specs.Block.{block_with}
 use Rattle.pit_parts.specs.declared.block.Block.{Block}
+use Rattle.pit_parts.specs.declared.grid.Axis.{Axis}
 use Rattle.pit_parts.specs.declared.grid.Grid.{Grid}
-use Rattle.zone_csv.specs.Cell.{a_fault, centroid, index_at, of_cell, trimmed_at}
-use Rattle.zone_csv.specs.Columns.{all_columns, field_of}
+use Rattle.pit_parts.specs.declared.ranges.TheConstants.{MAX_GRADE, MAX_KG, MAX_ROWS}
+use Rattle.zone_csv.specs.Cell.{a_fault, greatest, index_at, least, trimmed_at}
 use Rattle.zone_csv.specs.declared.columns.Columns.{Columns}
 use Rattle.zone_csv.specs.declared.row_fault.Column.{Column}
-use Rattle.zone_csv.specs.declared.row_fault.Column.TheVariants.{Whole}
+use Rattle.zone_csv.specs.declared.row_fault.Column.TheVariants.{X, Y, Z, Tonnes, Grade, Whole}
 use Rattle.zone_csv.specs.declared.row_fault.RowFault.{RowFault}
-use Rattle.zone_csv.specs.declared.row_fault.RowFaultKind.TheVariants.{Width, TooManyRows}
-use Rattle.pit_parts.specs.declared.ranges.TheConstants.{MAX_ROWS}
+use Rattle.zone_csv.specs.declared.row_fault.RowFaultKind.TheVariants.{Number, TooFine, Range, OffGrid, Width, TooManyRows}
 
--- the block that the values of a row state: kilograms are thousandths of a tonne
-abbrev pub block_of : Grid → ℕ → List Value → Block
-block_of grid zone values =
-    block_with (index_at grid.x (number_at values 0)) (index_at grid.y (number_at values 1)) (index_at grid.z (number_at values 2))
-    (unsigned_abs (number_at values 3) / 1000) (unsigned_abs (number_at values 4)) zone
+-- the number that a cell states, or the fault of its row and column
+abbrev pub number_said : ℕ → Column → Result ℤ DecFault → Result ℤ RowFault
+number_said row column (Ok m) = Ok m
+number_said row column (Err dec.Number) = Err (a_fault row column Number)
+number_said row column (Err dec.TooFine) = Err (a_fault row column TooFine)
+number_said row column (Err dec.Range) = Err (a_fault row column Range)
 
--- the values that state a block
-abbrev pub row_values : Grid → Block → List Value
-row_values grid b =
-    map Millionths (centroid grid.x b.x ∷ centroid grid.y b.y ∷ centroid grid.z b.z ∷ pos (b.kg * 1000) ∷ pos b.grade ∷ [])
+-- the index of a coordinate: metres with three decimals, in the grid, whole sizes of a block above its origin
+abbrev pub index_said : ℕ → Column → Axis → List ℕ → Result ℕ RowFault
+index_said row column axis cell =
+    number_said row column (decimal_within 3 (least axis) (greatest axis) cell) >>= λ m.
+    if unsigned_abs (m -ℤ least axis) % (1000 * axis.size) == 0 then Ok (index_at axis m) else Err (a_fault row column OffGrid)
 
--- the column of the field at a place
-abbrev pub column_at : ℕ → Column
-column_at place = slice_index_or all_columns place Whole
+-- so many millionths, from 0 to the most, with so many decimals
+abbrev pub size_said : ℕ → Column → ℕ → ℕ → List ℕ → Result ℕ RowFault
+size_said row column decimals most cell =
+    number_said row column (decimal_within decimals (pos 0) (pos most) cell) >>= λ m. Ok (unsigned_abs m)
 
--- the record of this number under these columns: no row too many, as wide as the header, and a field in each column
-abbrev pub row_shape : Grid → ℕ → Columns → ℕ → List (List ℕ) → Shape RowFault Block
-row_shape grid zone columns number cells = record {
-  first =
-      check (a_fault number Whole TooManyRows) (nat_le number (MAX_ROWS + 1))
-      ++ check (a_fault number Whole Width) (length cells == columns.width);
-  texts = map (trimmed_at cells) columns.places;
-  form = map (field_of grid) all_columns;
-  kinds = λ place. of_cell number (column_at place);
-  last = λ values. [];
-  next = block_of grid zone;
-}
+-- the cell of a column, by the column's number among the five
+abbrev pub cell_in : Columns → List (List ℕ) → ℕ → List ℕ
+cell_in columns cells k = trimmed_at cells (slice_index_or columns.places k 0)
 
--- what the record says
+-- the record of this number under these columns: no row too many, as wide as the header, empty cells at its end counted, then tonnes
+-- with three decimals and grams per tonne with six behind the coordinates; a kilogram is a thousandth of a tonne
 unfoldable pub row_of : Grid → ℕ → Columns → ℕ → List (List ℕ) → Result Block RowFault
-row_of grid zone columns number cells = said (row_shape grid zone columns number cells)
+row_of grid zone columns number cells =
+    if not (nat_le number (MAX_ROWS + 1)) then Err (a_fault number Whole TooManyRows)
+    else (if not (length cells == columns.width) then Err (a_fault number Whole Width)
+    else (
+    index_said number X grid.x (cell_in columns cells 0) >>= λ x.
+    index_said number Y grid.y (cell_in columns cells 1) >>= λ y.
+    index_said number Z grid.z (cell_in columns cells 2) >>= λ z.
+    size_said number Tonnes 3 (MAX_KG * 1000) (cell_in columns cells 3) >>= λ tonnes.
+    size_said number Grade 6 MAX_GRADE (cell_in columns cells 4) >>= λ grade.
+    Ok (block_with x y z (tonnes / 1000) grade zone)))

@@ -3,9 +3,8 @@ use Rattle.std.specs.Prelude.{◌≡◌, ℕ, ◌+◌, List, [], ◌∷◌, drop
 use Rattle.forms.specs.Words.{failing, Fails, States}
 use Rattle.pit_parts.specs.declared.block.Block.{Block}
 use Rattle.pit_parts.specs.declared.grid.Grid.{Grid}
-use Rattle.zone_csv.specs.Header.{asked_of_header}
 use Rattle.zone_csv.specs.NamedColumns.{NamesColumns}
-use Rattle.zone_csv.specs.Row.{row_shape}
+use Rattle.zone_csv.specs.RowShape.{asked_of_header, row_shape}
 use Rattle.zone_csv.specs.declared.columns.Columns.{Columns}
 use Rattle.zone_csv.specs.declared.row_fault.RowFault.{RowFault}
 

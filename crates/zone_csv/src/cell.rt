@@ -2,9 +2,11 @@
 
 ghost use Rattle.std.specs.Prelude.{◌≡◌, ℕ, ◌*◌, ◌<◌, ◌≤◌, ◌≤ℤ◌, ◌-ℤ◌, pos, unsigned_abs, Err, IfOk};
 ghost use Rattle.pit_parts.specs.PlanKept.{IsAxis};
-ghost use Rattle.zone_csv.specs.Cell.{IsInGrid, a_fault, centroid, coordinate, greatest, least, of_cell};
-ghost use Rattle.zone_csv.specs.inner.RowAnswers.{as_value};
-ghost use Rattle.forms.specs.Words.{up_to, number_or_kind, read_decimal, read_field};
+ghost use Rattle.pit_units.specs.Decimal.{decimal_within};
+ghost use Rattle.zone_csv.specs.Cell.{a_fault, greatest, least};
+ghost use Rattle.zone_csv.specs.Row.{index_said, number_said, size_said};
+ghost use Rattle.zone_csv.specs.RowShape.{IsInGrid};
+ghost use Rattle.zone_csv.specs.inner.RowAnswers.{in_row};
 ghost use Rattle.pit_parts.specs.declared.ranges.TheConstants.{GRID_CELLS};
 
 use crate::row_fault::{Column, RowFault, RowFaultKind};
@@ -29,7 +31,7 @@ pub(crate) struct ColumnFault {
 
 // The fault of a cell that states no decimal.
 fn no_decimal(column: Column, fault: DecFault) -> ColumnFault
-    ensures { (row : ℕ) → number_or_kind (of_cell row column) (Err fault)
+    ensures { (row : ℕ) → number_said row column (Err fault)
         ≡ Err (a_fault row result.column result.kind) }
 {
     let kind = match fault {
@@ -50,8 +52,8 @@ fn number_of(
     cell: &[u8],
 ) -> Result<Dec, ColumnFault>
     requires { decimals ≤ 6 }
-    ensures value { (row : ℕ) → as_value row (λ m. m) result
-        ≡ read_decimal (of_cell row column) decimals low high cell.now }
+    ensures value { (row : ℕ) → in_row row result
+        ≡ number_said row column (decimal_within decimals low high cell.now) }
     ensures in_range { IfOk result (λ number. (low ≤ℤ number) × (number ≤ℤ high)) }
 {
     parse_within(cell, decimals, low, high).map_err(|fault| no_decimal(column, fault))
@@ -66,8 +68,8 @@ pub(crate) fn millionths_in(
     cell: &[u8],
 ) -> Result<u64, ColumnFault>
     requires { decimals ≤ 6 }
-    ensures value { (row : ℕ) → as_value row pos result
-        ≡ read_field (of_cell row column) (up_to decimals most) cell.now }
+    ensures value { (row : ℕ) → in_row row result
+        ≡ size_said row column decimals most cell.now }
     ensures in_range { IfOk result (λ size. size ≤ most) }
 {
     let number = number_of(column, decimals, 0, i128::from(most), cell)?;
@@ -78,8 +80,7 @@ pub(crate) fn millionths_in(
 #[inline(always)]
 pub(crate) fn index_of(column: Column, axis: Axis, cell: &[u8]) -> Result<u16, ColumnFault>
     requires { IsAxis axis }
-    ensures value { (row : ℕ) → as_value row (centroid axis) result
-        ≡ read_field (of_cell row column) (coordinate axis) cell.now }
+    ensures value { (row : ℕ) → in_row row result ≡ index_said row column axis cell.now }
     ensures in_grid { IfOk result (λ index. index < GRID_CELLS) }
 {
     let coordinate = number_of(column, 3, least(axis), greatest(axis), cell)?;

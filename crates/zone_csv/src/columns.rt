@@ -1,9 +1,8 @@
 //! Where the header of a zone file puts its columns.
 
-ghost use Rattle.std.specs.Prelude.{◌≡◌, Ok};
+ghost use Rattle.std.specs.Prelude.{◌≡◌};
 ghost use Rattle.csv.specs.Records.{fields_of};
-ghost use Rattle.forms.specs.Words.{failing, unless};
-ghost use Rattle.zone_csv.specs.Header.{asked_of_column, columns_of, place_in};
+ghost use Rattle.zone_csv.specs.Header.{columns_of, one_place, places_in};
 
 use crate::cell::a_fault;
 use crate::row_fault::{COLUMNS, Column, RowFault, RowFaultKind};
@@ -35,8 +34,7 @@ pub(crate) fn columns_of(header: &ByteRecord) -> Result<Columns, RowFault>
 
 // The place of a column, or the header's fault.
 fn place_in(header: &ByteRecord, column: Column) -> Result<usize, RowFault>
-    ensures { let cells = fields_of header.now in
-        result ≡ unless (failing (asked_of_column cells column)) (Ok (place_in cells column)) }
+    ensures { result ≡ one_place column (places_in (fields_of header.now) column) }
 {
     let name = column.name().as_bytes();
     let mut found = None;

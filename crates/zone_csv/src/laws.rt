@@ -1,16 +1,18 @@
 //! What holds of every zone file and of every coordinate, for whoever speaks of them in a contract. The calls do nothing.
 
-ghost use Rattle.std.specs.Prelude.{◌≡◌, ◌*◌, ◌<◌, ◌⊎◌, ◌↔◌, ℕ, ℤ, true, List, Option, Result, Ok, Err, None, Some};
-ghost use Rattle.forms.specs.Words.{is_on_step, Spell, failing, Fails, States};
+ghost use Rattle.std.specs.Prelude.{◌≡◌, ◌*◌, ◌<◌, ◌⊎◌, ◌↔◌, ℕ, ℤ, true, length, map, List, Option, Result, Ok, Err, None, Some};
+ghost use Rattle.forms.specs.Words.{is_on_step, Spell, failing, said, unless, Fails, States};
 ghost use Rattle.pit_units.specs.declared.or_memory.OrMemory.{OrMemory};
 ghost use Rattle.pit_parts.specs.declared.grid.Axis.{Axis as AnAxis};
 ghost use Rattle.pit_parts.specs.declared.grid.Grid.{Grid as AGrid};
 ghost use Rattle.records.specs.Records.{records_of};
 ghost use Rattle.pit_parts.specs.declared.block.Block.{Block};
-ghost use Rattle.zone_csv.specs.Cell.{IsInGrid, centroid, index_at, least};
-ghost use Rattle.zone_csv.specs.Header.{asked_of_header, columns_of};
+ghost use Rattle.zone_csv.specs.Cell.{index_at, least};
+ghost use Rattle.zone_csv.specs.Columns.{all_columns};
+ghost use Rattle.zone_csv.specs.Header.{columns_of};
 ghost use Rattle.zone_csv.specs.NamedColumns.{NamesColumns};
-ghost use Rattle.zone_csv.specs.Row.{row_shape, row_values};
+ghost use Rattle.zone_csv.specs.Row.{row_of};
+ghost use Rattle.zone_csv.specs.RowShape.{IsInGrid, asked_of_header, centroid, place_in, row_shape, row_values};
 ghost use Rattle.zone_csv.specs.Zone.{blocks_of, fault_of};
 ghost use Rattle.zone_csv.specs.ZoneKept.{HasFewBlocks, HasOwnBlocks, AccountsForRecords};
 ghost use Rattle.zone_csv.specs.ZoneReaderView.{Answers, ZoneReaderView};
@@ -93,4 +95,15 @@ pub fn readers_answer_again()
     ensures refused { (old then after : ZoneReaderView) (fault : OrMemory RowFault)
         (again : Result (Option Block) (OrMemory RowFault))
         → Answers old (Err fault) then → Answers then again after → again ≡ Err fault }
+{}
+
+/// A header and a row, which are said outright, go by what is asked of the header, and by the shape of the row.
+#[tactic(auto, using(crate::proofs::HeaderFacts::columns_are, crate::proofs::ShapeFacts::row_is))]
+pub fn headers_and_rows_go_by_forms()
+    ensures headers { (header : List (List ℕ)) → columns_of header
+        ≡ unless (failing (asked_of_header header))
+        (Ok (record { width = length header; places = map (place_in header) all_columns })) }
+    ensures rows { (grid : AGrid) (zone : ℕ) (columns : FiveColumns) (number : ℕ) (row : List (List ℕ))
+        → length columns.places ≡ 5
+        → row_of grid zone columns number row ≡ said (row_shape grid zone columns number row) }
 {}

@@ -5,7 +5,7 @@ ghost use Rattle.std.specs.Prelude.{◌≡◌, ◌+◌, ◌<◌, ◌≤◌, ◌=
 ghost use Rattle.std.specs.List.{flat_map};
 ghost use Rattle.pit_units.specs.Decimal.{IsInDecimalRange, shortest};
 ghost use Rattle.mine_instance.specs.Groups.{coefs_in, pairs_of};
-ghost use Rattle.minelib_writing.specs.Written.{cpit_coef_fields};
+ghost use Rattle.minelib_writing.specs.Written.{cpit_coef_line};
 ghost use Rattle.minelib_writing.specs.inner.CoefParts.{coef_lines, coef_part, coef_text, cpit_coef_text, FitsForm};
 
 use crate::fields::{put_decimal_to, put_whole_to};
@@ -265,7 +265,7 @@ fn set_resource(text: &mut [u8], r: u8)
 
 // A coefficient of a CPIT that is kept.
 impl Line for CpitCoef {
-    ghost fields = { cpit_coef_fields };
+    ghost fields = { cpit_coef_line };
 
     ghost kept = { λ c. IsInDecimalRange c.v };
 

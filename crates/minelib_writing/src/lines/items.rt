@@ -4,9 +4,7 @@ ghost use Rattle.std.specs.Prelude.{◌≡◌, ◌++◌, ◌∷◌, [], ◌*◌,
 ghost use Rattle.pit_units.specs.Decimal.{IsInDecimalRange, shortest};
 ghost use Rattle.mine_instance.specs.Kept.{HasDecimals};
 ghost use Rattle.minelib_lines.specs.Lines.{line_of};
-ghost use Rattle.forms.specs.Words.{written};
-ghost use Rattle.minelib_lines.specs.LineValues.{bound_values};
-ghost use Rattle.minelib_writing.specs.Written.{block_fields, limit_fields, cpit_value_fields};
+ghost use Rattle.minelib_writing.specs.Written.{block_line, bound_fields, limit_line, one_value_line};
 
 use crate::fields::{put_decimal_to, put_text, put_whole_to};
 use crate::lines::Line;
@@ -16,7 +14,7 @@ use pit_units::Dec;
 use std::alloc::{AllocError, Global};
 
 impl Line for Block {
-    ghost fields = { block_fields };
+    ghost fields = { block_line };
 
     ghost kept = { λ b. ⊤ };
 
@@ -52,7 +50,7 @@ fn put_ore(alloc: Global, out: &mut Vec<u8>, block: &Block) -> Result<(), AllocE
 }
 
 impl Line for Limit {
-    ghost fields = { limit_fields };
+    ghost fields = { limit_line };
 
     ghost kept = { λ l. HasDecimals l.bound };
 
@@ -65,7 +63,7 @@ impl Line for Limit {
 
 fn put_bound(alloc: Global, out: &mut Vec<u8>, bound: &Bound) -> Result<(), AllocError>
     ensures text { OnOk result (out.new.items
-        ≡ out.old.items ++ (line_of (written (bound_values bound.now)) ++ 10 ∷ [])) }
+        ≡ out.old.items ++ (line_of (bound_fields bound.now) ++ 10 ∷ [])) }
     ensures kept { OnOk result (HasDecimals bound.now) }
 {
     match bound {
@@ -87,7 +85,7 @@ fn put_bound(alloc: Global, out: &mut Vec<u8>, bound: &Bound) -> Result<(), Allo
 
 // The one value of a block.
 impl Line for Dec {
-    ghost fields = { cpit_value_fields };
+    ghost fields = { one_value_line };
 
     ghost kept = { IsInDecimalRange };
 

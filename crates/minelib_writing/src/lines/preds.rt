@@ -3,7 +3,7 @@
 ghost use Rattle.std.specs.Prelude.{◌≡◌, ◌+◌, ◌<◌, ◌≤◌, ◌^◌, ◌++◌, ◌∷◌, [], All, length, take, drop, slice_index_or, sum_by, IfOk, OnOk};
 ghost use Rattle.precedence.specs.IdRuns.{ids_of};
 ghost use Rattle.minelib_lines.specs.Lines.{line_of, lines_from, text_of};
-ghost use Rattle.minelib_writing.specs.Written.{prec_fields};
+ghost use Rattle.minelib_writing.specs.Written.{prec_line};
 ghost use Rattle.pit_parts.specs.declared.ranges.TheConstants.{MAX_BLOCKS};
 ghost use Rattle.devices.specs.sinks.Writes.{WritesOn};
 
@@ -27,7 +27,7 @@ pub fn write_preds<S: Sink, P: PredLists>(
     requires few { length (P.lists preds.now) ≤ MAX_BLOCKS }
     requires own { length (P.lists preds.now) ≤ texts.now }
     requires preds { All (λ ids. All (λ id. id < texts.now) ids) (P.lists preds.now) }
-    ensures { WritesOn (text_of (lines_from prec_fields 0 (P.lists preds.now)))
+    ensures { WritesOn (text_of (lines_from prec_line 0 (P.lists preds.now)))
         buffer.old.items buffer.new.items (S.state sink.old) (S.state sink.new) result }
 {
     let mut arcs = 0;
@@ -47,7 +47,7 @@ pub fn write_counted<S: Sink, P: PredLists>(
     requires own { length (P.lists preds.now) ≤ texts.now }
     requires preds { All (λ ids. All (λ id. id < texts.now) ids) (P.lists preds.now) }
     requires none { arcs.old ≡ 0 }
-    ensures writes { WritesOn (text_of (lines_from prec_fields 0 (P.lists preds.now)))
+    ensures writes { WritesOn (text_of (lines_from prec_line 0 (P.lists preds.now)))
         buffer.old.items buffer.new.items (S.state sink.old) (S.state sink.new) result }
     ensures counted { OnOk result (arcs.new ≡ sum_by length (P.lists preds.now)) }
 {
@@ -74,7 +74,7 @@ fn write_line<S: Sink, P: PredLists>(
     requires preds { All (λ pred. pred < texts.now) (slice_index_or (P.lists preds.now) id []) }
     requires room { arcs.old < 2 ^ 127 }
     ensures writes { WritesOn
-        (text_of (take 1 (drop id (lines_from prec_fields 0 (P.lists preds.now)))))
+        (text_of (take 1 (drop id (lines_from prec_line 0 (P.lists preds.now)))))
         buffer.old.items buffer.new.items (S.state sink.old) (S.state sink.new) result }
     ensures counted { OnOk result
         (arcs.new ≡ arcs.old + length (slice_index_or (P.lists preds.now) id [])) }
@@ -97,7 +97,7 @@ fn put_line<P: PredLists>(
     requires own { id < texts.now }
     requires preds { All (λ pred. pred < texts.now) (slice_index_or (P.lists preds.now) id []) }
     ensures text { OnOk result (out.new.items
-        ≡ out.old.items ++ text_of (take 1 (drop id (lines_from prec_fields 0 (P.lists preds.now))))) }
+        ≡ out.old.items ++ text_of (take 1 (drop id (lines_from prec_line 0 (P.lists preds.now))))) }
     ensures count { IfOk result (λ n. n ≡ length (slice_index_or (P.lists preds.now) id [])) }
     ensures countable { IfOk result (λ n. n < 2 ^ 63) }
 {
@@ -111,7 +111,7 @@ fn put_preds(out: &mut Vec<u8>, id: u32, runs: &[IdRun], texts: &IdText) -> Resu
     requires preds { All (λ pred. pred < texts.now) (ids_of runs.now) }
     requires countable { length (ids_of runs.now) < 2 ^ 63 }
     ensures text { OnOk result (out.new.items
-        ≡ out.old.items ++ (line_of (prec_fields id (ids_of runs.now)) ++ 10 ∷ [])) }
+        ≡ out.old.items ++ (line_of (prec_line id (ids_of runs.now)) ++ 10 ∷ [])) }
     ensures count { IfOk result (λ n. n ≡ length (ids_of runs.now)) }
 {
     let count = count_of(runs);

@@ -7,7 +7,7 @@ ghost use Rattle.mine_instance.specs.BlockValues.{values_in};
 ghost use Rattle.mine_instance.specs.Greatest.{greatest};
 ghost use Rattle.mine_instance.specs.OfModel.{in_hundreds};
 ghost use Rattle.minelib_lines.specs.Lines.{line_of, lines_from};
-ghost use Rattle.minelib_writing.specs.Written.{greatest_fields, value_fields};
+ghost use Rattle.minelib_writing.specs.Written.{greatest_line, value_line};
 
 use crate::cents::put_cents_behind;
 use crate::fields::{put_decimal_behind, put_whole, put_whole_behind};
@@ -25,15 +25,15 @@ pub struct ValueLines<'a, V> {
 }
 
 impl<'a, V: ValueList> Parted for ValueLines<'a, V> {
-    ghost lines = { λ s. lines_from value_fields 0 (V.list s.values.now) };
+    ghost lines = { λ s. lines_from value_line 0 (V.list s.values.now) };
 
     ghost use Rattle.minelib_writing.specs.inner.Parts.{line_parts, lines_whole};
 
-    ghost parts = { λ s. line_parts (lines_from value_fields 0 (V.list s.values.now)) };
+    ghost parts = { λ s. line_parts (lines_from value_line 0 (V.list s.values.now)) };
 
     ghost kept = { λ s n. HoldsAt (λ of_block. All IsInDecimalRange of_block) (V.list s.values.now) n };
 
-    ghost whole = { λ s. lines_whole (lines_from value_fields 0 (V.list s.values.now)) };
+    ghost whole = { λ s. lines_whole (lines_from value_line 0 (V.list s.values.now)) };
 
     fn len(&self) -> usize {
         self.values.len()
@@ -104,15 +104,15 @@ pub struct GreatestLines<'a, V: ValueList> {
 }
 
 impl<'a, V: ValueList> Parted for GreatestLines<'a, V> {
-    ghost lines = { λ s. lines_from greatest_fields 0 (V.list s.values.now) };
+    ghost lines = { λ s. lines_from greatest_line 0 (V.list s.values.now) };
 
     ghost use Rattle.minelib_writing.specs.inner.Parts.{line_parts, lines_whole};
 
-    ghost parts = { λ s. line_parts (lines_from greatest_fields 0 (V.list s.values.now)) };
+    ghost parts = { λ s. line_parts (lines_from greatest_line 0 (V.list s.values.now)) };
 
     ghost kept = { λ s n. HoldsAt (λ of_block. IsInDecimalRange (greatest of_block)) (V.list s.values.now) n };
 
-    ghost whole = { λ s. lines_whole (lines_from greatest_fields 0 (V.list s.values.now)) };
+    ghost whole = { λ s. lines_whole (lines_from greatest_line 0 (V.list s.values.now)) };
 
     fn len(&self) -> usize {
         self.values.len()

@@ -1,6 +1,5 @@
 -- What the cells of a row and the row itself answer before the number of the row is put into a fault.
-use Rattle.std.specs.Prelude.{ℕ, ℤ, Result, Ok, Err}
-use Rattle.forms.specs.Words.{Value, Millionths, ◌>>=◌}
+use Rattle.std.specs.Prelude.{ℕ, Result, Ok, Err}
 use Rattle.zone_csv.specs.Cell.{a_fault}
 use Rattle.zone_csv.specs.declared.cell.ColumnFault.{ColumnFault}
 use Rattle.zone_csv.specs.declared.row_fault.RowFault.{RowFault}
@@ -9,7 +8,3 @@ use Rattle.zone_csv.specs.declared.row_fault.RowFault.{RowFault}
 abbrev pub in_row : {A : Type 0} → ℕ → Result A ColumnFault → Result A RowFault
 in_row row (Ok x) = Ok x
 in_row row (Err fault) = Err (a_fault row fault.column fault.kind)
-
--- a number that was read in that row, as the value of its field
-abbrev pub as_value : {A : Type 0} → ℕ → (A → ℤ) → Result A ColumnFault → Result Value RowFault
-as_value row number answer = in_row row answer >>= λ x. Ok (Millionths (number x))

@@ -1,8 +1,8 @@
 use Rattle.std.proofs.Common.{◌++◌, ◌∷◌, [], ◌∙◌, ap, arith, sym}
 use Rattle.std.proofs.lemmas.List.{take_all}
 use Rattle.std.specs.List.{flat_map}
-use Rattle.minelib_writing.specs.Written.{key_line}
 use Rattle.minelib_lines.specs.KeyParts.{value_in}
+use Rattle.minelib_lines.specs.WrittenLines.{key_line}
 use Rattle.minelib_writing.proofs.LineFacts.{key_texts}
 use Rattle.minelib_writing.proofs.keys.put_keys.Goals as goal
 

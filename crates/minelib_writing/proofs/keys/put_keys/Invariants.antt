@@ -1,7 +1,7 @@
 use Rattle.std.proofs.Common.{◌≡◌, ◌++◌, ◌∷◌, [], take}
 use Rattle.std.specs.List.{flat_map}
-use Rattle.minelib_writing.specs.Written.{key_line}
 use Rattle.minelib_lines.specs.KeyParts.{value_in}
+use Rattle.minelib_lines.specs.WrittenLines.{key_line}
 use Rattle.minelib_writing.proofs.keys.put_keys.Given as goal
 
 -- The lines so far are appended.

@@ -1,6 +1,8 @@
 use Rattle.std.proofs.Common.{rules, ◌≡◌, ◌*◌, ◌/◌, ◌<◌, Ok, arith, ap, sym}
-use Rattle.forms.specs.Words.{Millionths, read_decimal}
-use Rattle.zone_csv.specs.Cell.{IsInGrid, greatest, least, of_cell}
+use Rattle.pit_units.specs.Decimal.{decimal_within}
+use Rattle.zone_csv.specs.Cell.{greatest, least}
+use Rattle.zone_csv.specs.Row.{number_said}
+use Rattle.zone_csv.specs.RowShape.{IsInGrid}
 use Rattle.zone_csv.proofs.CentroidFacts.{whole_sizes}
 use Rattle.zone_csv.proofs.cell.index_of.Goals as goal
 
@@ -12,7 +14,6 @@ returns-clause-value c = λ row.
     let some : 0 < axis.size = omega arith in
     let within : IsInGrid axis coordinate = search rules in
     let whole : above / (1000 * axis.size) * (1000 * axis.size) ≡ above = search rules in
-    let kind = of_cell row c.args.column in
-    let states : Ok (Millionths coordinate) ≡ read_decimal kind 3 (least axis) (greatest axis) c.args.cell.now = search rules in
+    let states : Ok coordinate ≡ number_said row c.args.column (decimal_within 3 (least axis) (greatest axis) c.args.cell.now) = search rules in
     let facts = whole_sizes axis some coordinate above within c.above_origin-above.ensures.value whole in
-    rw (sym states, facts.0, c.size-size.ensures) (ap (λ m. Ok (Millionths m)) (sym facts.1))
+    rw (sym states, facts.0, c.size-size.ensures) (ap (λ n. Ok (n / (1000 * axis.size))) c.above_origin-above.ensures.value)

@@ -1,17 +1,16 @@
-use Rattle.std.proofs.Common.{◌≡◌, drop, length, map, take}
-use Rattle.std.specs.Prelude.{flat_map}
+use Rattle.std.proofs.Common.{◌≡◌, ◌++◌, Ok, drop, length, take}
 use Rattle.csv.specs.Records.{fields_of}
-use Rattle.forms.specs.Words.{failing}
+use Rattle.forms.specs.Words.{◌>>=◌}
 use Rattle.zone_csv.specs.Columns.{all_columns}
-use Rattle.zone_csv.specs.Header.{asked_of_column, asked_of_header, place_in}
+use Rattle.zone_csv.specs.Header.{each_place}
 use Rattle.zone_csv.proofs.columns.columns_of.Given as goal
 
--- What fails first in the header fails in the columns ahead, and the columns before them have their places.
+-- The columns before this one have their places, and those ahead decide.
 abbrev pub invariant-loop-k : goal.invariant-loop-k
 invariant-loop-k l =
     record {
-      ahead : failing (asked_of_header (fields_of l.header)) ≡ failing (flat_map (asked_of_column (fields_of l.header)) (drop l.k all_columns));
-      behind : take l.k l.places ≡ map (place_in (fields_of l.header)) (take l.k all_columns);
+      ahead : each_place (fields_of l.header) all_columns
+          ≡ (each_place (fields_of l.header) (drop l.k all_columns) >>= λ places. Ok (take l.k l.places ++ places));
       count : length l.places ≡ length all_columns;
       columns : l.columns ≡ all_columns;
     }

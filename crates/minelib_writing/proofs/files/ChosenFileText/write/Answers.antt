@@ -6,7 +6,7 @@ use Rattle.mine_instance.specs.Instance.{Instance}
 use Rattle.mine_instance.specs.cpit.OfCpit.{is_chosen, without_destination}
 use Rattle.pit_units.specs.Decimal.{IsInDecimalRange}
 use Rattle.mine_instance.specs.Kept.{HasDecimals}
-use Rattle.minelib_writing.specs.Written.{greatest_fields, limit_fields}
+use Rattle.minelib_writing.specs.Written.{greatest_line, limit_line}
 use Rattle.minelib_writing.proofs.ChosenFacts.{chosen_keys, chosen_sections, chosen_text}
 use Rattle.minelib_writing.proofs.KeptFacts.{kept_all, on_ok_three}
 use Rattle.minelib_writing.proofs.LineFacts.{length-line_parts}
@@ -42,11 +42,11 @@ returns-clause-kept g c =
       record {
         name = c.of_one_destination.ensures.kept;
         values = All-map IsInDecimalRange greatest i.values
-            (kept_all (λ of_block. IsInDecimalRange (greatest of_block)) i.values _ (length-line_parts greatest_fields i.values) values);
+            (kept_all (λ of_block. IsInDecimalRange (greatest of_block)) i.values _ (length-line_parts greatest_line i.values) values);
         coefs = All-map (λ e. IsInDecimalRange e.v) without_destination _
             (All-filter (is_chosen i.values) (λ c. IsInDecimalRange c.v) i.coefs
             (kept_all (λ c. IsInDecimalRange c.v) i.coefs _ (length-map i.coefs _) coefs));
-        limits = kept_all (λ l. HasDecimals l.bound) i.limits _ (length-line_parts limit_fields i.limits) limits;
+        limits = kept_all (λ l. HasDecimals l.bound) i.limits _ (length-line_parts limit_line i.limits) limits;
       },
       c.a_valid_instance_has_a_cpit.ensures i c.args.self.now.valid,
     ))

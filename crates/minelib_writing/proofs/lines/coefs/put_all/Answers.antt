@@ -8,7 +8,7 @@ use Rattle.pit_units.specs.Decimal.{shortest}
 use Rattle.mine_instance.specs.Groups.{pairs_of}
 use Rattle.mine_instance.specs.OfModel.{coef_of}
 use Rattle.minelib_writing.specs.inner.CoefParts.{coef_text}
-use Rattle.minelib_writing.proofs.CoefFacts.{coef_line, line_in, next_line, of_pair, places_before}
+use Rattle.minelib_writing.proofs.CoefFacts.{coef_text_is, line_in, next_line, of_pair, places_before}
 use Rattle.minelib_writing.proofs.lines.coefs.put_all.Goals as goal
 
 pub write_pair-requires-clause-room : goal.write_pair-requires-clause-room
@@ -39,7 +39,7 @@ loop-d-preserved c =
     let tonnes : drop 14 room ≡ 32 ∷ rest = sym (drop-drop 4 10 room) ∙ ap (drop 4) behind in
     let line : drop start room ≡ coef_text (coef_of b v pair) =
     line_in 10 room (decimal b) _ start c.write_block-start.ensures.start (omega (arith, places_before 14 room rest 32 tonnes)) digits behind
-    ∙ sym (coef_line (coef_of b v pair) fit.0 fit.1) in
+    ∙ sym (coef_text_is (coef_of b v pair) fit.0 fit.1) in
     let appended : c.extend_from_slice.new.self.items ≡ c.loop-d.out.items ++ drop start room =
     c.in_ok-extend_from_slice.ensures.items
     ∙ ap (λ xs. c.loop-d.out.items ++ xs) (take_rest c.deref.result.now start ∙ ap (drop start) c.deref.ensures.value) in

@@ -8,7 +8,7 @@ use Rattle.pit_units.specs.Decimal.{shortest}
 use Rattle.mine_instance.specs.Groups.{pairs_of}
 use Rattle.mine_instance.specs.OfModel.{coef_of}
 use Rattle.minelib_writing.specs.inner.CoefParts.{cpit_coef_text}
-use Rattle.minelib_writing.proofs.CoefFacts.{cpit_coef_line, differ, line_in, next_line, of_pair, places_before}
+use Rattle.minelib_writing.proofs.CoefFacts.{cpit_coef_text_is, differ, line_in, next_line, of_pair, places_before}
 use Rattle.minelib_writing.proofs.lines.coefs.put_at.Goals as goal
 use Rattle.minelib_writing.proofs.lines.coefs.put_at.Goals.{then-from-destination+in_ok-extend_from_slice, else-from-destination}
 
@@ -47,7 +47,7 @@ loop-d-preserved c =
           let line : drop start room ≡ part pair =
           line_in 12 room (decimal b) _ start c.write_block-start.ensures.start (omega (arith, places_before 14 room rest 32 tonnes)) digits
           behind
-          ∙ sym (ap (λ test. if test then cpit_coef_text (coef_of b v pair) else []) yes ∙ cpit_coef_line (coef_of b v pair) digit) in
+          ∙ sym (ap (λ test. if test then cpit_coef_text (coef_of b v pair) else []) yes ∙ cpit_coef_text_is (coef_of b v pair) digit) in
           let appended : w.extend_from_slice.new.self.items ≡ c.loop-d.out.items ++ drop start room =
           w.in_ok-extend_from_slice.ensures.items
           ∙ ap (λ xs. c.loop-d.out.items ++ xs) (take_rest w.deref.result.now start ∙ ap (drop start) w.deref.ensures.value) in

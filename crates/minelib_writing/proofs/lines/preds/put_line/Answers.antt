@@ -2,7 +2,7 @@ use Rattle.std.proofs.Common.{◌≡◌, ◌<◌, ◌++◌, ◌∷◌, [], lengt
 use Rattle.std.proofs.lemmas.Result.{IfOk-weaker}
 use Rattle.precedence.specs.IdRuns.{ids_of}
 use Rattle.minelib_lines.specs.Lines.{line_of, lines_from, text_of}
-use Rattle.minelib_writing.specs.Written.{prec_fields}
+use Rattle.minelib_writing.specs.Written.{prec_line}
 use Rattle.minelib_writing.proofs.LineFacts.{length-lines_from, get_or-lines_from, text_at}
 use Rattle.minelib_writing.proofs.lines.preds.put_line.Goals as goal
 
@@ -10,15 +10,15 @@ pub returns-clause-text : goal.returns-clause-text
 returns-clause-text g c =
     let lists = g.P.PredLists.lists c.args.preds.now in
     let id = c.args.id in
-    let lines = lines_from prec_fields 0 lists in
+    let lines = lines_from prec_line 0 lists in
     let list : ids_of c.as_slice.result.now ≡ get_or lists id [] =
     ap ids_of c.as_slice.ensures.value ∙ c.in_ok-add_runs.ensures.list
     ∙ ap (λ runs. ids_of runs ++ get_or lists id []) c.clear.ensures.items in
     let within : id < length lines = rw length-lines_from c.requires.block in
-    let text : text_of (take 1 (drop id lines)) ≡ line_of (prec_fields id (ids_of c.as_slice.result.now)) ++ 10 ∷ [] =
+    let text : text_of (take 1 (drop id lines)) ≡ line_of (prec_line id (ids_of c.as_slice.result.now)) ++ 10 ∷ [] =
     text_at lines id within
     ∙ ap (λ line. line ++ 10 ∷ [])
-    (get_or-lines_from prec_fields 0 id id lists [] c.requires.block (omega arith) ∙ ap (λ ids. line_of (prec_fields id ids)) (sym list)) in
+    (get_or-lines_from prec_line 0 id id lists [] c.requires.block (omega arith) ∙ ap (λ ids. line_of (prec_line id ids)) (sym list)) in
     rw text c.put_preds.ensures.text
 
 pub returns-clause-count : goal.returns-clause-count

@@ -3,7 +3,7 @@ use Rattle.std.specs.Prelude.{sum_by}
 use Rattle.std.proofs.lemmas.List.Sums.{sum_by_more}
 use Rattle.std.proofs.lemmas.List.{take_all}
 use Rattle.minelib_lines.specs.Lines.{lines_from, text_of}
-use Rattle.minelib_writing.specs.Written.{prec_fields}
+use Rattle.minelib_writing.specs.Written.{prec_line}
 use Rattle.devices.specs.sinks.Writes.{IsWrittenOn}
 use Rattle.minelib_writing.proofs.LineFacts.{length-lines_from}
 use Rattle.minelib_writing.proofs.SectionsWritten.{more_cut, more_then}
@@ -12,7 +12,7 @@ use Rattle.minelib_writing.proofs.lines.preds.write_counted.Goals as goal
 -- the lines so far were written on, the rest was cut short, and so are they all
 pub returns-in_err-write_line-clause-writes : goal.returns-in_err-write_line-clause-writes
 returns-in_err-write_line-clause-writes g c =
-    let lines = lines_from prec_fields 0 (g.P.PredLists.lists c.args.preds.now) in
+    let lines = lines_from prec_line 0 (g.P.PredLists.lists c.args.preds.now) in
     let cut = more_cut lines _ 1 c.loop-id.invariant.0.appended c.in_err-write_line.ensures.writes in
     search rules
 
@@ -22,7 +22,7 @@ loop-id-preserved g c =
     let lists = g.P.PredLists.lists c.args.preds.now in
     let more = sum_by_more length lists c.loop-id.id [] (omega (arith, c.loop-id-test.true, c.count-id-end.ensures)) in
     let written = c.in_ok-write_line.ensures in (
-      more_then (lines_from prec_fields 0 lists) c.loop-id.id 1 c.loop-id.invariant.0 written.writes,
+      more_then (lines_from prec_line 0 lists) c.loop-id.id 1 c.loop-id.invariant.0 written.writes,
       omega (arith, more, c.loop-id.invariant.1, written.counted),
       omega (arith, c.loop-id.invariant.2, written.counted, written.countable),
     )
@@ -34,9 +34,9 @@ write_line-requires-clause-room g c =
 pub returns-clause-writes : goal.returns-clause-writes
 returns-clause-writes g c =
     let lists = g.P.PredLists.lists c.args.preds.now in
-    let lines = lines_from prec_fields 0 lists in
+    let lines = lines_from prec_line 0 lists in
     let all : take c.loop-id.id lines ≡ lines =
-    take_all c.loop-id.id lines (omega (arith, c.loop-id-test.false, c.count-id-end.ensures, length-lines_from prec_fields 0 lists)) in
+    take_all c.loop-id.id lines (omega (arith, c.loop-id-test.false, c.count-id-end.ensures, length-lines_from prec_line 0 lists)) in
     subst (λ (ls : List (List ℕ)). IsWrittenOn (text_of ls) c.args.buffer.now.items c.loop-id.buffer.items
     (g.S.Sink.state c.args.sink.now) (g.S.Sink.state c.loop-id.sink)) all c.loop-id.invariant.0
 

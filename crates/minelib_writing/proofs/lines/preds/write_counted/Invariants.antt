@@ -1,12 +1,12 @@
 use Rattle.std.proofs.Common.{◌≡◌, ◌*◌, ◌≤◌, ◌^◌, length, take}
 use Rattle.std.specs.Prelude.{sum_by}
 use Rattle.minelib_lines.specs.Lines.{lines_from, text_of}
-use Rattle.minelib_writing.specs.Written.{prec_fields}
+use Rattle.minelib_writing.specs.Written.{prec_line}
 use Rattle.devices.specs.sinks.Writes.{IsWrittenOn}
 use Rattle.minelib_writing.proofs.lines.preds.write_counted.Given as goal
 
 -- The lines so far are written on, and their predecessors are counted.
 abbrev pub invariant-loop-id : goal.invariant-loop-id
-invariant-loop-id g l = IsWrittenOn (text_of (take l.id (lines_from prec_fields 0 (g.P.PredLists.lists l.preds))))
+invariant-loop-id g l = IsWrittenOn (text_of (take l.id (lines_from prec_line 0 (g.P.PredLists.lists l.preds))))
     l.initial.buffer.items l.buffer.items (g.S.Sink.state l.initial.sink) (g.S.Sink.state l.sink)
     × (l.arcs ≡ sum_by length (take l.id (g.P.PredLists.lists l.preds))) × (l.arcs ≤ l.id * 2 ^ 63)

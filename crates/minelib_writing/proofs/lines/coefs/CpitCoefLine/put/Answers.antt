@@ -1,6 +1,5 @@
 use Rattle.std.proofs.Common.{rules, append_assoc}
-use Rattle.minelib_writing.proofs.FieldsWritten.{whole_written}
 use Rattle.minelib_writing.proofs.lines.coefs.CpitCoefLine.put.Goals as goal
 
 pub returns-clause-text : goal.returns-clause-text
-returns-clause-text c = rw (whole_written c.args.self.now.b, whole_written c.args.self.now.r) (search (rules, append_assoc))
+returns-clause-text c = search (rules, append_assoc)

@@ -1,13 +1,9 @@
 use Rattle.std.proofs.Common.{rules, append_assoc}
 use Rattle.std.proofs.lemmas.Result.{on_ok_weaker}
-use Rattle.pit_units.proofs.Written.{whole_written}
 use Rattle.minelib_writing.proofs.lines.items.BlockLine.put.Goals as goal
 
 pub returns-clause-text : goal.returns-clause-text
-returns-clause-text c =
-    let b = c.args.self.now in
-    rw (whole_written c.args.index, whole_written b.x, whole_written b.y, whole_written b.z, whole_written b.zone)
-    (search (rules, append_assoc))
+returns-clause-text c = search (rules, append_assoc)
 
 pub returns-clause-kept : goal.returns-clause-kept
 returns-clause-kept c = on_ok_weaker c.put_whole_to-2.result (λ _. tt) c.put_whole_to-2.ensures

@@ -1,11 +1,10 @@
 use Rattle.std.proofs.Common.{◌<◌, ◌∙◌, [], length}
 use Rattle.std.specs.Prelude.{HoldsAt}
 use Rattle.std.proofs.lemmas.List.{get_or_default}
-use Rattle.pit_units.proofs.Written.{whole_written}
 use Rattle.mine_instance.specs.BlockValues.{values_in}
 use Rattle.mine_instance.specs.Greatest.{greatest}
 use Rattle.pit_units.specs.Decimal.{IsInDecimalRange}
-use Rattle.minelib_writing.specs.Written.{greatest_fields}
+use Rattle.minelib_writing.specs.Written.{greatest_line}
 use Rattle.minelib_writing.proofs.KeptFacts.{holds_one, kept_at}
 use Rattle.minelib_writing.proofs.LineFacts.{length-line_parts, line_part}
 use Rattle.minelib_writing.proofs.lines.values.GreatestLinesParted.append.Goals as goal
@@ -24,8 +23,7 @@ returns-clause-appended g c =
     let within : c.args.index < length values = rw length-line_parts at c.requires in
     let own = values_in c.of_block.result in
     let is = c.of_block.ensures ∙ get_or_default values c.args.index [] own within in
-    rw (line_part greatest_fields c.args.index values own within is, whole_written c.args.index)
-    c.in_ok-put_greatest.ensures.text
+    rw (line_part greatest_line c.args.index values own within is) c.in_ok-put_greatest.ensures.text
 
 pub returns-clause-kept : goal.returns-clause-kept
 returns-clause-kept g c =
