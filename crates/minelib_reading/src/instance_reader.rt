@@ -1,13 +1,18 @@
 //! Reading an instance, and a constrained pit limit problem, from texts.
 
-ghost use Rattle.std.specs.Prelude.{◌≡◌, ◌≤◌, length, IfOk};
+ghost use Rattle.std.specs.Prelude.{◌≡◌, ◌≤◌, length, IfOk, MatchResult};
+ghost use Rattle.mine_instance.specs.Instance.{Instance as AnInstance};
+ghost use Rattle.mine_instance.specs.cpit.Cpit.{CpitParts};
 ghost use Rattle.mine_instance.specs.Kept.{IsKept, IsKeptCpit};
 ghost use Rattle.mine_instance.specs.Valid.{IsValid};
 ghost use Rattle.minelib_reading.specs.Denotes.{cpit_denoted, denoted};
+ghost use Rattle.minelib_reading.specs.spelled.SpelledTexts.{SpellCpit, SpellInstance};
 ghost use Rattle.pit_units.specs.OrMemory.{Gives};
+ghost use Rattle.pit_units.specs.declared.or_memory.OrMemory.TheVariants.{OutOfMemory};
 ghost use Rattle.pit_parts.specs.declared.ranges.TheConstants.{MAX_BLOCKS};
 
 use crate::block_reader::read_blocks;
+use crate::laws::{cpits_are_spelled, instances_are_spelled};
 use crate::model::reader::read_model;
 use crate::prec_reader::read_preds;
 use mine_instance::cpit::Cpit;
@@ -25,8 +30,26 @@ use text_lines::text_fault::{TextFault, TextFile, error_in_file};
 /// - `Fault`: the texts denote no instance. It names the first faulty line: of the blocks, then of the precedences,
 ///   then of the model.
 /// - `OutOfMemory`: memory was refused.
-#[tactic(auto, unfolding(crate::specs::Denotes::denoted), using(crate::proofs::models::ValidRead::read_valid))]
 pub fn read_instance(
+    alloc: Global,
+    blocks: &[u8],
+    prec: &[u8],
+    pcpsp: &[u8],
+) -> Result<Instance, OrMemory<TextFault>>
+    ensures found { IfOk result (SpellInstance blocks.now prec.now pcpsp.now) }
+    ensures only { (i : AnInstance) → SpellInstance blocks.now prec.now pcpsp.now i
+        → MatchResult result (λ found. found ≡ i) (λ error. error ≡ OutOfMemory) }
+    ensures exact { Gives (λ x. x) result (denoted blocks.now prec.now pcpsp.now) }
+    ensures valid { IfOk result IsValid }
+    ensures kept { IfOk result IsKept }
+{
+    instances_are_spelled();
+    denoted_instance(alloc, blocks, prec, pcpsp)
+}
+
+// The instance that the lines of three texts denote one after the other.
+#[tactic(auto, unfolding(crate::specs::Denotes::denoted), using(crate::proofs::models::ValidRead::read_valid))]
+fn denoted_instance(
     alloc: Global,
     blocks: &[u8],
     prec: &[u8],
@@ -58,8 +81,22 @@ pub fn read_instance(
 ///
 /// - `Fault`: the text denotes none. It names the first faulty line.
 /// - `OutOfMemory`: memory was refused.
-#[tactic(auto, unfolding(crate::specs::Denotes::cpit_denoted))]
 pub fn read_cpit(alloc: Global, n: usize, text: &[u8]) -> Result<Cpit, OrMemory<TextFault>>
+    requires { n ≤ MAX_BLOCKS }
+    ensures found { IfOk result (SpellCpit n text.now) }
+    ensures only { (c : CpitParts) → SpellCpit n text.now c
+        → MatchResult result (λ found. found ≡ c) (λ error. error ≡ OutOfMemory) }
+    ensures exact { Gives (λ x. x) result (cpit_denoted n text.now) }
+    ensures blocks { IfOk result (λ cpit. length cpit.values ≡ n) }
+    ensures kept { IfOk result IsKeptCpit }
+{
+    cpits_are_spelled();
+    denoted_cpit(alloc, n, text)
+}
+
+// The constrained pit limit problem that the lines of a text denote.
+#[tactic(auto, unfolding(crate::specs::Denotes::cpit_denoted))]
+fn denoted_cpit(alloc: Global, n: usize, text: &[u8]) -> Result<Cpit, OrMemory<TextFault>>
     requires { n ≤ MAX_BLOCKS }
     ensures denoted { Gives (λ x. x) result (cpit_denoted n text.now) }
     ensures blocks { IfOk result (λ cpit. length cpit.values ≡ n) }

@@ -1,13 +1,17 @@
 //! Reading a plan.
 
-ghost use Rattle.std.specs.Prelude.{◌≡◌, ◌≤◌, OnOk};
+ghost use Rattle.std.specs.Prelude.{◌≡◌, ◌≤◌, IfOk, MatchResult, OnOk};
 ghost use Rattle.csv.specs.Records.{fields_of};
 ghost use Rattle.pit_units.specs.OrMemory.{Gives};
 ghost use Rattle.pit_model.specs.inner.ByPlace.{record_said};
-ghost use Rattle.pit_model.specs.Planned.{finished, finished_at, planned};
+ghost use Rattle.pit_model.specs.Planned.{SpellPlan, finished, finished_at, planned};
+ghost use Rattle.pit_parts.specs.Plan.{PlanParts};
+ghost use Rattle.pit_units.specs.declared.or_memory.OrMemory.TheVariants.{OutOfMemory};
+ghost use Rattle.records.specs.Records.{records_of};
 ghost use Rattle.pit_parts.specs.declared.ranges.TheConstants.{MAX_PLAN_RECORDS};
 
 use crate::draft::Draft;
+use crate::laws::plans_are_spelled;
 use crate::plan_fault::{PlanFault, PlanFaultKind};
 use csv::ByteRecord;
 use pit_parts::plan::Plan;
@@ -27,8 +31,19 @@ use std::alloc::Global;
 /// - `Fault`: the text states no plan. It has the number and the kind of the first faulty record; where a part is
 ///   missing, the number behind the last record.
 /// - `OutOfMemory`: memory was refused.
-#[tactic(auto, using(crate::proofs::PlanSteps::all_planned))]
 pub fn read_plan(alloc: Global, text: &[u8]) -> Result<Plan, OrMemory<PlanFault>>
+    ensures found { IfOk result (SpellPlan (records_of text.now)) }
+    ensures only { (p : PlanParts) → SpellPlan (records_of text.now) p
+        → MatchResult result (λ plan. plan ≡ p) (λ error. error ≡ OutOfMemory) }
+    ensures exact { Gives (λ plan. plan) result (planned text.now) }
+{
+    plans_are_spelled();
+    plan_stated(alloc, text)
+}
+
+// The plan that the records of a text state one after the other.
+#[tactic(auto, using(crate::proofs::PlanSteps::all_planned))]
+fn plan_stated(alloc: Global, text: &[u8]) -> Result<Plan, OrMemory<PlanFault>>
     ensures { Gives (λ plan. plan) result (planned text.now) }
 {
     let mut reader = RecordReader::from_slice(alloc, text);

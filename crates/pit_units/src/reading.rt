@@ -1,13 +1,15 @@
 //! The decimal that a text states.
 
-ghost use Rattle.std.specs.Prelude.{◌≡◌, ◌+◌, ◌*◌, ◌^◌, ◌≤◌, ◌<◌, ◌==◌, min, drop, slice_index_or, length, not, ◌&&◌, IsTrue, nat_lt, if◌then◌else◌, IfOk, IfSome, Ok, Err, ◌≤ℤ◌};
+ghost use Rattle.std.specs.Prelude.{◌≡◌, ◌+◌, ◌*◌, ◌^◌, ◌≤◌, ◌<◌, ◌==◌, min, drop, slice_index_or, length, not, ◌&&◌, IsTrue, nat_lt, if◌then◌else◌, IfOk, IfSome, Ok, Err, ℤ, ◌≤ℤ◌};
 ghost use Rattle.std.specs.List.{position_or_len};
 ghost use Rattle.std.specs.Str.Parse.{digits_value, without_leading_sign};
 ghost use Rattle.pit_units.specs.Decimal.{all_digits, all_zeros, decimal_of, decimal_within, signed, six_decimals};
+ghost use Rattle.pit_units.specs.StandsFor.{StandsFor};
 
 use crate::decimal::Dec;
 use crate::fault::DecFault;
 use crate::front::front_dec;
+use crate::laws::read_is_meant;
 
 // One more than the largest whole part of a decimal: where a longer count of digits stops.
 const PAST_LARGEST: u64 = 1_000_000_000_000_000_001;
@@ -25,6 +27,17 @@ const PAST_LARGEST: u64 = 1_000_000_000_000_000_001;
 /// - `Range`: the number is above 10^18 or below -10^18.
 #[inline(always)]
 pub fn parse_dec(text: &[u8], max_decimals: u8) -> Result<Dec, DecFault>
+    requires { max_decimals ≤ 6 }
+    ensures found { IfOk result (λ dec. StandsFor max_decimals text.now dec) }
+    ensures only { (m : ℤ) → StandsFor max_decimals text.now m → result ≡ Ok m }
+    ensures exact { result ≡ decimal_of max_decimals text.now }
+{
+    read_is_meant();
+    decimal_in(text, max_decimals)
+}
+
+#[inline(always)]
+fn decimal_in(text: &[u8], max_decimals: u8) -> Result<Dec, DecFault>
     requires { max_decimals ≤ 6 }
     ensures { result ≡ decimal_of max_decimals text.now }
 {

@@ -1,10 +1,14 @@
 //! The reader of a zone file.
 
-ghost use Rattle.std.specs.Prelude.{◌≡◌, ◌+◌, ◌<◌, ◌≤◌, length, Err, IfOk, IfSome};
+ghost use Rattle.std.specs.Prelude.{◌≡◌, ◌⊎◌, ◌↔◌, ◌+◌, ◌<◌, ◌≤◌, List, length, None, Some, Err, IfOk, IfSome};
 ghost use Rattle.pit_parts.specs.PlanKept.{IsGrid};
 ghost use Rattle.zone_csv.specs.ZoneReaderView.{Ahead, Answers, blocks_left};
 ghost use Rattle.zone_csv.specs.Zone.{blocks_of, fault_of};
 ghost use Rattle.zone_csv.specs.ZoneKept.{HasFewBlocks, HasOwnBlocks};
+ghost use Rattle.zone_csv.specs.ZoneStates.{HeaderFails, ZoneStates};
+ghost use Rattle.zone_csv.specs.declared.row_fault.RowFault.{RowFault as ARowFault};
+ghost use Rattle.pit_parts.specs.declared.block.Block.{Block as ABlock};
+ghost use Rattle.records.specs.Records.{records_of};
 ghost use Rattle.zone_csv.specs.inner.ReaderStages.{reader_view, IsCounted};
 ghost use Rattle.pit_parts.specs.declared.ranges.TheConstants.{MAX_ROWS, MAX_ZONES};
 
@@ -69,6 +73,13 @@ impl ZoneReader {
         ensures says { result
             ≡ Ahead (blocks_of plan.now.grid zone text.items)
             (fault_of plan.now.grid zone text.items) }
+
+        // The same by what the records state.
+        ensures spelled { (blocks : List ABlock) → (result ≡ Ahead blocks None)
+            ↔ ZoneStates plan.now.grid zone (records_of text.items) blocks None }
+        ensures faulty { (blocks : List ABlock) (fault : ARowFault) → (result ≡ Ahead blocks (Some fault))
+            ↔ (HeaderFails (records_of text.items) blocks fault
+            ⊎ ZoneStates plan.now.grid zone (records_of text.items) blocks (Some fault)) }
         ensures few { HasFewBlocks plan.now.grid zone text.items }
         ensures own { HasOwnBlocks plan.now.grid zone text.items }
     {

@@ -1,17 +1,12 @@
-use Rattle.minelib_lines.specs.declared.problem.Problem.TheVariants.{Cpit}
-use Rattle.minelib_reading.proofs.models.KeptRead.{cpit_is_kept}
-use Rattle.minelib_reading.proofs.models.ValidRead.{cpit_is_valid, model_is_valid}
+use Rattle.pit_units.proofs.BothWays.{found_of, only_of}
+use Rattle.minelib_reading.specs.spelled.SpelledTexts.{SpellCpit}
 use Rattle.minelib_reading.proofs.instance_reader.read_cpit.Goals as goal
 
-pub into_cpit-requires-clause-name : goal.into_cpit-requires-clause-name
-into_cpit-requires-clause-name c = (model_is_valid Cpit c.args.n c.args.text.now c.in-Ok.model c.in-Ok.ensures).name
+pub returns-clause-found : goal.returns-clause-found
+returns-clause-found c =
+    found_of (SpellCpit c.args.n c.args.text.now) _ _ (λ cpit is. (c.cpits_are_spelled.ensures c.args.n c.args.text.now cpit).0 is)
+    c.denoted_cpit.ensures.denoted
 
-pub into_cpit-requires-clause-cpit : goal.into_cpit-requires-clause-cpit
-into_cpit-requires-clause-cpit c = (cpit_is_valid c.args.n c.args.text.now c.in-Ok.model c.requires c.in-Ok.ensures).0
-
-pub returns-clause-blocks : goal.returns-clause-blocks
-returns-clause-blocks c =
-    rw (c.in_ok-into_cpit.ensures) ((cpit_is_valid c.args.n c.args.text.now c.in-Ok.model c.requires c.in-Ok.ensures).1)
-
-pub returns-clause-kept : goal.returns-clause-kept
-returns-clause-kept c = rw (c.in_ok-into_cpit.ensures) (cpit_is_kept c.args.n c.args.text.now c.in-Ok.model c.in-Ok.ensures)
+pub returns-clause-only : goal.returns-clause-only
+returns-clause-only c = λ cpit spells.
+    only_of cpit _ _ ((c.cpits_are_spelled.ensures c.args.n c.args.text.now cpit).1 spells) c.denoted_cpit.ensures.denoted

@@ -1,19 +1,12 @@
-use Rattle.std.proofs.Common.{rules}
-use Rattle.minelib_lines.specs.declared.problem.Problem.TheVariants.{Pcpsp}
-use Rattle.minelib_reading.specs.Denotes.{denoted}
-use Rattle.minelib_reading.proofs.models.KeptRead.{read_kept}
-use Rattle.minelib_reading.proofs.models.ValidRead.{model_is_valid, read_valid}
+use Rattle.pit_units.proofs.BothWays.{found_of, only_of}
+use Rattle.minelib_reading.specs.spelled.SpelledTexts.{SpellInstance}
 use Rattle.minelib_reading.proofs.instance_reader.read_instance.Goals as goal
 
-pub into_instance-requires : goal.into_instance-requires
-into_instance-requires c = (model_is_valid Pcpsp _ c.args.pcpsp.now c.in-Ok-read_model.model c.in-Ok-read_model.ensures).name
+pub returns-clause-found : goal.returns-clause-found
+returns-clause-found c =
+    let spelled = c.instances_are_spelled.ensures c.args.blocks.now c.args.prec.now c.args.pcpsp.now in
+    found_of (SpellInstance c.args.blocks.now c.args.prec.now c.args.pcpsp.now) _ _ (λ i is. (spelled i).0 is) c.denoted_instance.ensures.denoted
 
-pub returns-in-Ok-read_model-clause-valid : goal.returns-in-Ok-read_model-clause-valid
-unfolding denoted
-returns-in-Ok-read_model-clause-valid c =
-    read_valid c.args.blocks.now c.args.prec.now c.args.pcpsp.now c.into_instance.result (search rules)
-
-pub returns-in-Ok-read_model-clause-kept : goal.returns-in-Ok-read_model-clause-kept
-unfolding denoted
-returns-in-Ok-read_model-clause-kept c =
-    read_kept c.args.blocks.now c.args.prec.now c.args.pcpsp.now c.into_instance.result (search rules)
+pub returns-clause-only : goal.returns-clause-only
+returns-clause-only c = λ i spells.
+    only_of i _ _ ((c.instances_are_spelled.ensures c.args.blocks.now c.args.prec.now c.args.pcpsp.now i).1 spells) c.denoted_instance.ensures.denoted

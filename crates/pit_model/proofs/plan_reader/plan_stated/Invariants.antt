@@ -2,7 +2,7 @@ use Rattle.std.proofs.Common.{◌≤◌}
 use Rattle.pit_model.specs.Planned.{planned}
 use Rattle.records.specs.RecordReader.{rows_ahead}
 use Rattle.pit_model.proofs.PlanSteps.{Leads}
-use Rattle.pit_model.proofs.plan_reader.read_plan.Given as goal
+use Rattle.pit_model.proofs.plan_reader.plan_stated.Given as goal
 
 abbrev pub invariant-loop-draft : goal.invariant-loop-draft
 invariant-loop-draft l = Leads l.reader l.number l.draft (planned l.fn.text) × (l.number ≤ 10001)
