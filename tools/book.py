@@ -141,6 +141,26 @@ def imports(path: str) -> Imports:
     return found
 
 
+def source_of(page: str, name: str) -> str:
+    """The name that a word of a page has where it is defined."""
+    path = file_of(page)
+    if not path or any(name in piece.names for piece in pieces(path)):
+        return name
+    passed = imports(path).passed
+    return source_of(*passed[name]) if name in passed else name
+
+
+def other_names(piece: Piece) -> Iterator[Tuple[str, str]]:
+    """The names that a piece uses for what has another one where it is defined, with that one."""
+    words, pages, _ = imports(piece.path)
+    for name, other in used(piece).items():
+        front, _, behind = name.partition(".")
+        if name in words and other and source_of(*words[name]) != name:
+            yield name, source_of(*words[name])
+        elif behind and pages.get(front, "").endswith(".TheVariants") and other:
+            yield f"{front}.x", f"the x of {pages[front].split('.')[-2]}"
+
+
 def find(page: str, name: str) -> Optional[Piece]:
     """Where a word of a page is defined: there, or where it is passed on from."""
     path = file_of(page)
@@ -324,10 +344,12 @@ def lines_of(some: List[Piece]) -> int:
 
 
 class Book(NamedTuple):
-    """The pieces of each of some parts, none twice, and the sentences of the library's words that have no definition there."""
+    """The pieces of each of some parts, none twice, the sentences of the library's words that have no definition there, and names
+    by what they are elsewhere."""
 
     parts: Dict[str, List[Piece]]
     listed: List[Tuple[Tuple[str, ...], str]]
+    others: Dict[str, List[str]]
 
     def counts(self) -> str:
         """The pages of the project, code among them, and their lines; the definitions of the library, and its other words."""
@@ -349,7 +371,10 @@ def book_of(parts: List[str]) -> Book:
         before.update(told[part])
     words = {name for piece in all_of for name, other in used(piece).items() if is_listed(name, other)}
     sentences = ((tuple(name for name in names if name in words), says) for names, says in library_words.LIBRARY.items())
-    return Book(told, [(names, says) for names, says in sentences if names])
+    others: Dict[str, List[str]] = {}
+    for name, real in sorted({pair for piece in all_of for pair in other_names(piece) if pair[0] not in words}):
+        others.setdefault(name, []).append(real)
+    return Book(told, [(names, says) for names, says in sentences if names], others)
 
 
 def text_of(book: Book) -> Iterator[str]:
@@ -358,8 +383,11 @@ def text_of(book: Book) -> Iterator[str]:
     yield "# How to read this\n"
     for sign, says in [*library_words.LANGUAGE.items(), *((", ".join(names), says) for names, says in book.listed)]:
         yield f"    {sign}: {says}"
+    yield "\n# Names that stand for another one\n"
+    for name, meant in book.others.items():
+        yield f"    {name}: {', or '.join(meant)}"
     for part, some in book.parts.items():
-        yield f"\n# {part}"
+        yield f"\n# {part}\n\n{library_words.PARTS[part]}"
         path = ""
         for piece in some:
             if piece.path != path:

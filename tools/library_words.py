@@ -1,9 +1,19 @@
 """What the words and signs mean that the text of tools/book.py has no definition of."""
 
+# What each part of the text is about.
+PARTS = {
+    "run": "A zone file is a CSV text with the columns x, y, z, tonnes and grade; the file of number i has the blocks of the plan's\n"
+           "zone i. For each file a thread, its reader, takes the bytes of a feed and puts the rows into a queue, the lane. Valuers, threads\n"
+           "too, take them out, and value each block at each destination. Sinks take the texts, which depend on none of these threads.",
+    "pipe": "One input holds the text of a plan and those of its zone files, cut at lines that are exactly `--`. The texts of the\n"
+            "instance are printed one after the other.",
+    "check": "The files of an instance are read back, and what they have is counted.",
+}
+
 # Of the language of contracts and definitions.
 LANGUAGE = {
     "A → B": "functions from A to B, or that A implies B; `(x : A) → B`: for each x of A; `{X : Type 0}`: left out where it is clear",
-    "A × B": "pairs, or that both hold; `(x : A) × B`: that there is such an x; `p.0`, `p.1`: the parts of a pair `(a, b)`",
+    "A × B": "pairs, or that both hold; `(x : A) × B`: that there is such an x; `p.0`, `p.1`, `p.2`: the parts of `(a, b)` or `(a, b, c)`",
     "λ x. e": "the function that gives e for x",
     "f x = e": "what f is at x; of several such lines the first that fits",
     "let x = e in f": "f, where x stands for e",
@@ -11,10 +21,11 @@ LANGUAGE = {
     "¬ A, ⊥": "that A cannot be; what cannot be",
     "Unit": "what always holds",
     "Type 0, Type ℓ": "types, and statements, which hold where they have a value",
-    "record": "a type with fields, or a statement all of whose fields hold; `r.f`: a field; `record { f = x; }`: one with these fields",
+    "record": "a type with fields, or a statement all of whose fields hold; `r.f`: a field; `record { f = x; }`: one with these fields; `record r { f = x; }`: r with this f",
     "data": "a type of these variants, or a statement that holds by one of them",
     "module _ (x : A) where": "what stands below takes x too",
-    "abbrev, unfoldable, pub, infix": "no part of what a word means: what the prover opens, what other pages may use, how signs bind",
+    "abbrev, unfoldable, pub, infix": "no part of what a word means: what the prover opens, what other pages may use, how signs bind: those of a greater number bind closer, and * and / closer than +, + closer than ∷",
+    "#[error(..)], Unit {0}, {I : _}": "how a fault is shown; the {..} behind a word can be passed over",
     "a name with ◌": "one that is written between its operands, each a ◌: `a + b`",
     "ensures, requires": "what holds when a call returns, and what its caller owes; `result`: what it returns",
     "ghost": "what contracts see, and code does not",
@@ -22,7 +33,7 @@ LANGUAGE = {
     "v.items": "the list of a Vec",
     "T.f": "the ghost member f of a trait that T has; `Self`: the type that has the trait",
     "seen as": "contracts see a value of the type as this, and name no field of it",
-    "u8 .. u64, usize, i64": "in definitions natural numbers, and of i64 integers, in the range of the type",
+    "u8 .. u128, usize, i64, i128": "in definitions natural numbers, and of i64 and i128 integers, in the range of the type",
     "&T, Vec<T>, [T], str, String": "in definitions a T, a list, and the list of the bytes of a text",
     "Threads, Wait, Send, Sync, Drop": "what starts threads and lets them wait, what threads may share, and what is freed",
 }

@@ -21,7 +21,7 @@ block_of_id listed k = find (λ b. id listed b == k) listed
 abbrev pub by_identifier : List Block → List Block
 by_identifier listed = filter_map (block_of_id listed) (range_with_len 0 (length listed))
 
--- cents as millionths of 100 cents
+-- cents as millionths of 100 cents: one cent is 10,000 of them
 abbrev pub in_hundreds : ℤ → ℤ
 in_hundreds cents = cents *ℤ pos 10000
 

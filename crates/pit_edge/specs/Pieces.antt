@@ -8,7 +8,7 @@ abbrev pub ended_lines : List ℕ → List (List ℕ)
 ended_lines [] = []
 ended_lines (b ∷ bs) = if b == 10 then (b ∷ []) ∷ ended_lines bs else onto_first b (ended_lines bs)
 
--- a line cuts if it is `--`, ended by LF or by CR LF, or at the end of the input by nothing
+-- a line cuts if it is `--`, ended by LF or by CR LF, or at the end of the input by nothing; quotes around it do not count
 abbrev pub is_cut : List ℕ → Bool
 is_cut line = bytes_eq line (codes "--" ++ 10 ∷ []) || bytes_eq line (codes "--" ++ 13 ∷ 10 ∷ []) || bytes_eq line (codes "--")
 

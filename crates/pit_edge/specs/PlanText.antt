@@ -7,7 +7,7 @@ use Rattle.pit_edge.specs.declared.refused.Refused.TheVariants.{NotUtf8, FeedFai
 use Rattle.pit_edge.specs.declared.refused.source.Source.TheVariants as source
 use Rattle.pit_parts.specs.declared.ranges.TheConstants.{MAX_PLAN_BYTES}
 
--- it has more than 1,048,576 bytes; or it is shorter and states no plan; or memory was refused
+-- it has more than 1,048,576 bytes; or it is no longer, and states no plan; or memory was refused
 abbrev pub IsNoPlan : List ℕ → Refused → Type 0
 IsNoPlan text NotUtf8 = ⊥
 IsNoPlan text (FeedFailed which) = ⊥

@@ -126,7 +126,7 @@ resource_shape s cells =
     cells_shape cells (resource_form s cells) (λ values. resource_asked s (word_at values 0) (covers_of s.formulas (drop 1 values)))
     (λ values. with_resource s (word_at values 0) (covers_of s.formulas (drop 1 values)))
 
--- the letter I and two numbers of tonnes; or the letter L or G and one
+-- the letter I and two numbers of tonnes; or the letter L or G and one; the letters as capitals alone
 abbrev pub bound_form : Bool → List Field
 bound_form true = Word (λ cell. bytes_eq cell (codes "I")) ∷ a_bound ∷ a_bound ∷ []
 bound_form false = Word (λ cell. bytes_eq cell (codes "L") || bytes_eq cell (codes "G")) ∷ a_bound ∷ []
@@ -135,6 +135,7 @@ bound_form false = Word (λ cell. bytes_eq cell (codes "L") || bytes_eq cell (co
 abbrev pub is_interval : List (List ℕ) → Bool
 is_interval cells = bytes_eq (cell_at cells 3) (codes "I")
 
+-- before the record `periods` no period is in range
 abbrev pub limit_form : Stated → List (List ℕ) → List Field
 limit_form s cells = a_resource s.resources ∷ below (unwrap_or s.periods 0) ∷ bound_form (is_interval cells)
 

@@ -9,7 +9,8 @@ use Rattle.pit_parts.specs.declared.grid.Grid.{Grid}
 use Rattle.pit_parts.specs.declared.limit.Limit.{Limit}
 use Rattle.pit_parts.specs.declared.resource.Resource.{Resource}
 
--- the parts that were stated: those that stand once, if they do, and the others in the order of their records, limits in their own
+-- the parts that were stated: those that stand once, if they do, and the others in the order of their records, but limits by resource
+-- and then by period
 pub record Stated : Type 0 where
   pub name : Option (List ℕ)
   pub grid : Option Grid

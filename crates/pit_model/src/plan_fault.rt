@@ -6,9 +6,10 @@ use thiserror::Error;
 
 /// What is wrong with a record of a plan. Where several kinds apply, the first in this order is meant:
 ///
+/// - `TooMany` of record 10,001, whatever it is;
 /// - `Key`, `Width`;
 /// - the numbers and names left to right, each by `Number`, `TooFine`, `Range` and `Name`;
-/// - `Twice`, `Order`, `TooMany`.
+/// - `Twice`, `Order`, and `TooMany` of the others.
 #[derive(Clone, Copy, Debug, Error, PartialEq, Eq)]
 pub enum PlanFaultKind {
     /// The record's first cell is no key.

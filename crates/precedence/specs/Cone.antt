@@ -17,12 +17,12 @@ slope_along_y cone low high = if nat_lt low.y high.y then cone.north else cone.s
 abbrev pub square : ℕ → ℕ
 square n = n * n
 
--- (dx Sx px qy)^2 + (dy Sy py qx)^2 ≤ (dz Sz qx qy)^2, with the slopes px : qx and py : qy and the sizes of the blocks
+-- (dx Sx px qy)^2 + (dy Sy py qx)^2 ≤ (dz Sz qx qy)^2, with the slope px : qx along x, py : qy along y, and the sizes of the blocks
 abbrev pub is_within_slopes : Grid → Slope → Slope → ℕ → ℕ → ℕ → Bool
-is_within_slopes grid along across dx dy dz =
+is_within_slopes grid slope_x slope_y dx dy dz =
     nat_le
-    (square (dx * (grid.x.size * along.p * across.q)) + square (dy * (grid.y.size * across.p * along.q)))
-    (square (dz * (grid.z.size * along.q * across.q)))
+    (square (dx * (grid.x.size * slope_x.p * slope_y.q)) + square (dy * (grid.y.size * slope_y.p * slope_x.q)))
+    (square (dz * (grid.z.size * slope_x.q * slope_y.q)))
 
 -- `high` lies 1 to k benches above `low`, inside the slopes
 abbrev pub is_above : Grid → Cone → Block → Block → Bool

@@ -61,7 +61,8 @@ impl fmt::Display for Column {
     }
 }
 
-/// What is wrong with a row. Of several faults of a cell the first one here is meant.
+/// What is wrong with a row. Of several faults of a row the first is meant: `TooManyRows`, then `Width`, then that of the first column
+/// that has one; and of those of a column the first one here.
 #[derive(Clone, Copy, Debug, PartialEq, Eq)]
 pub enum RowFaultKind {
     /// The header lacks the column, or the text has no record at all.
@@ -105,7 +106,7 @@ impl fmt::Display for RowFaultKind {
 /// The first fault of a zone file, and where it stands.
 #[derive(Clone, Copy, Debug, Error, PartialEq, Eq)]
 pub struct RowFault {
-    /// The number of the record, from 1, the header included. Blank lines are no records.
+    /// The number of the record, from 1, the header included. A line without a byte is no record; one of blanks is a record of one cell.
     pub row: u32,
     pub column: Column,
     pub kind: RowFaultKind,

@@ -16,7 +16,7 @@ abbrev pub IsFloor : ℤ → ℤ → ℕ → Type 0
 IsFloor q a n = ((q *ℤ pos n) ≤ℤ a) × (a <ℤ ((q *ℤ pos n) +ℤ pos n))
 
 -- what the recovered metal sells for, less what milling costs: kilograms, millionths of a gram per tonne, per mille and cents
--- multiply to 10^15 parts of a cent
+-- multiply to 10^15 parts of a cent, kilograms and cents per tonne to a thousand of them, each of which is 10^12 of those
 abbrev pub mill : Block → ℕ → ℕ → ℕ → ℤ
 mill b recovery price cost = floor (pos (b.kg * b.grade * recovery * price) -ℤ pos (b.kg * cost * 10 ^ 12)) (10 ^ 15)
 
