@@ -187,5 +187,11 @@ fn require_filled(shelves: &[Shelf]) -> Result<(), OrMemory<Missing>>
 fn rows_of_shelves(alloc: Global, shelves: Vec<Shelf>) -> Result<Vec<Rows>, AllocError>
     ensures { IfOk result (λ lists. lists.items ≡ map (λ shelf. shelf.rows) shelves.items) }
 {
-    shelves.into_iter().map(|shelf| shelf.rows).collect(alloc)
+    shelves.into_iter().map(rows_on).collect(alloc)
+}
+
+fn rows_on(shelf: Shelf) -> Rows
+    ensures { result ≡ shelf.rows }
+{
+    Rows::new(shelf.rows.into_vec())
 }

@@ -26,7 +26,7 @@ pub fn in_order(alloc: Global, files: u8, lists: Vec<PackedItems>) -> Result<Row
 }
 
 // No places of any of so many files.
-fn no_places(alloc: Global, files: u8) -> Result<Vec<Places>, AllocError>
+fn no_places(alloc: Global, files: u8) -> Result<Vec<Places<Spot>>, AllocError>
     ensures { IfOk result (λ places. places.items ≡ replicate files []) }
 {
     let mut places = Vec::with_capacity(alloc, files as usize)?;
@@ -37,7 +37,7 @@ fn no_places(alloc: Global, files: u8) -> Result<Vec<Places>, AllocError>
 }
 
 // Puts the rows of all lists at their places.
-fn put_lists(places: &mut [Places], lists: &[PackedItems]) -> Result<(), AllocError>
+fn put_lists(places: &mut [Places<Spot>], lists: &[PackedItems]) -> Result<(), AllocError>
     requires few { length lists.now ≤ 256 }
     requires files { All (λ item. IsOfFile (length places.old) (mark_of item)) (flat_map (λ list. list) lists.now) }
     ensures placed { OnOk result
@@ -54,7 +54,7 @@ fn put_lists(places: &mut [Places], lists: &[PackedItems]) -> Result<(), AllocEr
 }
 
 // Puts the rows of a list at their places. What stood at a place is still a row of that place.
-fn put_list(places: &mut [Places], lists: &[PackedItems], list: u8) -> Result<(), AllocError>
+fn put_list(places: &mut [Places<Spot>], lists: &[PackedItems], list: u8) -> Result<(), AllocError>
     requires there { list < length lists.now }
     requires files { All (λ item. IsOfFile (length places.old) (mark_of item)) (slice_index_or lists.now list []) }
     ensures placed { OnOk result
@@ -77,7 +77,7 @@ fn put_list(places: &mut [Places], lists: &[PackedItems], list: u8) -> Result<()
 }
 
 // Puts the row that is marked so at this spot; an end mark is put nowhere.
-fn put_marked(places: &mut [Places], mark: Mark, spot: Spot) -> Result<(), AllocError>
+fn put_marked(places: &mut [Places<Spot>], mark: Mark, spot: Spot) -> Result<(), AllocError>
     requires { IsOfFile (length places.old) mark }
     ensures put { OnOk result (IsPutAs mark spot places.old places.new) }
     ensures count { length places.new ≡ length places.old }
@@ -89,7 +89,7 @@ fn put_marked(places: &mut [Places], mark: Mark, spot: Spot) -> Result<(), Alloc
 }
 
 // Puts the row of a file and a place at this spot.
-fn put_row(places: &mut [Places], file: u8, place: u32, spot: Spot) -> Result<(), AllocError>
+fn put_row(places: &mut [Places<Spot>], file: u8, place: u32, spot: Spot) -> Result<(), AllocError>
     requires { file < length places.old }
     ensures put { OnOk result (IsPut file place spot places.old places.new) }
     ensures count { length places.new ≡ length places.old }
@@ -98,7 +98,7 @@ fn put_row(places: &mut [Places], file: u8, place: u32, spot: Spot) -> Result<()
 }
 
 // The spots of all files, one file's behind those of the file before it. Those of each file are freed once they are copied.
-fn all_spots(alloc: Global, places: Vec<Places>) -> Result<Vec<Spot>, AllocError>
+fn all_spots(alloc: Global, places: Vec<Places<Spot>>) -> Result<Vec<Spot>, AllocError>
     ensures { IfOk result (λ spots. spots.items ≡ flat_map (λ of_file. of_file) places.items) }
 {
     let mut spots = Vec::new(alloc);

@@ -1,54 +1,61 @@
-//! Where the rows of a file stand.
+//! Items of a file by their places.
 
-ghost use Rattle.std.specs.Prelude.{◌≡◌, [], OnOk};
+ghost use Rattle.std.specs.Prelude.{◌≡◌, [], OnOk, OnErr};
 ghost use Rattle.collector.specs.inner.WithAt.{with_at};
 
-use rows::Spot;
 use std::alloc::{AllocError, Global};
 use std::marker::Model;
 
-/// Where the row of each place of a file stands. For a place that no row was put at, it names a row of a later place.
+/// An item for each place of a file, up to the last one that an item was put at. For a place before it that none was put at, that of a
+/// later place stands in.
 #[derive(Drop)]
-pub struct Places {
-    spots: Vec<Spot>,
+pub struct Places<T> {
+    items: Vec<T>,
 }
 
-impl Model for Places {
+impl<T> Model for Places<T> {
     ghost use Rattle.std.specs.Prelude.{List};
-    ghost use Rattle.rows.specs.declared.spot.Spot.{Spot as ASpot};
 
-    ghost Value = { List ASpot };
+    ghost Value = { List T };
 
-    ghost view = { λ p. p.spots.items };
+    ghost view = { λ p. p.items.items };
 }
 
-impl Places {
+impl<T: Copy> Places<T> {
     /// No places.
-    pub fn new(alloc: Global) -> Places
+    pub fn new(alloc: Global) -> Places<T>
         ensures { result ≡ [] }
     {
         Places {
-            spots: Vec::new(alloc),
+            items: Vec::new(alloc),
         }
     }
 
-    /// Puts the row of a place at this spot.
-    pub fn put(&mut self, place: u32, spot: Spot) -> Result<(), AllocError>
-        ensures { OnOk result (self.new ≡ with_at self.old place spot) }
+    /// Puts an item at its place. Where memory is refused all is as it was.
+    pub fn put(&mut self, place: u32, item: T) -> Result<(), AllocError>
+        ensures ok { OnOk result (self.new ≡ with_at self.old place item) }
+        ensures err { OnErr result (self.new ≡ self.old) }
     {
         let place = place as usize;
-        if place < self.spots.len() {
-            self.spots[place] = spot;
+        if place < self.items.len() {
+            self.items[place] = item;
             Ok(())
         } else {
-            self.spots.resize(place + 1, spot)
+            self.items.resize(place + 1, item)
         }
     }
 
-    /// The spots, in the order of the places.
-    pub fn as_slice(&self) -> &[Spot]
+    /// The items, in the order of the places.
+    pub fn as_slice(&self) -> &[T]
         ensures { result.now ≡ self.now }
     {
-        self.spots.as_slice()
+        self.items.as_slice()
+    }
+
+    /// The same, handed over.
+    pub fn into_vec(self) -> Vec<T>
+        ensures { result.items ≡ self }
+    {
+        self.items
     }
 }

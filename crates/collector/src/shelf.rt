@@ -6,16 +6,16 @@ ghost use Rattle.collector.specs.inner.WithAt.{with_at};
 ghost use Rattle.pit_parts.specs.declared.ranges.TheConstants.{MAX_ROWS};
 
 use crate::add_fault::AddFault;
+use crate::places::Places;
 use pit_parts::ranges::MAX_ROWS;
-use rows::{Rows, Valued};
+use rows::Valued;
 use std::alloc::{AllocError, Global};
 
 /// The rows and the end mark of one file.
 #[derive(Drop)]
 pub struct Shelf {
-    /// The rows, each at its place, up to the last one that is held. Where a place before it is not held, a row of a later place
-    /// stands in for it.
-    pub rows: Rows,
+    /// The rows, each at its place.
+    pub rows: Places<Valued>,
     /// The count of the end mark, if that is held.
     pub end: Option<u32>,
 }
@@ -27,7 +27,7 @@ impl Shelf {
         ensures end { result.end ≡ None }
     {
         Shelf {
-            rows: Rows::new(alloc),
+            rows: Places::new(alloc),
             end: None,
         }
     }
@@ -36,7 +36,7 @@ impl Shelf {
     pub fn row_fault(&self, place: u32) -> Option<AddFault>
         ensures { result ≡ row_fault self.now.rows self.now.end place }
     {
-        if holds(&self.rows, place) {
+        if holds(self.rows.as_slice(), place) {
             Some(AddFault::Double)
         } else if place >= MAX_ROWS {
             Some(AddFault::Stranger)
@@ -53,7 +53,7 @@ impl Shelf {
     {
         if self.end.is_some() {
             Some(AddFault::SecondEnd)
-        } else if count > MAX_ROWS || (count as usize) < self.rows.len() {
+        } else if count > MAX_ROWS || (count as usize) < self.rows.as_slice().len() {
             Some(AddFault::BadCount)
         } else {
             None
@@ -66,12 +66,7 @@ impl Shelf {
         ensures err { OnErr result (self.new.rows ≡ self.old.rows) }
         ensures end { self.new.end ≡ self.old.end }
     {
-        let place = row.place as usize;
-        if place < self.rows.len() {
-            self.rows.set(place, row)
-        } else {
-            self.rows.resize(place + 1, row)
-        }
+        self.rows.put(row.place, *row)
     }
 
     /// The least place with no row, or `None` where each place below the end mark's count has its row.
@@ -81,7 +76,7 @@ impl Shelf {
         ensures { MatchOption result (IsFilled self.now.rows self.now.end)
             (IsLacking self.now.rows self.now.end) }
     {
-        let place = open_place(&self.rows);
+        let place = open_place(self.rows.as_slice());
         if self.end == Some(place) {
             None
         } else {
@@ -91,7 +86,7 @@ impl Shelf {
 }
 
 // The least place that has no row.
-fn open_place(rows: &Rows) -> u32
+fn open_place(rows: &[Valued]) -> u32
     requires { length rows.now ≤ MAX_ROWS }
     ensures within { result ≤ length rows.now }
     ensures none { slot rows.now result ≡ None }
@@ -107,8 +102,11 @@ fn open_place(rows: &Rows) -> u32
 }
 
 // Whether the row of this place is among these.
-fn holds(rows: &Rows, place: u32) -> bool
+fn holds(rows: &[Valued], place: u32) -> bool
     ensures { result ≡ is_some (slot rows.now place) }
 {
-    rows.place_at(place as usize) == Some(place)
+    match rows.get(place as usize) {
+        Some(row) => row.place == place,
+        None => false,
+    }
 }

@@ -1,6 +1,5 @@
 pub mod Cells
 pub mod Entries
 pub mod Found
-pub mod Heads
 pub mod Own
 pub mod Spots

@@ -2,6 +2,7 @@
 
 use crate::worths::Worths;
 use pit_parts::block::Block;
+use pit_parts::listed::Listed;
 
 /// A row of a zone file with its worths.
 #[derive(Clone, Copy, Debug, PartialEq, Eq)]
@@ -22,3 +23,6 @@ pub enum Item {
     /// The end mark of a file, with the number of rows that it sent.
     End { file: u8, rows: u32 },
 }
+
+/// Rows in their order, as those of a file.
+pub type Rows = Listed<Valued>;

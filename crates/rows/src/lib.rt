@@ -1,7 +1,6 @@
 //! Rows with their worths, as valuers hand them on, and the lists that keep those of a file and of all files.
 #![tactic(auto)]
 
-mod head;
 mod item;
 mod items;
 mod keeps;
@@ -10,11 +9,10 @@ mod mark;
 mod packed;
 mod row_lists;
 mod row_worths;
-mod rows;
 mod spot;
 mod worths;
 
-pub use item::{Item, Valued};
+pub use item::{Item, Rows, Valued};
 pub use items::Items;
 pub use keeps::Keeps;
 pub use mark::Mark;
@@ -22,6 +20,5 @@ pub use packed::items::PackedItems;
 pub use packed::packing::Packing;
 pub use row_lists::RowLists;
 pub use row_worths::RowWorths;
-pub use rows::Rows;
 pub use spot::Spot;
 pub use worths::{MAX_WORTHS, Worths};
