@@ -1,5 +1,5 @@
 -- The program's command line, and the jobs that its words state.
-use Rattle.std.specs.Prelude.{◌≡◌, ◌≢◌, ◌⊎◌, ℕ, ◌<◌, ◌≤◌, List, [], ◌∷◌, Option, Some, true, codes, length, map, string_bytes}
+use Rattle.std.specs.Prelude.{◌≡◌, ◌≢◌, ◌⊎◌, ℕ, ◌<◌, ◌≤◌, List, [], ◌∷◌, ◌++◌, Option, Some, true, codes, length, map, string_bytes}
 use Rattle.std.specs.Str.Parse.{IsNumeral, digits_value, without_leading_plus}
 use Rattle.clap.specs.Lexer.{usize_max}
 use Rattle.clap.specs.Words.{App, IsAmong, Row, Rule, Text, all_of, fault_of, first_of, kind_of, new_app, new_rule, one_of, subcommand_of, with_rule, with_subcommand}
@@ -115,6 +115,14 @@ HandsOn error (Line same) = (same ≡ error) × (kind_of error ≢ kind.OutOfMem
 abbrev pub IsNoMemoryLine : JobFault → Type 0
 IsNoMemoryLine OutOfMemory = Unit {0}
 IsNoMemoryLine (Line error) = kind_of error ≢ kind.OutOfMemory
+
+-- an error of clap refuses the words: it shows neither the help nor the version
+abbrev pub IsRefusal : Error → Type 0
+IsRefusal error = (kind_of error ≢ kind.DisplayHelp) × (kind_of error ≢ kind.DisplayVersion)
+
+-- words were appended
+abbrev pub AppendsWords : (old new : Text) → Type 0
+AppendsWords old new = (words : Text) × (new ≡ old ++ words)
 
 -- words are refused by a line of a kind that clap has for them, or where they state no job; or memory was refused
 abbrev pub RefusesWords : List Text → JobFault → Type 0

@@ -1,6 +1,7 @@
 //! What the words of a command line ask for.
 
-ghost use Rattle.std.specs.Prelude.{◌≡◌, IsFalse, IsTrue, IfOk, OnErr};
+ghost use Rattle.std.specs.Prelude.{◌≡◌, ◌↔◌, IsFalse, IsTrue, IfOk, OnErr};
+ghost use Rattle.pit_jobs.specs.CommandLine.{AppendsWords, IsRefusal};
 
 use pit_parts::settings::Settings;
 use std::alloc::{AllocError, Global};
@@ -75,6 +76,11 @@ pub fn append_error(
     text: &mut Vec<u8>,
     lines: &mut Vec<u8>,
 ) -> Result<bool, AllocError>
+    ensures refuses { IfOk result (λ refused. IsTrue refused ↔ IsRefusal error.now) }
+    ensures told { IfOk result (λ refused. IsTrue refused
+        → AppendsWords lines.old.items lines.new.items) }
+    ensures shown { IfOk result (λ refused. IsFalse refused
+        → AppendsWords text.old.items text.new.items) }
     ensures quiet { IfOk result (λ refused. IsTrue refused → text.new.items ≡ text.old.items) }
     ensures still { IfOk result (λ refused. IsFalse refused → lines.new.items ≡ lines.old.items) }
     ensures kept { OnErr result
