@@ -1,5 +1,5 @@
 -- What a task does.
-use Rattle.std.specs.Prelude.{◌≡◌, ℕ, Bool, List, Option, map, string_bytes}
+use Rattle.std.specs.Prelude.{◌≡◌, ℕ, ◌+◌, Bool, List, Option, length, map, string_bytes}
 use Rattle.devices.specs.files.Opening.{Opening}
 use Rattle.devices.specs.sinks.SinkState.{SinkState}
 use Rattle.pit_compile.specs.Sinks.{all_told}
@@ -8,7 +8,7 @@ use Rattle.pit_parts.specs.declared.formulas.formula.Formula.{Formula}
 use Rattle.pit_commands.specs.Compile.{IsNoCompile, TellsRows}
 use Rattle.pit_commands.specs.Printed.{IsNoPipe, IsPrinted}
 use Rattle.pit_edge.specs.declared.refused.Refused.{Refused}
-use Rattle.run_threads.specs.Starts.{StartsView}
+use Rattle.run_threads.specs.Starts.{AreSpent, StartsView}
 use Rattle.pit_commands.specs.declared.task.Task.{Task}
 use Rattle.pit_commands.specs.declared.task.Task.TheVariants.{Pipe, Files}
 
@@ -19,9 +19,11 @@ plan_in (Files plan settings zones sinks) = plan
 
 -- the task before and now, by what its sinks told, what was opened before and is now, and the starts of threads
 module _ {S : Type 0} (state : S → SinkState) (opened_old opened_new : List Opening) (starts_old starts_new : StartsView) where
-  -- the task is done, and this was appended to what is printed: the texts of the model, and no file was opened; or the line of the rows of the files
+  -- the task is done, and this was appended to what is printed: the texts of the model, no file was opened, and a thread ran for each valuer and
+  -- zone file; or the line of the rows of the files
   abbrev pub IsTaskDone : (old new : Task S) (out_old out_new : List ℕ) → Type 0
-  IsTaskDone (Pipe model) now out_old out_new = IsPrinted model.plan model.pieces.zones out_old out_new × (opened_new ≡ opened_old)
+  IsTaskDone (Pipe model) now out_old out_new =
+      IsPrinted model.plan model.pieces.zones out_old out_new × (opened_new ≡ opened_old) × AreSpent (4 + length model.pieces.zones) starts_new
   IsTaskDone (Files plan settings zones sinks) (Files plan_now settings_now zones_now sinks_now) out_old out_new =
       TellsRows plan (map string_bytes zones.items) opened_old opened_new starts_old starts_new (all_told state sinks) (all_told state sinks_now)
       settings out_old out_new

@@ -5,7 +5,7 @@ ghost use Rattle.pit_compile.specs.Sinks.{all_told};
 ghost use Rattle.pit_edge.specs.FaultLine.{Ends};
 ghost use Rattle.pit_edge.specs.declared.refused.Refused.{Refused as ARefused};
 ghost use Rattle.pit_parts.specs.Destinations.{formulas_of};
-ghost use Rattle.run_threads.specs.Starts.{none_spent};
+ghost use Rattle.run_threads.specs.Starts.{none_spent, AreSettled};
 ghost use Rattle.pit_commands.specs.Compile.{IsNoCompile, TellsRows, rows_line};
 
 use crate::instance_files::sinks_of;
@@ -41,7 +41,7 @@ use valuers::OpenGate;
 /// - `FeedFailed` of a zone file: it cannot be opened, and the sinks are as they were.
 /// - `Run`: the run is refused; or memory was refused, which may be for the line alone, the texts being written.
 ///
-/// The starts, which none was spent of, tell what became of them: `NoThread` is told only where one was refused.
+/// The starts, which none was spent of, tell what became of them: `NoThread` is told only where one was refused before there were enough.
 #[tactic(auto, using(crate::proofs::Compiles::unopened_files, crate::proofs::Compiles::refused_line))]
 pub fn compile_into<R: Threads + Wait + Sync, O: Opener, S: Sink>(
     rt: &R,
@@ -65,6 +65,7 @@ pub fn compile_into<R: Threads + Wait + Sync, O: Opener, S: Sink>(
         IfErr result (IsNoCompile plan.now (map string_bytes zones.now) (O.opened files.old)
         (O.opened files.new) starts.old starts.new (told sinks.old) (told sinks.new)
         O.Opened.left O.Opened.is_sure O.Opened.failures (formulas_of destinations.now) settings) }
+    ensures settled { AreSettled starts.old starts.new }
 {
     let feeds = open_all(alloc, zones, files)?;
     let gathered = run_with_starts(

@@ -6,7 +6,7 @@ ghost use Rattle.pit_compile.specs.Settings.{IsSettingsFault};
 ghost use Rattle.pit_compile.specs.declared.settings.SettingsFault.{SettingsFault as ASettingsFault};
 ghost use Rattle.pit_parts.specs.Destinations.{formulas_of};
 ghost use Rattle.pit_compile.specs.Starts.{AreStartsOf};
-ghost use Rattle.run_threads.specs.Starts.{none_spent, AreSpent};
+ghost use Rattle.run_threads.specs.Starts.{none_spent, AreSettled, AreSpent};
 ghost use Rattle.pit_commands.specs.Printed.{pipe_settings, IsPrinted, PipeRefused};
 
 use devices::feeds::feed::Feed;
@@ -62,7 +62,8 @@ pub fn pipe<R: Threads + Wait + Sync>(
     pipe_with_starts(rt, alloc, zones, plan, destinations, &mut starts, out)
 }
 
-/// The same, with starts that the caller lends, and which tell what became of them: `NoThread` is answered only where a start was refused.
+/// The same, with starts that the caller lends, and which tell what became of them: `NoThread` is answered only where a start was refused
+/// before there were enough.
 pub fn pipe_with_starts<R: Threads + Wait + Sync>(
     rt: &R,
     alloc: Global,
@@ -84,6 +85,7 @@ pub fn pipe_with_starts<R: Threads + Wait + Sync>(
     // What was started.
     ensures started { OnOk result (AreSpent (4 + length zones.now) starts.new) }
     ensures short { IfErr result (AreStartsOf (4 + length zones.now) starts.old starts.new) }
+    ensures settled { AreSettled starts.old starts.new }
 {
     require_settings(zones.len(), plan, destinations, SETTINGS)?;
     let feeds = lent(alloc, zones)?;

@@ -1,9 +1,9 @@
 //! A model to be compiled, by the pipe form or from files to files.
 
-ghost use Rattle.std.specs.Prelude.{◌≡◌, ◌≢◌, IfErr, OnErr, OnOk};
+ghost use Rattle.std.specs.Prelude.{◌≡◌, ◌≢◌, ◌+◌, length, IfErr, OnErr, OnOk};
 ghost use Rattle.pit_parts.specs.Destinations.{formulas_of};
 ghost use Rattle.pit_edge.specs.FaultLine.{EndsBy};
-ghost use Rattle.run_threads.specs.Starts.{none_spent};
+ghost use Rattle.run_threads.specs.Starts.{none_spent, AreSettled, AreSpent};
 ghost use Rattle.pit_commands.specs.Printed.{IsNoPipe, IsPrinted};
 ghost use Rattle.pit_commands.specs.Task.{IsNoTask, IsTaskDone, plan_in};
 
@@ -69,6 +69,7 @@ impl<S: Sink> Task<S> {
             (O.opened files.new) starts.old starts.new O.Opened.left O.Opened.is_sure
             O.Opened.failures self.old self.new (formulas_of destinations.now))
             lines.old.items lines.new.items result }
+        ensures settled { AreSettled starts.old starts.new }
     {
         match self {
             Task::Pipe(model) => match run_pipe(rt, alloc, model, destinations, starts, text) {
@@ -111,10 +112,12 @@ fn run_pipe<R: Threads + Wait + Sync>(
     requires { starts.old ≡ none_spent starts.old.allowed }
     ensures done { OnOk result
         (IsPrinted model.now.plan model.now.pieces.zones text.old.items text.new.items) }
+    ensures started { OnOk result (AreSpent (4 + length model.now.pieces.zones) starts.new) }
     ensures kept { OnErr result (text.new.items ≡ text.old.items) }
     ensures refused { IfErr result
         (IsNoPipe model.now.plan (formulas_of destinations.now) model.now.pieces.zones starts.old
         starts.new) }
+    ensures settled { AreSettled starts.old starts.new }
 {
     let zones = model.pieces.zones();
     pipe_with_starts(rt, alloc, zones, &model.plan, destinations, starts, text)?;

@@ -59,7 +59,7 @@ module _ (count : ℕ) (old new : StartsView) where
   if_behind (Ok done) behind spent = tt
   if_behind (Err refusal) behind spent = all_behind refusal behind spent
 
-  pub short_starts : (fault : OrMemory ARefusedStart) → AreShort old new fault → AreStartsOf count old new (refused_start fault)
+  pub short_starts : (fault : OrMemory ARefusedStart) → AreShort count old new fault → AreStartsOf count old new (refused_start fault)
   short_starts (hand_over.Fault refused) short = short
   short_starts hand_over.OutOfMemory short = inl short
 

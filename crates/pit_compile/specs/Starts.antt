@@ -1,8 +1,8 @@
 -- The starts of threads of a run that is refused.
-use Rattle.std.specs.Prelude.{◌≡◌, ℕ, ◌⊎◌, true}
+use Rattle.std.specs.Prelude.{◌≡◌, ℕ, ◌⊎◌}
 use Rattle.pit_units.specs.declared.or_memory.OrMemory.{OrMemory}
 use Rattle.pit_units.specs.declared.or_memory.OrMemory.TheVariants as hand_over
-use Rattle.run_threads.specs.Starts.{StartsView, AreSpent}
+use Rattle.run_threads.specs.Starts.{StartsView, AreSpent, AreTooFew}
 use Rattle.run_threads.specs.declared.handing_over.NoThread.{NoThread as ARefusedStart}
 use Rattle.pit_compile.specs.declared.refusal.Refusal.{Refusal}
 use Rattle.pit_compile.specs.declared.refusal.Refusal.TheVariants.{Settings, NoThread, FeedFailed, TooLong, Row, Same, SinkFailed, OutOfMemory}
@@ -12,11 +12,11 @@ abbrev pub refused_start : OrMemory ARefusedStart → Refusal
 refused_start (hand_over.Fault refused) = NoThread
 refused_start hand_over.OutOfMemory = OutOfMemory
 
--- the starts before and after a run of so many threads, by why it is refused: none is tried where the settings are wrong; one is refused
--- where no thread is had; all threads run where a file, a block or a sink is refused; where memory is, none or all
+-- the starts before and after a run of so many threads, by why it is refused: none is tried where the settings are wrong; one is refused,
+-- before all are started, where no thread is had; all threads run where a file, a block or a sink is refused; where memory is, none or all
 abbrev pub AreStartsOf : ℕ → StartsView → StartsView → Refusal → Type 0
 AreStartsOf count old new (Settings kind) = new ≡ old
-AreStartsOf count old new NoThread = new.refused ≡ true
+AreStartsOf count old new NoThread = AreTooFew count new
 AreStartsOf count old new (FeedFailed file) = AreSpent count new
 AreStartsOf count old new (TooLong file) = AreSpent count new
 AreStartsOf count old new (Row file fault) = AreSpent count new

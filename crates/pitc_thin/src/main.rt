@@ -9,8 +9,12 @@ ghost use Rattle.pit_parts.specs.formulas.Worth.{worth, mill, dump};
 ghost use Rattle.pit_parts.specs.declared.ranges.TheConstants.{MAX_COST, MAX_PRICE, MAX_RECOVERY};
 
 use devices::files::file_opener::FileOpener;
+use devices::files::opener::Opener;
 use devices::files::system_files::SystemFiles;
+use devices::sinks::file_sink::FileSink;
+use devices::sinks::sink::Sink;
 use devices::sinks::write_sink::WriteSink;
+use pit_compile::{MOST_STARTS, Starts};
 use pit_edge::plan_file::read_plan_file;
 use pit_edge::refused::Refused;
 use pit_edge::refused::fault_line::tell;
@@ -23,13 +27,14 @@ use pit_model::destination::{Destination, Valuer};
 use pit_model::formula::Formula;
 use pit_model::plan::Plan;
 use pit_model::worth::{dump_worth, mill_worth};
+use pit_parts::settings::Settings;
 use std::alloc::{Alloc, AllocError, Global};
 use std::env;
 use std::process::ExitCode;
 use std::rt::{Env, Files};
 use std::sync::Wait;
 use std::thread::Threads;
-use thin_commands::thin::thin_files;
+use thin_commands::thin::thin;
 
 fn main(rt: HostRuntime) -> ExitCode {
     let alloc = rt.alloc();
@@ -61,7 +66,7 @@ where
 {
     let words = words_of(alloc, env::args(rt))?;
     match thin_run(alloc, words.as_slice()) {
-        Ok(run) => thin(rt, alloc, run, text, lines),
+        Ok(words) => thin_by(rt, alloc, words, text, lines),
         Err(JobFault::Line(error)) => {
             let refused = append_error(alloc, &error, text, lines)?;
             Ok(if refused { USAGE } else { 0 })
@@ -71,7 +76,7 @@ where
 }
 
 // Writes what is left of the precedences of the plan in this file and these zone files.
-fn thin<R: Files + Threads + Wait + Sync>(
+fn thin_by<R: Files + Threads + Wait + Sync>(
     rt: &R,
     alloc: Global,
     words: RunWords,
@@ -81,24 +86,41 @@ fn thin<R: Files + Threads + Wait + Sync>(
 where
     R::File: Send,
 {
+    let RunWords {
+        plan,
+        out,
+        settings,
+        zones,
+    } = words;
     let files = SystemFiles::new(rt);
-    let plan = read_plan_file(alloc, &mut FileOpener::new(&files), words.plan.as_str())?;
-    Ok(run(rt, alloc, &plan, words, text, lines)?)
+    let mut opener = FileOpener::new(&files);
+    let plan = read_plan_file(alloc, &mut opener, plan.as_str())?;
+    Ok(run(
+        rt,
+        alloc,
+        &mut opener,
+        &mut FileSink::from_path(&files, out),
+        &plan,
+        settings,
+        zones.as_slice(),
+        text,
+        lines,
+    )?)
 }
 
 // The same of this plan, with its destinations, in their order. The closures are made beside the run that asks them, since a function that
 // made one and handed it out could promise nothing of it.
-fn run<R: Files + Threads + Wait + Sync>(
+fn run<R: Threads + Wait + Sync, O: Opener, S: Sink>(
     rt: &R,
     alloc: Global,
+    files: &mut O,
+    sink: &mut S,
     plan: &Plan,
-    words: RunWords,
+    settings: Settings,
+    zones: &[String],
     text: &mut Vec<u8>,
     lines: &mut Vec<u8>,
-) -> Result<u8, AllocError>
-where
-    R::File: Send,
-{
+) -> Result<u8, AllocError> {
     let mut destinations = Vec::new(alloc);
     for named in plan.formulas() {
         let destination = match &named.formula {
@@ -151,14 +173,16 @@ where
         };
         destinations.push(destination)?;
     }
-    Ok(thin_files(
+    Ok(thin(
         rt,
         alloc,
+        files,
+        sink,
         plan,
         destinations.as_slice(),
-        words.settings,
-        words.out,
-        words.zones.as_slice(),
+        settings,
+        &mut Starts::new(MOST_STARTS),
+        zones,
         text,
         lines,
     ))

@@ -1,5 +1,5 @@
 -- What contracts see of the starts of threads, and what a run does to them.
-use Rattle.std.specs.Prelude.{◌≡◌, ℕ, ◌≤◌, Bool, true, false}
+use Rattle.std.specs.Prelude.{◌≡◌, ℕ, ◌<◌, ◌≤◌, Bool, true, false}
 use Rattle.pit_units.specs.declared.or_memory.OrMemory.{OrMemory}
 use Rattle.pit_units.specs.declared.or_memory.OrMemory.TheVariants.{Fault, OutOfMemory}
 use Rattle.run_threads.specs.declared.handing_over.NoThread.{NoThread}
@@ -25,7 +25,11 @@ pub record AreSettled (old new : StartsView) : Type 0 where
   pub within : new.spent ≤ old.allowed
   pub joined : new.joined ≡ new.spent
 
--- the starts where nothing is handed over: a start was refused, or none was tried
-abbrev pub AreShort : StartsView → StartsView → OrMemory NoThread → Type 0
-AreShort old new (Fault refused) = new.refused ≡ true
-AreShort old new OutOfMemory = new ≡ old
+-- a start was refused before so many were spent
+abbrev pub AreTooFew : ℕ → StartsView → Type 0
+AreTooFew count starts = (starts.refused ≡ true) × (starts.spent < count)
+
+-- the starts of so many threads where nothing is handed over: one was refused, or none was tried
+abbrev pub AreShort : ℕ → StartsView → StartsView → OrMemory NoThread → Type 0
+AreShort count old new (Fault refused) = AreTooFew count new
+AreShort count old new OutOfMemory = new ≡ old

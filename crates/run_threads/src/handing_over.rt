@@ -1,12 +1,12 @@
 //! The threads of a run, from the first start to the last join.
 
-ghost use Rattle.std.specs.Prelude.{◌≡◌, ◌+◌, ◌≤◌, length, map, true, vec_len, IfErr, IfOk, IsFalse};
+ghost use Rattle.std.specs.Prelude.{◌≡◌, ◌+◌, ◌≤◌, length, map, vec_len, IfErr, IfOk, IsFalse};
 ghost use Rattle.lane.specs.Whole.{IsWhole};
 ghost use Rattle.pit_parts.specs.Destinations.{AreOfPlan};
 ghost use Rattle.pit_parts.specs.PlanFormulas.{formulas_of_plan};
 ghost use Rattle.run_threads.specs.inner.HandingOver.{IsHandedOver};
 ghost use Rattle.run_threads.specs.Reading.{AreRead};
-ghost use Rattle.run_threads.specs.Starts.{none_spent, AreSettled, AreShort, AreSpent};
+ghost use Rattle.run_threads.specs.Starts.{none_spent, AreSettled, AreShort, AreSpent, AreTooFew};
 ghost use Rattle.pit_units.specs.declared.or_memory.OrMemory.TheVariants.{Fault};
 ghost use Rattle.valuers.specs.Valuing.{items_by};
 ghost use Rattle.pit_parts.specs.declared.ranges.TheConstants.{MAX_CAPACITY, MAX_VALUERS};
@@ -105,18 +105,16 @@ pub fn hand_over<R: Threads + Wait + Sync, F: Feed + Send + Drop, G: Gate + Sync
     ensures budget { IfOk result (λ _.
         allowance.valuers + length feeds.items ≤ starts.old.allowed) }
 
-    // What was started: a thread for each valuer and each file, or else a start was refused, or none was tried. Each is joined.
+    // What was started: a thread for each valuer and each file, or else the start of one of them was refused, or none was tried. Each is
+    // joined.
     ensures started { IfOk result (λ _.
         AreSpent (allowance.valuers + length feeds.items) starts.new) }
-    ensures short { IfErr result (AreShort starts.old starts.new) }
+    ensures short { IfErr result
+        (AreShort (allowance.valuers + length feeds.items) starts.old starts.new) }
     ensures settled { AreSettled starts.old starts.new }
 {
-    let lane = open_lane(
-        alloc,
-        plan.cones().len() as u8,
-        allowance.valuers,
-        allowance.capacity,
-    )?;
+    let files = plan.cones().len() as u8;
+    let lane = open_lane(alloc, files, allowance.valuers, allowance.capacity)?;
     let ready = Ready {
         shared: Shared {
             rt,
@@ -145,7 +143,8 @@ pub fn hand_over<R: Threads + Wait + Sync, F: Feed + Send + Drop, G: Gate + Sync
                 ready.entry.lane.closer.takers ready.entry.lane.closer.lane.2) }
             ensures started { IfOk result.handed (λ _. AreSpent
                 (ready.entry.lane.closer.takers + vec_len ready.entry.feeds) result.starts) }
-            ensures refused { IfErr result.handed (λ _. result.starts.refused ≡ true) }
+            ensures refused { IfErr result.handed (λ _. AreTooFew
+                (ready.entry.lane.closer.takers + vec_len ready.entry.feeds) result.starts) }
             ensures settled { AreSettled lent result.starts }
         { hand_over_in(Starter::new(scope, rt, lent), ready) },
     );

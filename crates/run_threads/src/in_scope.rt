@@ -1,7 +1,7 @@
 //! The threads of a run within a scope, from the first start to the last join.
 
-ghost use Rattle.std.specs.Prelude.{◌≡◌, ◌+◌, true, vec_len, IfErr, IfOk};
-ghost use Rattle.run_threads.specs.Starts.{none_spent, AreSettled, AreSpent};
+ghost use Rattle.std.specs.Prelude.{◌≡◌, ◌+◌, vec_len, IfErr, IfOk};
+ghost use Rattle.run_threads.specs.Starts.{none_spent, AreSettled, AreSpent, AreTooFew};
 ghost use Rattle.run_threads.specs.inner.HandingOver.{IsHandedOver};
 
 use crate::handing_over::HandedOver;
@@ -41,7 +41,8 @@ pub fn hand_over_in<'s, E, T: Threads, R: Wait + Sync, F: Feed + Send + Drop + '
     // The starts: one for each valuer and each file, or one was refused. Each thread is joined.
     ensures started { IfOk result.handed (λ _.
         AreSpent (ready.entry.lane.closer.takers + vec_len ready.entry.feeds) result.starts) }
-    ensures refused { IfErr result.handed (λ _. result.starts.refused ≡ true) }
+    ensures refused { IfErr result.handed (λ _.
+        AreTooFew (ready.entry.lane.closer.takers + vec_len ready.entry.feeds) result.starts) }
     ensures settled { AreSettled starter.entry result.starts }
 
     // Where one was refused, the valuers are ended by a Quit each.

@@ -1,30 +1,24 @@
 //! From the files of a plan and its zones to what is left of their precedences.
 
 ghost use Rattle.std.specs.Prelude.{◌≡◌, ◌≢◌, ◌++◌, [], ◌∷◌, map, string_bytes, IfErr, IfOk, OnErr, OnOk};
-ghost use Rattle.pit_edge.specs.FaultLine.{Ends};
-ghost use Rattle.pit_edge.specs.declared.refused.Refused.{Refused as ARefused};
+ghost use Rattle.pit_edge.specs.FaultLine.{EndsBy};
 ghost use Rattle.pit_parts.specs.Destinations.{formulas_of};
-ghost use Rattle.run_threads.specs.Starts.{none_spent};
+ghost use Rattle.run_threads.specs.Starts.{none_spent, AreSettled};
 ghost use Rattle.thin_commands.specs.CountsText.{counts_words};
 ghost use Rattle.thin_commands.specs.Thin.{IsNotThinned, TellsThinned};
-ghost use Rattle.thin_commands.specs.declared.counts.Counts.{Counts as TheCounts};
 
 use crate::counts::Counts;
 use crate::thin_writing::write_fewer;
-use devices::files::file_opener::FileOpener;
 use devices::files::opener::Opener;
-use devices::files::system_files::SystemFiles;
-use devices::sinks::file_sink::FileSink;
 use devices::sinks::sink::Sink;
 use pit_compile::settings::Settings;
-use pit_compile::{Compiled, MOST_STARTS, Starts, compile_with_starts};
+use pit_compile::{Compiled, Starts, compile_with_starts};
 use pit_edge::refused::Refused;
 use pit_edge::refused::fault_line::tell;
 use pit_edge::zone_feeds::open_all;
 use pit_model::destination::Destination;
 use pit_model::plan::Plan;
 use std::alloc::{AllocError, Global};
-use std::rt::Files;
 use std::sync::Wait;
 use std::thread::Threads;
 use valuers::OpenGate;
@@ -44,7 +38,7 @@ use valuers::OpenGate;
 /// - `Run`: the zone files are refused, and the sink is as it was; or the sink failed, or memory was refused, which may be for the line
 ///   alone, the text being written.
 ///
-/// The starts, which none was spent of, tell what became of them: `NoThread` is told only where one was refused.
+/// The starts, which none was spent of, tell what became of them: `NoThread` is told only where one was refused before there were enough.
 #[tactic(auto, using(crate::proofs::Thins::unopened_files))]
 pub fn thin_into<R: Threads + Wait + Sync, O: Opener, S: Sink>(
     rt: &R,
@@ -67,6 +61,7 @@ pub fn thin_into<R: Threads + Wait + Sync, O: Opener, S: Sink>(
         (O.opened files.old) (O.opened files.new) starts.old starts.new (S.state sink.old)
         (S.state sink.new) O.Opened.left O.Opened.is_sure O.Opened.failures
         (formulas_of destinations.now) settings) }
+    ensures settled { AreSettled starts.old starts.new }
 {
     let feeds = open_all(alloc, zones, files)?;
     let Compiled { instance, .. } = compile_with_starts(
@@ -84,42 +79,43 @@ pub fn thin_into<R: Threads + Wait + Sync, O: Opener, S: Sink>(
     Ok(())
 }
 
-/// Compiles the zone files at these paths of the system, and writes what is left of their precedences to the file at `path`, in place of
-/// what is there. Returns the status that the program ends with.
-///
-/// Where all is written it appends the line `rows N arcs M of L` to `out`; else the line of the refusal to `err`. Only one of the two
-/// grows. For want of memory the status is that of memory, and both are as they were.
-///
-/// It is `thin_into` over the files of the system, of which no contract can say what they hold.
-pub fn thin_files<R: Files + Threads + Wait + Sync>(
+/// The same as `thin_into`, and returns the status that the program ends with. Where that is 0 it appends the line of the counts to `out`;
+/// else the line of the refusal to `err`. Only one of the two grows. For want of memory the status is that of memory, and both are as
+/// they were.
+pub fn thin<R: Threads + Wait + Sync, O: Opener, S: Sink>(
     rt: &R,
     alloc: Global,
+    files: &mut O,
+    sink: &mut S,
     plan: &Plan,
     destinations: &[Destination],
     settings: Settings,
-    path: String,
+    starts: &mut Starts,
     zones: &[String],
     out: &mut Vec<u8>,
     err: &mut Vec<u8>,
 ) -> u8
-where
-    R::File: Send,
-    ensures done { result ≡ 0
-        → (counts : TheCounts) × (out.new.items ≡ out.old.items ++ (counts_words counts ++ 10 ∷ [])) }
+    requires unspent { starts.old ≡ none_spent starts.old.allowed }
+    ensures done { result ≡ 0 → TellsThinned plan.now (map string_bytes zones.now)
+        (O.opened files.old) (O.opened files.new) starts.old starts.new (S.state sink.old)
+        (S.state sink.new) settings.valuers out.old.items out.new.items }
     ensures quiet { result ≡ 0 → err.new.items ≡ err.old.items }
     ensures kept { result ≢ 0 → out.new.items ≡ out.old.items }
-    ensures told { result ≢ 0 → (refused : ARefused) × Ends refused err.old.items err.new.items result }
+    ensures refused { result ≢ 0 → EndsBy (IsNotThinned plan.now (map string_bytes zones.now)
+        (O.opened files.old) (O.opened files.new) starts.old starts.new (S.state sink.old)
+        (S.state sink.new) O.Opened.left O.Opened.is_sure O.Opened.failures
+        (formulas_of destinations.now) settings) err.old.items err.new.items result }
+    ensures settled { AreSettled starts.old starts.new }
 {
-    let files = SystemFiles::new(rt);
     match thin_into(
         rt,
         alloc,
-        &mut FileOpener::new(&files),
-        &mut FileSink::from_path(&files, path),
+        files,
+        sink,
         plan,
         destinations,
         settings,
-        &mut Starts::new(MOST_STARTS),
+        starts,
         zones,
         out,
     ) {

@@ -1,6 +1,6 @@
 //! Starting the threads of a run, until a start is refused.
 
-ghost use Rattle.std.specs.Prelude.{◌≡◌, ◌≤◌, ◌++◌, [], true, false, drop, is_some, length, map, vec_len, vec_capacity, IsFalse, IfSome};
+ghost use Rattle.std.specs.Prelude.{◌≡◌, ◌<◌, ◌≤◌, ◌++◌, [], true, false, drop, is_some, length, map, vec_len, vec_capacity, IsFalse, IsTrue, IfSome};
 ghost use Rattle.std.specs.List.{All};
 ghost use Rattle.lane.specs.MessageKinds.{is_done};
 ghost use Rattle.pit_parts.specs.Destinations.{formulas_of};
@@ -43,6 +43,7 @@ pub fn start_valuers<'s, E, T, R: Wait + Sync, G: Gate + Sync>(
         → map (λ h. h.promise.end.value) result.handles.items ≡ takes.items }
     ensures plans { All (λ h. h.promise.plan.value ≡ shared.now.plan.now) result.handles.items }
     ensures count { vec_len result.handles ≤ vec_len takes }
+    ensures short { IsTrue result.refused → vec_len result.handles < vec_len takes }
     ensures whole { IsFalse result.refused → vec_len result.handles ≡ vec_len takes }
     ensures counted { starter.new
         ≡ after_starts (vec_len result.handles) result.refused starter.old }
@@ -91,6 +92,7 @@ pub fn start_readers<'s, E, T, R: Wait + Sync, F: Feed + Send + Drop + 's, G: Ga
 
     // How many there are.
     ensures count { vec_len result.handles ≤ vec_len ends }
+    ensures short { IsTrue result.refused → vec_len result.handles < vec_len ends }
     ensures whole { IsFalse result.refused → vec_len result.handles ≡ vec_len ends }
     ensures counted { starter.new
         ≡ after_starts (vec_len result.handles) result.refused starter.old }
