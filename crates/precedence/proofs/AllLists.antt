@@ -1,5 +1,5 @@
 -- What the rows of the zones' cones say of all blocks is what lies above each.
-use Rattle.std.proofs.Common.{◌≡◌, ℕ, zero, suc, ◌+◌, ◌<◌, ◌≤◌, Bool, false, List, [], ◌∷◌, Some, All, length, map, get_or, slice_get, refl, sym, ap, subst, ◌∙◌, arith, ⊎_elim, if◌then◌else◌}
+use Rattle.std.proofs.Common.{◌≡◌, ℕ, zero, suc, ◌+◌, ◌<◌, ◌≤◌, ◌^◌, Bool, false, List, [], ◌∷◌, Some, All, length, map, get_or, slice_get, refl, sym, ap, subst, ◌∙◌, arith, ⊎_elim, if◌then◌else◌}
 use Rattle.std.specs.Simd.Lanes.{zip2}
 use Rattle.std.proofs.lemmas.List.{get_or_default}
 use Rattle.std.proofs.lemmas.Simd.{get_or-zip2, length-zip2}
@@ -20,7 +20,7 @@ use Rattle.precedence.specs.inner.ZoneTables.{HasTables, IsTold, zone_rows}
 use Rattle.precedence.specs.declared.cones.cone_table.ConeTable.{ConeTable}
 use Rattle.precedence.specs.declared.cones.cone_rows.Extent.{Extent}
 use Rattle.precedence.specs.declared.lists.found_preds.FoundPreds.TheInside.{Inside}
-use Rattle.precedence.proofs.PlacesWhere.{told_nowhere}
+use Rattle.precedence.proofs.PlacesWhere.{length-places_where, told_nowhere}
 
 -- an element that is there meets what all meet
 pub all_at : {X : Type 0} (P : X → Type 0) (xs : List X) (k : ℕ) (x : X) → All P xs → k < length xs → slice_get xs k ≡ Some x → P x
@@ -116,3 +116,15 @@ module _ (f : Inside) (keeps : KeepsFound f) where
       ∙ in_none one f.zones.items f.places.codes.items block pred (λ zone from.
       told_nowhere (is_in_rows from (zone_rows f.tables.tables.items f.tables.of_zone.items zone)) pred f.places.codes.items
       (omega (arith, keeps.each, past)))
+
+  -- no more than there are blocks
+  pub few_found : (lists : List (List ℕ)) (id zone from : ℕ) → found_in f ≡ lists → id < length lists
+      → zone ≡ get_or f.zones.items id zone → from ≡ get_or f.places.codes.items id from → length (get_or lists id []) < 2 ^ 63
+  few_found lists id zone from is lt of_block at_place =
+      let test = is_in_rows from (zone_rows f.tables.tables.items f.tables.of_zone.items zone) in
+      omega (
+        arith,
+        ap length (found_at lists id zone from is lt of_block at_place),
+        length-places_where test 0 f.places.codes.items,
+        f.places.few,
+      )

@@ -10,4 +10,5 @@ pub mod Reaches
 pub mod Tables
 pub mod Later
 pub mod LawFacts
+pub mod enough
 pub mod runs

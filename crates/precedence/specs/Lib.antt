@@ -1,6 +1,7 @@
 pub mod Codes
 pub mod Cone
 pub mod ConeLaws
+pub mod Enough
 pub mod IdRuns
 pub mod Identifier
 pub mod Numbering

@@ -1,4 +1,5 @@
 pub mod CountedFields
+pub mod Cut
 pub mod FoundFields
 pub mod Lists
 pub mod NumberingFields

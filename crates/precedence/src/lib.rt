@@ -2,6 +2,7 @@
 #![tactic(auto)]
 
 mod cones;
+mod cuts;
 pub mod laws;
 mod lists;
 mod numbering;

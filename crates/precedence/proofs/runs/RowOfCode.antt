@@ -10,7 +10,7 @@ use Rattle.precedence.specs.declared.cones.cone_rows.Row.{Row}
 use Rattle.precedence.proofs.runs.RunsOfRows.{apart_at, before_rows, pasts_rise, skip}
 use Rattle.precedence.proofs.runs.Starts.{from_start, no_less, start_before_in, start_within}
 
-in_some_row : (from c i : ℕ) (rows : List Row) (d : Row) → i < length rows → is_in_row from (get_or rows i d) c ≡ true → is_in_rows from rows c ≡ true
+pub in_some_row : (from c i : ℕ) (rows : List Row) (d : Row) → i < length rows → is_in_row from (get_or rows i d) c ≡ true → is_in_rows from rows c ≡ true
 in_some_row from c i [] d lt is = absurd (omega arith)
 in_some_row from c zero (row ∷ rows) d lt is = ap (λ b. b || is_in_rows from rows c) is
 in_some_row from c (suc i) (row ∷ rows) d lt is =

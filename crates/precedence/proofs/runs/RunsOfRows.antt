@@ -77,7 +77,7 @@ skip from c (suc n) (row ∷ rows) le past =
     ap (λ b. b || is_in_rows from rows c) (behind_row from c row (past 0 (omega arith)))
     ∙ skip from c n rows (omega arith) (λ k lt. past (suc k) (omega arith))
 
-fewer_rows : (from c n : ℕ) (rows : List Row) → is_in_rows from rows c ≡ false → is_in_rows from (drop n rows) c ≡ false
+pub fewer_rows : (from c n : ℕ) (rows : List Row) → is_in_rows from rows c ≡ false → is_in_rows from (drop n rows) c ≡ false
 fewer_rows from c zero rows none = none
 fewer_rows from c (suc n) [] none = none
 fewer_rows from c (suc n) (row ∷ rows) none = fewer_rows from c n rows (or_parts (is_in_row from row c) (is_in_rows from rows c) none).1

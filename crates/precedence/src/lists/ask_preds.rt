@@ -1,9 +1,11 @@
 //! Lists of predecessors in which a block is looked for.
 
-ghost use Rattle.std.specs.Prelude.{◌≡◌, ℕ, ◌+◌, ◌<◌, ◌≤◌, ◌^◌, true, false, [], slice_index_or};
+ghost use Rattle.std.specs.Prelude.{◌≡◌, ℕ, ◌+◌, ◌<◌, ◌≤◌, ◌^◌, true, false, [], length, slice_index_or, IfOk, IsTrue};
+ghost use Rattle.precedence.specs.Enough.{AreEnough};
 ghost use Rattle.precedence.specs.IdRuns.{is_in};
 
 use crate::lists::pred_lists::PredLists;
+use std::alloc::AllocError;
 use std::cell::Cell;
 
 /// Lists of predecessors that tell whether a block stands in one, and do not tell all of it for that.
@@ -19,4 +21,13 @@ pub trait AskPreds: PredLists {
             → is_in (slice_index_or (Self.lists self.now) block []) (pred + k) ≡ true }
         ensures none { result ≡ 0
             → is_in (slice_index_or (Self.lists self.now) block []) pred ≡ false };
+
+    /// Puts predecessors of a block into `found` that stand for all others, and tells so; or tells that they are not found so. Then, and
+    /// where memory is refused, what `found` has is of no use.
+    fn add_enough(&self, found: &mut Vec<u32>, block: u32) -> Result<bool, AllocError>
+        requires block { block < length (Self.lists self.now) }
+        requires none { found.old.items ≡ [] }
+        ensures enough { IfOk result (λ told. IsTrue told → AreEnough (Self.lists self.now)
+            (slice_index_or (Self.lists self.now) block []) found.new.items) }
+        ensures countable { length (slice_index_or (Self.lists self.now) block []) < 2 ^ 63 };
 }

@@ -1,14 +1,19 @@
 //! Predecessors that are found when they are asked for.
 
-ghost use Rattle.std.specs.Prelude.{◌≡◌, ℕ, ◌+◌, ◌<◌, ◌≤◌, ◌++◌, true, false, IfOk, OnOk, All, length, map};
+ghost use Rattle.std.specs.Prelude.{◌≡◌, ℕ, ◌+◌, ◌<◌, ◌≤◌, ◌++◌, [], true, false, IfOk, IsTrue, OnOk, All, length, map};
 ghost use Rattle.precedence.specs.Cone.{preds, HasZones};
 ghost use Rattle.precedence.specs.IdRuns.{ids_of, is_in};
+ghost use Rattle.precedence.specs.inner.Cut.{AreCut, HasWalked};
 ghost use Rattle.precedence.specs.inner.Lists.{in_cone};
 ghost use Rattle.precedence.specs.inner.Rows.{AreInOrder};
 ghost use Rattle.precedence.specs.declared.places.code.TheConstants.{CODES};
 
 use crate::cones::bounds::extent_of;
+use crate::cones::cone_table::ConeTable;
 use crate::cones::zone_tables::{ZoneTables, tables_of};
+use crate::cuts::cut_cone::CutCone;
+use crate::cuts::cutting::cut_cone;
+use crate::cuts::enough::add_enough;
 use crate::lists::ask_preds::AskPreds;
 use crate::lists::cut_runs::add_ids;
 use crate::lists::id_run::IdRun;
@@ -37,6 +42,8 @@ pub struct FoundPreds {
     tables: ZoneTables,
     // where the run of each row of the tables was found last: a guess, which changes the time and not the lists
     hints: Vec<Cell<Hint>>,
+    // the pieces of each table's cone, or none
+    cuts: Vec<CutCone>,
 }
 
 impl Model for FoundPreds {
@@ -68,6 +75,22 @@ impl FoundPreds {
             zones,
             tables,
             hints,
+            cuts: Vec::new(alloc),
+        })
+    }
+
+    /// The same, with the cones cut in pieces, so that few predecessors are found that stand for all others. Fails only where memory is
+    /// refused.
+    pub fn cut(self, alloc: Global) -> Result<FoundPreds, AllocError>
+        ensures { IfOk result (λ found. found ≡ self) }
+    {
+        let cuts = cuts_of(alloc, self.tables.tables.as_slice())?;
+        Ok(FoundPreds {
+            places: self.places,
+            zones: self.zones,
+            tables: self.tables,
+            hints: self.hints,
+            cuts,
         })
     }
 
@@ -127,6 +150,23 @@ impl AskPreds for FoundPreds {
         let zone = self.zones[block as usize];
         let from = self.places.codes[block as usize];
         run_in_cone(&self.places, &self.tables, zone, from, pred, most, hint)
+    }
+
+    #[tactic(auto, using(crate::proofs::AllLists::found_length))]
+    fn add_enough(&self, found: &mut Vec<u32>, block: u32) -> Result<bool, AllocError> {
+        let index = block as usize;
+        let zone = self.zones[index];
+        let from = self.places.codes[index];
+        let told = enough_in_cone(
+            found,
+            &self.places,
+            self.zones.as_slice(),
+            &self.tables,
+            self.cuts.as_slice(),
+            zone,
+            from,
+        )?;
+        Ok(told)
     }
 }
 
@@ -217,4 +257,53 @@ fn run_in_cone(
         most,
         hint,
     )
+}
+
+fn cuts_of(alloc: Global, tables: &[ConeTable]) -> Result<Vec<CutCone>, AllocError>
+    requires { All (λ t. AreInOrder t.rows.items) tables.now }
+    ensures { IfOk result (λ cuts. AreCut tables.now cuts.items) }
+{
+    let mut cuts = Vec::with_capacity(alloc, tables.len())?;
+    for table in tables {
+        let cut = cut_cone(alloc, table.rows.as_slice(), table.past.as_slice())?;
+        cuts.push(cut)?;
+    }
+    Ok(cuts)
+}
+
+// Puts identifiers in a zone's cone, seen from the code `from`, into `found` that stand for all others there, where its cone is cut.
+#[inline(always)]
+fn enough_in_cone(
+    found: &mut Vec<u32>,
+    places: &Places,
+    zones: &[u8],
+    tables: &ZoneTables,
+    cuts: &[CutCone],
+    zone: u8,
+    from: u64,
+) -> Result<bool, AllocError>
+    requires zone { zone < length tables.now.of_zone.items }
+    requires below { All (λ t. t < length tables.now.tables.items) tables.now.of_zone.items }
+    requires cut { AreCut tables.now.tables.items cuts.now }
+    requires from { from < CODES }
+    requires none { found.old.items ≡ [] }
+    ensures { IfOk result (λ told. IsTrue told → HasWalked places.now.codes.items zones.now
+        tables.now.tables.items tables.now.of_zone.items zone from found.new.items) }
+{
+    let number = tables.of_zone[zone as usize];
+    if number >= cuts.len() {
+        return Ok(false);
+    }
+    let table = tables.of(zone);
+    let told = add_enough(
+        found,
+        places,
+        zones,
+        tables.of_zone.as_slice(),
+        number,
+        table.rows.as_slice(),
+        &cuts[number],
+        from,
+    )?;
+    Ok(told)
 }

@@ -90,14 +90,27 @@ fn add_run(
     ensures past { IfOk result (λ found. found.past
         ≡ start_of (from + row.past) places.now.codes.items) }
 {
+    let found = find_run(places, row, hint, from);
+    push_run(runs, found.first, found.past)?;
+    Ok(found)
+}
+
+/// The first identifier of a row's run and the one past the last. The hint is a guess.
+#[tactic(auto, using(crate::proofs::runs::Starts::runs))]
+#[inline(always)]
+pub fn find_run(places: &Places, row: Row, hint: Hint, from: u64) -> Hint
+    requires { from < CODES }
+    ensures first { result.first ≡ start_of (from + row.first) places.now.codes.items }
+    ensures past { result.past ≡ start_of (from + row.past) places.now.codes.items }
+    ensures in_order { result.first ≤ result.past }
+{
     let codes = places.codes.as_slice();
     let first = start_of(codes, hint.first as usize, from + row.first);
     let past = run_end(codes, first, hint.past as usize, from + row.past);
-    push_run(runs, first as u32, past as u32)?;
-    Ok(Hint {
+    Hint {
         first: first as u32,
         past: past as u32,
-    })
+    }
 }
 
 // Appends the run from `first` on and before `past`, where it has an identifier.
@@ -133,10 +146,10 @@ fn run_end(codes: &[u64], first: usize, hint: usize, past: u64) -> usize
     }
 }
 
-// The first row after the row `i` that can have a code from the one of the identifier `past` on, or the number of rows.
+/// The first row after the row `i` that can have a code from the one of the identifier `past` on, or the number of rows.
 #[tactic(auto, using(crate::proofs::runs::Starts::runs))]
 #[inline(always)]
-fn next_row(places: &Places, pasts: &[u64], i: usize, past: usize, from: u64) -> usize
+pub fn next_row(places: &Places, pasts: &[u64], i: usize, past: usize, from: u64) -> usize
     requires rising { IsStrictlyIncreasing pasts.now }
     requires i { i < length pasts.now }
     ensures later { i < result }

@@ -22,6 +22,7 @@ invariant_of-result c =
           (λ k d lt. omega (arith, zones k d lt, c.in_ok-tables.ensures.zones, cones)));
       below = c.in_ok-tables.ensures.below;
       in_order = tables_in_order c.grid.result c.extent_of.result tables.tables.items c.in_ok-tables.ensures.told;
+      cut = λ t table cut lt. absurd (omega arith);
     }
 
 pub returns : goal.returns

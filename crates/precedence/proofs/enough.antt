@@ -1,0 +1,3 @@
+pub mod CutRows
+pub mod FoundEnough
+pub mod Walks
