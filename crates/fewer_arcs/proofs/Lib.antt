@@ -1,3 +1,4 @@
+pub mod Enough
 pub mod Members
 pub mod One
 pub mod OneCone

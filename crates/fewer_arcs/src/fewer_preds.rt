@@ -52,8 +52,7 @@ impl<L: AskPreds + Drop> PredLists for FewerPreds<L> {
 
     fn add_runs(&self, runs: &mut Vec<IdRun>, id: u32) -> Result<(), AllocError> {
         let mut room = self.room.replace(Room::new(self.alloc));
-        fill(&mut room, &self.lists, id)?;
-        add_each(runs, room.left.as_slice())?;
+        add_fewer(runs, &mut room, &self.lists, id)?;
         self.room.set(room);
         Ok(())
     }
@@ -64,6 +63,7 @@ impl<L: AskPreds + Drop> PredLists for FewerPreds<L> {
 struct Room {
     runs: Vec<IdRun>,
     left: Vec<LeftBlock>,
+    enough: Vec<u32>,
 }
 
 impl Room {
@@ -71,8 +71,33 @@ impl Room {
         Room {
             runs: Vec::new(alloc),
             left: Vec::new(alloc),
+            enough: Vec::new(alloc),
         }
     }
+}
+
+// Appends runs that tell what is left of the list of a block. Mostly few are found at once that stand for all others, and then they are
+// what is left.
+fn add_fewer<L: AskPreds>(
+    runs: &mut Vec<IdRun>,
+    room: &mut Room,
+    lists: &L,
+    id: u32,
+) -> Result<(), AllocError>
+    requires { id < length (L.lists lists.now) }
+    ensures left { OnOk result (ids_of runs.new.items ≡ ids_of runs.old.items
+        ++ left_of (L.lists lists.now) (slice_index_or (L.lists lists.now) id [])) }
+    ensures countable { length (slice_index_or (L.lists lists.now) id []) < 2 ^ 63 }
+{
+    room.enough.clear();
+    let told = lists.add_enough(&mut room.enough, id)?;
+    if told {
+        add_ids(runs, room.enough.as_slice())?;
+        return Ok(());
+    }
+    fill(room, lists, id)?;
+    add_each(runs, room.left.as_slice())?;
+    Ok(())
 }
 
 // Puts what is left of the list of a block in place of what was there.
@@ -97,6 +122,16 @@ fn add_each(runs: &mut Vec<IdRun>, blocks: &[LeftBlock]) -> Result<(), AllocErro
             first: block.id,
             len: 1,
         })?;
+    }
+    Ok(())
+}
+
+// Appends a run for each identifier.
+fn add_ids(runs: &mut Vec<IdRun>, ids: &[u32]) -> Result<(), AllocError>
+    ensures { OnOk result (ids_of runs.new.items ≡ ids_of runs.old.items ++ ids.now) }
+{
+    for id in ids {
+        runs.push(IdRun { first: *id, len: 1 })?;
     }
     Ok(())
 }
