@@ -1,5 +1,5 @@
 -- Pieces of rows.
-use Rattle.std.proofs.Common.{◌≡◌, ℕ, zero, suc, ◌+◌, ◌<◌, ◌≤◌, ◌&&◌, ◌||◌, Bool, false, List, [], ◌∷◌, ◌++◌, drop, length, get_or, nat_lt, nat_le, refl, sym, ap, subst, ◌∙◌, arith, ⊎_elim}
+use Rattle.std.proofs.Common.{◌≡◌, ℕ, zero, suc, ◌+◌, ◌<◌, ◌≤◌, ◌&&◌, ◌||◌, Bool, false, List, [], ◌∷◌, ◌++◌, length, get_or, nat_lt, nat_le, sym, ap, ◌∙◌, arith, ⊎_elim}
 use Rattle.std.proofs.Math.Bool.{or-false, or_assoc}
 use Rattle.std.proofs.lemmas.Bool.{cases_lt}
 use Rattle.std.proofs.lemmas.Bool.Decides.{nat_tests}
@@ -7,7 +7,7 @@ use Rattle.std.proofs.lemmas.List.{get_or-map, get_or_append_left, get_or_at, le
 use Rattle.precedence.specs.inner.Cut.{AreApart}
 use Rattle.precedence.specs.inner.Rows.{is_in_row, is_in_rows, pasts, LieApart}
 use Rattle.precedence.specs.declared.cones.cone_rows.Row.{Row}
-use Rattle.precedence.proofs.Tables.{apart_push, in_rows_push}
+use Rattle.precedence.proofs.Tables.{in_rows_push}
 
 -- a part of a row and the part behind it
 joined : (x : Bool) (low mid up c : ℕ) → low ≤ mid → mid ≤ up

@@ -2,14 +2,14 @@
 use Rattle.std.proofs.Common.{◌≡◌, ℕ, zero, suc, ◌+◌, ◌-◌, ◌<◌, ◌≤◌, ◌==◌, ◌&&◌, ◌||◌, Bool, true, false, List, [], ◌∷◌, ◌++◌, drop, length, get_or, nat_lt, nat_le, inl, inr, ◌⊎◌, refl, sym, ap, subst, ◌∙◌, arith, ⊎_elim}
 use Rattle.std.specs.List.{range_with_len}
 use Rattle.std.specs.List.Sorted.{IsStrictlyIncreasing}
-use Rattle.std.proofs.lemmas.Bool.{cases_Bool, cases_lt, eqb-true, eq-eqb, lt-ltb, ltb-true, le-leb, leb-true, and_parts}
+use Rattle.std.proofs.lemmas.Bool.{cases_Bool, cases_lt, eqb-true, eq-eqb}
 use Rattle.std.proofs.lemmas.Bool.Decides.{nat_tests}
 use Rattle.std.proofs.lemmas.List.{get_or_append_left, get_or_at, length-append}
 use Rattle.std.proofs.lemmas.List.Folds.{list_any_at, list_any-append}
 use Rattle.std.proofs.lemmas.List.Kept.{IsStrictlyIncreasing-filter}
 use Rattle.precedence.specs.IdRuns.{is_in}
-use Rattle.precedence.specs.inner.Cut.{lying, table_of, AreApart, IsCovered, IsWalked}
-use Rattle.precedence.specs.inner.Rows.{is_in_row, is_in_rows, start_of, LieApart}
+use Rattle.precedence.specs.inner.Cut.{lying, table_of, AreApart, IsWalked}
+use Rattle.precedence.specs.inner.Rows.{is_in_rows, start_of}
 use Rattle.precedence.specs.inner.Search.{run}
 use Rattle.precedence.specs.declared.cones.cone_rows.Row.{Row}
 use Rattle.precedence.proofs.LawFacts.{range_rises}

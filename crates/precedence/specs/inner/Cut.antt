@@ -1,5 +1,5 @@
 -- Cones cut in pieces, and how far a walk over the pieces has come.
-use Rattle.std.specs.Prelude.{◌≡◌, ℕ, ◌+◌, ◌<◌, Bool, true, false, List, drop, length, slice_index, slice_index_or, ◌⊎◌}
+use Rattle.std.specs.Prelude.{◌≡◌, ℕ, ◌+◌, ◌<◌, true, false, List, drop, length, slice_index, slice_index_or, ◌⊎◌}
 use Rattle.std.specs.List.Sorted.{IsStrictlyIncreasing}
 use Rattle.precedence.specs.Cone.{places_where}
 use Rattle.precedence.specs.IdRuns.{is_in}

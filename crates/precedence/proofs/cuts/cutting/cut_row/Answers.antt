@@ -1,4 +1,4 @@
-use Rattle.std.proofs.Common.{◌≡◌, ℕ, ◌+◌, ◌≤◌, ◌<◌, ◌&&◌, ◌||◌, ◌++◌, ◌∷◌, [], nat_le, nat_lt, subst, sym, arith}
+use Rattle.std.proofs.Common.{◌≡◌, ℕ, ◌+◌, ◌&&◌, ◌||◌, ◌++◌, ◌∷◌, [], nat_le, nat_lt, subst, sym, arith}
 use Rattle.precedence.specs.inner.Rows.{is_in_rows}
 use Rattle.precedence.proofs.enough.CutRows.{told_more}
 use Rattle.precedence.proofs.Tables.{apart_push}

@@ -1,4 +1,4 @@
-use Rattle.std.proofs.Common.{ℕ, length, subst, arith}
+use Rattle.std.proofs.Common.{ℕ, subst, arith}
 use Rattle.precedence.specs.inner.Cut.{IsWalked}
 use Rattle.precedence.proofs.cuts.enough.add_enough.Goals as goal
 

@@ -1,4 +1,4 @@
-use Rattle.std.proofs.Common.{◌≡◌, ◌<◌, ◌∷◌, [], length, subst, sym, ap, arith}
+use Rattle.std.proofs.Common.{◌∷◌, [], length, subst, sym, ap, arith}
 use Rattle.std.proofs.lemmas.List.{length-append}
 use Rattle.precedence.specs.inner.Rows.{AreInOrder}
 use Rattle.precedence.specs.declared.cones.cone_table.ConeTable.{ConeTable}
