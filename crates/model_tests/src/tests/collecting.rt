@@ -103,18 +103,3 @@ fn collector_faults(rt: HostRuntime) -> Result<(), Fail> {
     assert!(rt; list.as_slice() == [row(0, 0)?].as_slice());
     Ok(())
 }
-
-// Rows of one file with more and with fewer worths, the later one first.
-#[test]
-fn rows_of_any_width(rt: HostRuntime) -> Result<(), Fail> {
-    let eight = valued(0, 0, 8, &[1_200_000, -1, 0, 4, 5, 6, 7, 8]).ok_or("a row")?;
-    let three = valued(0, 1, 7, &[4, 5, 6]).ok_or("a row")?;
-    let mut collector = new_collector(rt.alloc(), 1)?;
-    assert_eq!(rt; add(&mut collector, Item::Row(three)), Ok(()));
-    assert_eq!(rt; add(&mut collector, Item::Row(eight)), Ok(()));
-    assert_eq!(rt; add(&mut collector, Item::End { file: 0, rows: 2 }), Ok(()));
-    let lists = finish(collector)?;
-    let list = lists.get(0).ok_or("list")?;
-    assert!(rt; list.as_slice() == [eight, three].as_slice());
-    Ok(())
-}

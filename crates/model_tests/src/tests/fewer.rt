@@ -59,16 +59,13 @@ fn put_bench(places: &mut Vec<Place>, wide: u16, z: u16) -> Result<(), Fail> {
     Ok(())
 }
 
-// The lists of a model, without the arcs that follow from others, with the cones cut in pieces or whole.
-fn fewer_of(alloc: Global, numbering: &Numbering, plan: &Plan, cut: bool) -> Result<Preds, Fail> {
+// The lists of a model, without the arcs that follow from others.
+fn fewer_of(alloc: Global, numbering: &Numbering, plan: &Plan) -> Result<Preds, Fail> {
     if !has_zones(numbering, plan) {
         return Err("zones")?;
     }
-    let found = FoundPreds::new(alloc, numbering, plan)?;
-    if cut {
-        return kept(alloc, &FewerPreds::new(alloc, found.cut(alloc)?));
-    }
-    kept(alloc, &FewerPreds::new(alloc, found))
+    let fewer = FewerPreds::new(alloc, FoundPreds::new(alloc, numbering, plan)?);
+    kept(alloc, &fewer)
 }
 
 fn kept<L: PredLists>(alloc: Global, lists: &L) -> Result<Preds, Fail> {
@@ -96,13 +93,13 @@ fn list_of<L: PredLists>(alloc: Global, lists: &L, id: usize) -> Result<Vec<u32>
 }
 
 // How many arcs the first block has: all, and those that are left.
-fn first_arcs(alloc: Global, plan: &[u8], side: u16, cut: bool) -> Result<(usize, usize), Fail> {
+fn first_arcs(alloc: Global, plan: &[u8], side: u16) -> Result<(usize, usize), Fail> {
     let plan = read_plan(alloc, plan)?;
     let places = in_rock(alloc, side)?;
     let blocks = blocks_at(alloc, places.as_slice())?;
     let numbering = numbered(alloc, blocks.as_slice())?;
     let whole = lists_by(alloc, &numbering, &plan)?;
-    let fewer = fewer_of(alloc, &numbering, &plan, cut)?;
+    let fewer = fewer_of(alloc, &numbering, &plan)?;
     Ok((first_len(&whole), first_len(&fewer)))
 }
 
@@ -117,12 +114,8 @@ fn first_len(lists: &Preds) -> usize {
 fn left_in_full_rock(rt: HostRuntime) -> Result<(), Fail> {
     for (plan, side, all, left) in &IN_ROCK {
         assert!(rt;
-            first_arcs(rt.alloc(), plan, *side, false)? == (*all, *left),
+            first_arcs(rt.alloc(), plan, *side)? == (*all, *left),
             "{all}"
-        );
-        assert!(rt;
-            first_arcs(rt.alloc(), plan, *side, true)? == (*all, *left),
-            "{all} of cut cones"
         );
     }
     Ok(())
@@ -153,11 +146,11 @@ fn has_left(alloc: Global, whole: &Preds, fewer: &Preds, id: u32) -> Result<bool
 }
 
 // Whether just those arcs are left of a model that the definition leaves, and some are dropped.
-fn is_thinned(alloc: Global, plan: &[u8], blocks: &[Block], cut: bool) -> Result<bool, Fail> {
+fn is_thinned(alloc: Global, plan: &[u8], blocks: &[Block]) -> Result<bool, Fail> {
     let plan = read_plan(alloc, plan)?;
     let numbering = numbered(alloc, blocks)?;
     let whole = lists_by(alloc, &numbering, &plan)?;
-    let fewer = fewer_of(alloc, &numbering, &plan, cut)?;
+    let fewer = fewer_of(alloc, &numbering, &plan)?;
     for id in 0..numbering.len() {
         if !has_left(alloc, &whole, &fewer, id)? {
             return Ok(false);
@@ -172,12 +165,8 @@ fn left_by_the_definition(rt: HostRuntime) -> Result<(), Fail> {
     for plan in &ZONES {
         let blocks = blocks_in(rt.alloc(), seed, [0, 0, 0], [6, 5, 6])?;
         assert!(rt;
-            is_thinned(rt.alloc(), plan, blocks.as_slice(), false)?,
+            is_thinned(rt.alloc(), plan, blocks.as_slice())?,
             "seed {seed}"
-        );
-        assert!(rt;
-            is_thinned(rt.alloc(), plan, blocks.as_slice(), true)?,
-            "seed {seed}, cut cones"
         );
         seed = seed.wrapping_add(1);
     }
