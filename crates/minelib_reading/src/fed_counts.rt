@@ -1,6 +1,7 @@
 //! What the texts of feeds state, counted while the feeds give them.
 
-ghost use Rattle.std.specs.Prelude.{◌≤◌, IfOk, IfErr};
+ghost use Rattle.std.specs.Prelude.{◌≡◌, ◌-◌, ◌≤◌, [], IfOk, IfErr, IfSome, OnOk};
+ghost use Rattle.devices.specs.feeds.Feed.{left_after};
 ghost use Rattle.devices.specs.declared.feeds.slurp.TheConstants.{GREATEST_LIMIT};
 ghost use Rattle.minelib_reading.specs.FedCounts.{IsFedAnswer, arcs_counted, blocks_counted, model_counted};
 ghost use Rattle.pit_parts.specs.declared.ranges.TheConstants.{MAX_BLOCKS};
@@ -38,9 +39,17 @@ pub fn count_blocks<F: Feed>(
     ensures counts { IfOk result (IsFedAnswer blocks_counted (F.left feed.old) limit) }
     ensures few { IfOk result (λ answer. IfOk answer (λ blocks. blocks ≤ MAX_BLOCKS)) }
 
+    // The feed is used up then, and refused no pull.
+    ensures used_up { OnOk result (IfSome (F.left feed.new) (λ bytes. bytes ≡ [])) }
+    ensures works { OnOk result (F.failures feed.new ≡ F.failures feed.old) }
+
     // When each fault comes.
     ensures refused { IfErr result (FailsAsFed (F.left feed.old) limit (F.given feed.old)
         (F.given feed.new) (F.failures feed.old) (F.failures feed.new)) }
+
+    // Where the feed stands, whatever was answered.
+    ensures stands { F.left feed.new
+        ≡ left_after (F.given feed.new - F.given feed.old) (F.left feed.old) }
 {
     let mut draft = BlockDraft::new(CountedBlocks::new());
     match read_fed(alloc, &mut draft, feed, limit)? {
@@ -68,9 +77,17 @@ pub fn count_arcs<F: Feed>(
     // What an answer tells of the text.
     ensures counts { IfOk result (IsFedAnswer (arcs_counted blocks) (F.left feed.old) limit) }
 
+    // The feed is used up then, and refused no pull.
+    ensures used_up { OnOk result (IfSome (F.left feed.new) (λ bytes. bytes ≡ [])) }
+    ensures works { OnOk result (F.failures feed.new ≡ F.failures feed.old) }
+
     // When each fault comes.
     ensures refused { IfErr result (FailsAsFed (F.left feed.old) limit (F.given feed.old)
         (F.given feed.new) (F.failures feed.old) (F.failures feed.new)) }
+
+    // Where the feed stands, whatever was answered.
+    ensures stands { F.left feed.new
+        ≡ left_after (F.given feed.new - F.given feed.old) (F.left feed.old) }
 {
     let mut draft = PrecDraft::new(alloc, CountedPreds::new(), blocks);
     match read_fed(alloc, &mut draft, feed, limit)? {
@@ -104,9 +121,17 @@ pub fn count_model<F: Feed>(
     ensures counts { IfOk result
         (IsFedAnswer (model_counted problem blocks) (F.left feed.old) limit) }
 
+    // The feed is used up then, and refused no pull.
+    ensures used_up { OnOk result (IfSome (F.left feed.new) (λ bytes. bytes ≡ [])) }
+    ensures works { OnOk result (F.failures feed.new ≡ F.failures feed.old) }
+
     // When each fault comes.
     ensures refused { IfErr result (FailsAsFed (F.left feed.old) limit (F.given feed.old)
         (F.given feed.new) (F.failures feed.old) (F.failures feed.new)) }
+
+    // Where the feed stands, whatever was answered.
+    ensures stands { F.left feed.new
+        ≡ left_after (F.given feed.new - F.given feed.old) (F.left feed.old) }
 {
     let mut draft = ModelDraft::new(alloc, problem, blocks, CountedItems::new());
     match read_fed(alloc, &mut draft, feed, limit)? {

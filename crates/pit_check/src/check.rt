@@ -36,12 +36,12 @@ pub fn check<O: Opener>(
     out: &mut Vec<u8>,
     err: &mut Vec<u8>,
 ) -> u8
-    ensures done { result ≡ 0 → TellsFiles base.now (O.opened files.old) (O.opened files.new)
-        out.old.items out.new.items }
+    ensures done { result ≡ 0 → TellsFiles base.now O.Opened.left O.Opened.given
+        O.Opened.failures (O.opened files.old) (O.opened files.new) out.old.items out.new.items }
     ensures quiet { result ≡ 0 → err.new.items ≡ err.old.items }
     ensures refused { result ≢ 0 → out.new.items ≡ out.old.items }
     ensures status { IsCheckStatus result }
-    ensures told { result ≢ 0 → EndsBy (IsFoundIn base.now O.Opened.given O.Opened.failures
+    ensures told { result ≢ 0 → EndsBy (IsFoundIn base.now O.Opened.left O.Opened.given O.Opened.failures
         (O.opened files.old) (O.opened files.new)) err.old.items err.new.items result }
     ensures memory { result ≡ 4 → err.new.items ≡ err.old.items }
 {
@@ -78,10 +78,10 @@ fn tell_counts<O: Opener>(
     files: &mut O,
     out: &mut Vec<u8>,
 ) -> Result<(), Refused>
-    ensures counts { OnOk result (TellsFiles base.now (O.opened files.old) (O.opened files.new)
-        out.old.items out.new.items) }
+    ensures counts { OnOk result (TellsFiles base.now O.Opened.left O.Opened.given
+        O.Opened.failures (O.opened files.old) (O.opened files.new) out.old.items out.new.items) }
     ensures kept { OnErr result (out.new.items ≡ out.old.items) }
-    ensures fault { IfErr result (IsFoundIn base.now O.Opened.given O.Opened.failures
+    ensures fault { IfErr result (IsFoundIn base.now O.Opened.left O.Opened.given O.Opened.failures
         (O.opened files.old) (O.opened files.new)) }
 {
     let counts = match count_all(alloc, base, files)? {
@@ -99,8 +99,9 @@ fn count_all<O: Opener>(
     base: &str,
     files: &mut O,
 ) -> Result<Result<Counts, TextFault>, Refused>
-    ensures counts { IfOk result (CountsAll base.now (O.opened files.old) (O.opened files.new)) }
-    ensures fault { IfErr result (IsFoundIn base.now O.Opened.given O.Opened.failures
+    ensures counts { IfOk result (CountsAll base.now O.Opened.left O.Opened.given O.Opened.failures
+        (O.opened files.old) (O.opened files.new)) }
+    ensures fault { IfErr result (IsFoundIn base.now O.Opened.left O.Opened.given O.Opened.failures
         (O.opened files.old) (O.opened files.new)) }
 {
     let blocks = count_file(alloc, base, TextFile::Blocks, files, Ok(Counts::new()))?;
@@ -123,9 +124,10 @@ fn count_file<O: Opener>(
     requires needed { file ≢ TextFile.Cpit }
     requires few { IfOk so_far (λ counts. counts.blocks ≤ MAX_BLOCKS) }
     ensures counts { IfOk result
-        (CountsFile base.now file so_far (O.opened files.old) (O.opened files.new)) }
+        (CountsFile base.now O.Opened.left O.Opened.given O.Opened.failures
+        file so_far (O.opened files.old) (O.opened files.new)) }
     ensures few { IfOk result (λ answer. IfOk answer (λ counts. counts.blocks ≤ MAX_BLOCKS)) }
-    ensures fault { IfErr result (λ refused. FailsIn base.now O.Opened.given O.Opened.failures file
+    ensures fault { IfErr result (λ refused. FailsIn base.now O.Opened.left O.Opened.given O.Opened.failures file
         (O.opened files.old) (O.opened files.new) refused
         ⊎ (IsMissing base.now file (O.opened files.old) (O.opened files.new) refused
         ⊎ (refused ≡ Run OutOfMemory))) }
@@ -147,10 +149,11 @@ fn count_if_there<O: Opener>(
 ) -> Result<Option<Result<Counts, TextFault>>, Refused>
     requires few { IfOk so_far (λ counts. counts.blocks ≤ MAX_BLOCKS) }
     ensures counts { IfOk result
-        (CountsIfThere base.now file so_far (O.opened files.old) (O.opened files.new)) }
+        (CountsIfThere base.now O.Opened.left O.Opened.given O.Opened.failures
+        file so_far (O.opened files.old) (O.opened files.new)) }
     ensures few { IfOk result (λ found. IfSome found (λ answer. IfOk answer
         (λ counts. counts.blocks ≤ MAX_BLOCKS))) }
-    ensures fault { IfErr result (λ refused. FailsIn base.now O.Opened.given O.Opened.failures file
+    ensures fault { IfErr result (λ refused. FailsIn base.now O.Opened.left O.Opened.given O.Opened.failures file
         (O.opened files.old) (O.opened files.new) refused ⊎ (refused ≡ Run OutOfMemory)) }
 {
     let path = format!(in alloc; "{base}.{file}")?;

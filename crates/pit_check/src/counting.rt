@@ -1,6 +1,7 @@
 //! The counts of the texts of an instance, one file after the other.
 
-ghost use Rattle.std.specs.Prelude.{◌≤◌, IfOk, IfErr};
+ghost use Rattle.std.specs.Prelude.{◌≡◌, ◌-◌, ◌≤◌, [], IfOk, IfErr, IfSome, OnOk};
+ghost use Rattle.devices.specs.feeds.Feed.{left_after};
 ghost use Rattle.devices.specs.declared.feeds.slurp.TheConstants.{GREATEST_LIMIT};
 ghost use Rattle.minelib_reading.specs.FedCounts.{IsFedAnswer};
 ghost use Rattle.pit_check.specs.inner.CountSteps.{counted_in, counted_on};
@@ -36,9 +37,17 @@ pub fn count_on<F: Feed>(
         (IsFedAnswer (counted_on file so_far) (F.left feed.old) GREATEST_LIMIT) }
     ensures few { IfOk result (λ answer. IfOk answer (λ counts. counts.blocks ≤ MAX_BLOCKS)) }
 
+    // The feed is used up then, and refused no pull.
+    ensures used_up { OnOk result (IfSome (F.left feed.new) (λ bytes. bytes ≡ [])) }
+    ensures works { OnOk result (F.failures feed.new ≡ F.failures feed.old) }
+
     // When each fault comes.
     ensures refused { IfErr result (FailsAsFed (F.left feed.old) GREATEST_LIMIT (F.given feed.old)
         (F.given feed.new) (F.failures feed.old) (F.failures feed.new)) }
+
+    // Where the feed stands, whatever was answered.
+    ensures stands { F.left feed.new
+        ≡ left_after (F.given feed.new - F.given feed.old) (F.left feed.old) }
 {
     match so_far {
         Ok(counts) => match count_in(alloc, file, counts, feed)? {
@@ -67,9 +76,17 @@ fn count_in<F: Feed>(
         (IsFedAnswer (counted_in file counts) (F.left feed.old) GREATEST_LIMIT) }
     ensures few { IfOk result (λ answer. IfOk answer (λ counts. counts.blocks ≤ MAX_BLOCKS)) }
 
+    // The feed is used up then, and refused no pull.
+    ensures used_up { OnOk result (IfSome (F.left feed.new) (λ bytes. bytes ≡ [])) }
+    ensures works { OnOk result (F.failures feed.new ≡ F.failures feed.old) }
+
     // When each fault comes.
     ensures refused { IfErr result (FailsAsFed (F.left feed.old) GREATEST_LIMIT (F.given feed.old)
         (F.given feed.new) (F.failures feed.old) (F.failures feed.new)) }
+
+    // Where the feed stands, whatever was answered.
+    ensures stands { F.left feed.new
+        ≡ left_after (F.given feed.new - F.given feed.old) (F.left feed.old) }
 {
     let n = counts.blocks;
     match file {

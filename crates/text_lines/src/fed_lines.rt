@@ -1,6 +1,7 @@
 //! Reading the lines of a text while a feed gives it.
 
-ghost use Rattle.std.specs.Prelude.{◌≡◌, ◌≢◌, ◌+◌, ◌≤◌, Err, [], length, IfOk, IfErr, OnOk, IfSome, IsTrue};
+ghost use Rattle.std.specs.Prelude.{◌≡◌, ◌≢◌, ◌+◌, ◌-◌, ◌≤◌, Err, [], length, IfOk, IfErr, OnOk, IfSome, IsTrue};
+ghost use Rattle.devices.specs.feeds.Feed.{left_after};
 ghost use Rattle.devices.specs.declared.feeds.slurp.SlurpFault.TheVariants as SlurpFault;
 ghost use Rattle.devices.specs.declared.feeds.slurp.TheConstants.{GREATEST_LIMIT};
 ghost use Rattle.text_lines.specs.Fed.{FailsAsFed, IsFedReading};
@@ -44,8 +45,11 @@ pub fn read_fed<S: Admit, F: Feed>(
         (F.given feed.new) (F.failures feed.old) (F.failures feed.new)) }
     ensures sure { IsTrue (F.is_sure feed.old) → result ≢ Err SlurpFault.FeedFailed }
 
-    // How much was read, whatever was answered.
+    // How much was read, and where the feed stands, whatever was answered.
+    ensures onward { F.given feed.old ≤ F.given feed.new }
     ensures reads { F.given feed.new ≤ F.given feed.old + (limit + 1) }
+    ensures stands { F.left feed.new
+        ≡ left_after (F.given feed.new - F.given feed.old) (F.left feed.old) }
 {
     let mut waiting = Waiting::new(alloc);
     let mut rest = limit as usize + 1;
@@ -91,8 +95,11 @@ pub fn pass_text<F: Feed>(alloc: Global, feed: &mut F, limit: u64) -> Result<(),
         (F.given feed.new) (F.failures feed.old) (F.failures feed.new)) }
     ensures sure { IsTrue (F.is_sure feed.old) → result ≢ Err SlurpFault.FeedFailed }
 
-    // How much was read, whatever was answered.
+    // How much was read, and where the feed stands, whatever was answered.
+    ensures onward { F.given feed.old ≤ F.given feed.new }
     ensures reads { F.given feed.new ≤ F.given feed.old + (limit + 1) }
+    ensures stands { F.left feed.new
+        ≡ left_after (F.given feed.new - F.given feed.old) (F.left feed.old) }
 {
     let mut waiting = Waiting::new(alloc);
     waiting.pass(feed, limit as usize + 1)

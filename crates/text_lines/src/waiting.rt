@@ -1,6 +1,7 @@
 //! The bytes of a feed of which no line was taken yet.
 
-ghost use Rattle.std.specs.Prelude.{◌≡◌, ◌≢◌, ◌+◌, ◌<◌, ◌≤◌, ◌^◌, Err, [], length, take, IfOk, IfErr, OnOk, OnErr, IfSome, IsErrOf, IsTrue, drop, true};
+ghost use Rattle.std.specs.Prelude.{◌≡◌, ◌≢◌, ◌+◌, ◌-◌, ◌<◌, ◌≤◌, ◌^◌, Err, [], length, take, IfOk, IfErr, OnOk, OnErr, IfSome, IsErrOf, IsTrue, drop, true};
+ghost use Rattle.devices.specs.feeds.Feed.{left_after};
 ghost use Rattle.devices.specs.declared.feeds.slurp.SlurpFault.TheVariants as SlurpFault;
 ghost use Rattle.devices.specs.declared.feeds.slurp.TheConstants.{GREATEST_LIMIT};
 ghost use Rattle.text_lines.specs.Reading.{Leaves, read_lines};
@@ -65,6 +66,7 @@ impl Waiting {
     }
 
     /// Holds what one pull gives, at most `most` bytes, and answers how many these are: 0 means that the feed has ended.
+    #[tactic(auto, using(crate::proofs::GivenFacts::pulled))]
     pub fn pull<F: Feed>(&mut self, feed: &mut F, most: usize) -> Result<usize, SlurpFault>
         requires some { 0 < most }
         requires room { length self.old.held + most ≤ GREATEST_LIMIT + 1 }
@@ -86,7 +88,10 @@ impl Waiting {
         ensures not_long { result ≢ Err SlurpFault.TooLong }
         ensures sure { IsTrue (F.is_sure feed.old) → result ≢ Err SlurpFault.FeedFailed }
 
-        // Whatever is answered.
+        // Where the feed stands, whatever is answered.
+        ensures onward { F.given feed.old ≤ F.given feed.new }
+        ensures stands { F.left feed.new
+            ≡ left_after (F.given feed.new - F.given feed.old) (F.left feed.old) }
         ensures stays_sure { IsTrue (F.is_sure feed.old) → IsTrue (F.is_sure feed.new) }
     {
         make_room(&mut self.bytes, self.filled, GREATEST_LIMIT as usize + 1)?;
@@ -116,8 +121,11 @@ impl Waiting {
         ensures memory_first { IsErrOf result SlurpFault.OutOfMemory
             → F.given feed.new < F.given feed.old + most }
 
-        // How much was read, whatever was answered.
+        // How much was read, and where the feed stands, whatever was answered.
+        ensures onward { F.given feed.old ≤ F.given feed.new }
         ensures reads { F.given feed.new ≤ F.given feed.old + most }
+        ensures stands { F.left feed.new
+            ≡ left_after (F.given feed.new - F.given feed.old) (F.left feed.old) }
 
         // A sure feed does not fail.
         ensures sure { IsTrue (F.is_sure feed.old) → result ≢ Err SlurpFault.FeedFailed }

@@ -1,5 +1,5 @@
 use Rattle.std.proofs.Common.{◌-◌, ◌≤◌, ◌∙◌, arith}
-use Rattle.text_lines.proofs.GivenFacts.{gave_more}
+use Rattle.text_lines.proofs.GivenFacts.{gave_more, stands_on}
 use Rattle.text_lines.proofs.waiting.Waiting.pass.Goals as goal
 
 pub loop-rest-preserved : goal.loop-rest-preserved
@@ -11,7 +11,22 @@ loop-rest-preserved g c =
       within = omega (arith, inv.within);
       gave = gave_more (c.args.most - c.loop-rest.rest) n (c.args.most - (c.loop-rest.rest - n)) _ c.pull.new.self _ _ _ inv.gave
           c.in_ok-count.ensures.held (omega (arith, inv.within, within));
+      stands = stands_on g.F.Feed.given g.F.Feed.left c.args.feed.now c.loop-rest.feed c.pull.new.feed
+          (omega (arith, inv.counts, inv.within)) c.pull.ensures.onward inv.stands
+          c.pull.ensures.stands;
       counts = omega (arith, inv.counts, c.in_ok-count.ensures.counts, within);
       works = c.in_ok-count.ensures.works ∙ inv.works;
       sure = λ s. c.pull.ensures.stays_sure (inv.sure s);
     }
+
+pub returns-in_err-count-clause-stands : goal.returns-in_err-count-clause-stands
+returns-in_err-count-clause-stands g c =
+    let inv = c.loop-rest.invariant in
+    stands_on g.F.Feed.given g.F.Feed.left c.args.feed.now c.loop-rest.feed c.pull.new.feed
+    (omega (arith, inv.counts, inv.within)) c.pull.ensures.onward inv.stands c.pull.ensures.stands
+
+pub returns-then-count-eq0-clause-stands : goal.returns-then-count-eq0-clause-stands
+returns-then-count-eq0-clause-stands g c =
+    let inv = c.loop-rest.invariant in
+    stands_on g.F.Feed.given g.F.Feed.left c.args.feed.now c.loop-rest.feed c.pull.new.feed
+    (omega (arith, inv.counts, inv.within)) c.pull.ensures.onward inv.stands c.pull.ensures.stands
