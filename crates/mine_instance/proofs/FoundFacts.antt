@@ -12,7 +12,7 @@ use Rattle.pit_parts.specs.declared.block.Block.{Block}
 use Rattle.mine_instance.specs.declared.coefs.coef.Coef.{Coef}
 use Rattle.mine_instance.specs.declared.coefs.found.FoundCoefs.TheInside.{Inside}
 use Rattle.mine_instance.specs.declared.coefs.found.HeavyBlock.{HeavyBlock}
-use Rattle.mine_instance.specs.OfModel.{block_coefs, coef_at, coefs_of}
+use Rattle.mine_instance.specs.CoveredPairs.{block_coefs, block_coef, coefs_of}
 use Rattle.mine_instance.specs.inner.FoundCoefFields.{heavy_one, heavy_of, heavy_coef, heavy_coefs, found_coefs, found_in}
 use Rattle.mine_instance.proofs.BuildFacts.{length-flat}
 
@@ -22,7 +22,7 @@ one_block pairs k b = at (b.kg == 0)
     heavy : HeavyBlock
     heavy = record { b = k; kg = b.kg }
 
-    at : (none : Bool) → found_coefs pairs (cond none [] (heavy ∷ [])) ≡ cond none [] (map (coef_at k b) pairs)
+    at : (none : Bool) → found_coefs pairs (cond none [] (heavy ∷ [])) ≡ cond none [] (map (block_coef k b) pairs)
     at true = refl
     at false = append-nil (heavy_coefs pairs heavy)
 

@@ -1,5 +1,5 @@
 -- The instance of a plan has decimals, since a plan's numbers, a block's tonnes and its worths are small; and so has its CPIT.
-use Rattle.std.proofs.Common.{◌≡◌, ℕ, zero, suc, ℤ, pos, negsuc, Bool, true, false, List, [], ◌∷◌, All, map, filter, get_or, refl, arith}
+use Rattle.std.proofs.Common.{◌≡◌, ℕ, zero, suc, ℤ, pos, negsuc, Bool, true, false, List, [], ◌∷◌, All, map, filter, get_or, refl, sym, subst, arith}
 use Rattle.std.specs.Prelude.{slice_index_or, if◌then◌else◌, ◌==◌}
 use Rattle.std.specs.List.{flat_map, enumerate_from}
 use Rattle.std.proofs.lemmas.Int.{ints}
@@ -15,9 +15,11 @@ use Rattle.pit_parts.specs.declared.limit.Bound.TheVariants.{AtMost, AtLeast, Be
 use Rattle.pit_parts.proofs.WorthFacts.{worth_bound}
 use Rattle.mine_instance.specs.Greatest.{first_greatest, greatest}
 use Rattle.mine_instance.specs.Instance.{Instance}
-use Rattle.mine_instance.specs.OfModel.{block_coefs, by_identifier, coef_at, covered, in_hundreds, instance, instance_of, values_of}
+use Rattle.mine_instance.specs.OfModel.{by_identifier, in_hundreds, instance, instance_of, values_of}
+use Rattle.mine_instance.specs.CoveredPairs.{block_coefs, block_coef, covered}
 use Rattle.mine_instance.specs.cpit.OfCpit.{cpit, is_chosen, without_destination}
 use Rattle.mine_instance.specs.declared.coefs.coef.Coef.{Coef}
+use Rattle.mine_instance.proofs.CoefFacts.{coefs_are}
 use Rattle.mine_instance.proofs.ModelFacts.{worths_fit}
 use Rattle.mine_instance.specs.Kept.{HasDecimals, IsKept, IsKeptCpit}
 
@@ -39,8 +41,8 @@ unless false coefs fit = fit
 
 block_fits : (pairs : List (ℕ × ℕ)) (numbered : ℕ × Block) → All (λ c. IsInDecimalRange c.v) (block_coefs pairs numbered)
 block_fits pairs numbered =
-    unless (numbered.1.kg == 0) (map (coef_at numbered.0 numbered.1) pairs)
-    (All-map (λ (c : Coef). IsInDecimalRange c.v) (coef_at numbered.0 numbered.1) pairs (λ k d within. omega (arith, numbered.1.kg_in_range)))
+    unless (numbered.1.kg == 0) (map (block_coef numbered.0 numbered.1) pairs)
+    (All-map (λ (c : Coef). IsInDecimalRange c.v) (block_coef numbered.0 numbered.1) pairs (λ k d within. omega (arith, numbered.1.kg_in_range)))
 
 coefs_fit : (pairs : List (ℕ × ℕ)) (numbered : List (ℕ × Block)) → All (λ c. IsInDecimalRange c.v) (flat_map (block_coefs pairs) numbered)
 coefs_fit pairs [] = All-nil (λ (c : Coef). IsInDecimalRange c.v)
@@ -61,7 +63,7 @@ pub instance_of_kept : (plan : PlanParts) (blocks : List Block) → is_name plan
 instance_of_kept plan blocks named is = record {
   name = named;
   values = All-map (λ values. All IsInDecimalRange values) (values_of plan) blocks (λ k d within. values_fit plan is _);
-  coefs = coefs_fit (covered plan) (enumerate_from 0 blocks);
+  coefs = subst (All (λ (c : Coef). IsInDecimalRange c.v)) (sym (coefs_are plan blocks)) (coefs_fit (covered plan) (enumerate_from 0 blocks));
   limits = λ k d within. bound_fits (get_or plan.limits k d).bound (is.limits k d within).2.tonnes;
 }
 

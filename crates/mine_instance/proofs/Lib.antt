@@ -2,6 +2,7 @@ pub mod ByBlockFacts
 pub mod PairFacts
 pub mod CpitFacts
 pub mod BuildFacts
+pub mod CoefFacts
 pub mod FoundFacts
 pub mod GreatestFacts
 pub mod GroupFacts

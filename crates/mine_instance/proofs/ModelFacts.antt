@@ -1,5 +1,5 @@
 -- What the plan's ranges say of the parts of an instance.
-use Rattle.std.proofs.Common.{◌≡◌, ℕ, ◌<◌, ◌≤◌, List, [], ◌∷◌, length, map, refl, ◌∙◌, ap, arith, ℤ, All, Bool, true, false, cond, suc, get_or, ◌⊎◌, inl, inr}
+use Rattle.std.proofs.Common.{◌≡◌, ℕ, ◌<◌, ◌≤◌, List, [], ◌∷◌, length, map, refl, sym, subst, ◌∙◌, ap, arith, ℤ, All, Bool, true, false, cond, suc, get_or, ◌⊎◌, inl, inr}
 use Rattle.std.proofs.lemmas.List.{length-map}
 use Rattle.std.proofs.lemmas.List.Elements.{All-map, All-append, All-head, All-tail, All-nil, All-filter}
 use Rattle.std.proofs.lemmas.List.FromFn.{get_or-enumerate_from, get_or-range_with_len, length-enumerate_from, length-range_with_len}
@@ -15,14 +15,18 @@ use Rattle.pit_parts.specs.declared.limit.Limit.{Limit}
 use Rattle.pit_parts.specs.Plan.{PlanParts}
 use Rattle.pit_parts.specs.formulas.Formula.{IsRuled}
 use Rattle.pit_parts.specs.PlanKept.{IsPlan}
-use Rattle.pit_parts.specs.formulas.Worth.{worth, IsWorth}
+use Rattle.pit_parts.specs.formulas.Worth.{worth}
+use Rattle.pit_parts.specs.formulas.Worth.{IsWorth}
 use Rattle.pit_parts.specs.declared.block.Block.{Block}
 use Rattle.pit_parts.specs.declared.formulas.formula.Formula.{Formula}
 use Rattle.pit_parts.specs.declared.formulas.formula.NamedFormula.{NamedFormula}
 use Rattle.rows.specs.Valued.{worths_by}
+use Rattle.mine_instance.proofs.CoefFacts.{coefs_are}
 use Rattle.mine_instance.proofs.PairFacts.{pairs_append, pairs_map, rising_differ}
 use Rattle.mine_instance.specs.Valid.{AreLimits, AreCoefs, ArePreds, IsValid}
-use Rattle.mine_instance.specs.OfModel.{values_of, in_hundreds, covers, pair_with, covering, covered, coef_at, block_coefs, coefs_of, instance_of, instance_with}
+use Rattle.mine_instance.specs.Instance.{Instance}
+use Rattle.mine_instance.specs.OfModel.{values_of, in_hundreds, instance_of}
+use Rattle.mine_instance.specs.CoveredPairs.{covers, pair_with, covering, covered, block_coef, block_coefs, coefs_of}
 use Rattle.mine_instance.specs.Order.{coef_before}
 use Rattle.mine_instance.specs.declared.coefs.coef.Coef.{Coef}
 
@@ -129,7 +133,7 @@ covered_rise resources n =
     pairs_flat PairBefore (covering resources) (λ d. d) (λ p. p.0) (λ p q h. inl h) (λ d k p h. (covering_in resources d k p h).0)
     (covering_rise resources) (range_with_len 0 n) (AllPairs-from_increasing (range_with_len 0 n) (range_rises 0 n))
 
-coef_order : (k : ℕ) (b : Block) (p q : ℕ × ℕ) → PairBefore p q → IsTrue (coef_before (coef_at k b p) (coef_at k b q))
+coef_order : (k : ℕ) (b : Block) (p q : ℕ × ℕ) → PairBefore p q → IsTrue (coef_before (block_coef k b p) (block_coef k b q))
 coef_order k b p q h = grind (arith, nat_tests)
 
 block_order : (c e : Coef) → c.b < e.b → IsTrue (coef_before c e)
@@ -140,14 +144,14 @@ module _ (nd nr : ℕ) (pairs : List (ℕ × ℕ)) (fit : All (λ p. (p.0 < nd) 
   block_coefs_in : (e : ℕ × Block) → All (λ c. (c.b ≡ e.0) × (c.d < nd) × (c.r < nr)) (block_coefs pairs e)
   block_coefs_in e =
       let P : Coef → Type 0 = λ c. (c.b ≡ e.0) × (c.d < nd) × (c.r < nr) in
-      or_none (λ cs. All P cs) (e.1.kg == 0) (map (coef_at e.0 e.1) pairs) (All-nil P)
-      (All-map P (coef_at e.0 e.1) pairs (λ k p h. (refl, (fit k p h).0, (fit k p h).1)))
+      or_none (λ cs. All P cs) (e.1.kg == 0) (map (block_coef e.0 e.1) pairs) (All-nil P)
+      (All-map P (block_coef e.0 e.1) pairs (λ k p h. (refl, (fit k p h).0, (fit k p h).1)))
 
   block_coefs_rise : (e : ℕ × Block) → AllPairs (λ c f. IsTrue (coef_before c f)) (block_coefs pairs e)
   block_coefs_rise e =
       let R : Coef → Coef → Type 0 = λ c f. IsTrue (coef_before c f) in
-      or_none (λ cs. AllPairs R cs) (e.1.kg == 0) (map (coef_at e.0 e.1) pairs) (λ i j d h k. absurd (omega arith))
-      (pairs_map R (coef_at e.0 e.1) pairs (λ i j d h k. coef_order e.0 e.1 _ _ (rise i j d h k)))
+      or_none (λ cs. AllPairs R cs) (e.1.kg == 0) (map (block_coef e.0 e.1) pairs) (λ i j d h k. absurd (omega arith))
+      (pairs_map R (block_coef e.0 e.1) pairs (λ i j d h k. coef_order e.0 e.1 _ _ (rise i j d h k)))
 
   coefs_fit : (blocks : List Block) → AreCoefs (length blocks) nd nr (coefs_of pairs blocks)
   coefs_fit blocks = record {
@@ -175,13 +179,27 @@ instance_is_valid plan blocks is few = record {
     one_each =
         All-map (λ vs. length vs ≡ length plan.formulas) (values_of plan) blocks (λ k d h. length-values_of plan (get_or blocks k d));
   };
-  coefs =
+  coefs = subst (AreCoefs (length blocks) (length plan.formulas) (length plan.resources)) (sym (coefs_are plan blocks)) (
       coefs_fit (length plan.formulas) (length plan.resources) (covered plan) (covered_in plan.resources (length plan.formulas))
-      (covered_rise plan.resources (length plan.formulas)) blocks;
+      (covered_rise plan.resources (length plan.formulas)) blocks);
   limits = limits_are plan is;
 }
 
 -- an instance by its parts
+abbrev instance_with : List ℕ → ℤ → ℕ → ℕ → ℕ → List Block → List (List ℕ) → List (List ℤ) → List Coef → List Limit → Instance
+instance_with name rate periods destinations resources blocks lists values coefs limits = record {
+  name = name;
+  rate = rate;
+  periods = periods;
+  destinations = destinations;
+  resources = resources;
+  blocks = blocks;
+  preds = lists;
+  values = values;
+  coefs = coefs;
+  limits = limits;
+}
+
 pub built_is : (plan : PlanParts) (blocks : List Block) (name : List ℕ) (rate : ℤ) (periods destinations resources : ℕ) (own : List Block)
     (lists : List (List ℕ)) (values : List (List ℤ)) (coefs : List Coef) (limits : List Limit)
     → name ≡ plan.name → rate ≡ plan.rate → periods ≡ plan.periods → destinations ≡ length plan.formulas → resources ≡ length plan.resources
@@ -189,4 +207,4 @@ pub built_is : (plan : PlanParts) (blocks : List Block) (name : List ℕ) (rate 
     → limits ≡ plan.limits
     → instance_with name rate periods destinations resources own lists values coefs limits ≡ instance_of plan blocks
 built_is plan blocks name rate periods destinations resources own lists values coefs limits a b c d e f g h i j =
-    rw (a, b, c, d, e, f, g, h, i, j) refl
+    rw (a, b, c, d, e, f, g, h, i, j, coefs_are plan blocks) refl

@@ -1,5 +1,6 @@
 pub mod BlockValues
 pub mod ByBlock
+pub mod CoveredPairs
 pub mod Greatest
 pub mod Groups
 pub mod Hundreds

@@ -3,12 +3,12 @@ use Rattle.std.specs.Prelude.{List}
 use Rattle.pit_parts.specs.Plan.{PlanParts}
 use Rattle.pit_parts.specs.declared.block.Block.{Block}
 use Rattle.precedence.specs.ConeLaws.{preds_by}
-use Rattle.mine_instance.specs.OfModel.{by_identifier, instance_with_preds}
+use Rattle.mine_instance.specs.OfModel.{by_identifier, instance_of}
 use Rattle.mine_instance.specs.Instance.{Instance}
 
 -- the instance of a plan and of blocks by identifier, with predecessors by the test with one slope
 abbrev pub instance_by_of : PlanParts → List Block → Instance
-instance_by_of plan blocks = instance_with_preds plan blocks (preds_by plan blocks)
+instance_by_of plan blocks = record (instance_of plan blocks) { preds = preds_by plan blocks }
 
 -- the same of a list of blocks
 abbrev pub instance_by : PlanParts → List Block → Instance

@@ -6,7 +6,6 @@ use Rattle.pit_parts.specs.declared.block.Block.{Block}
 use Rattle.mine_instance.specs.cpit.Cpit.{CpitParts}
 use Rattle.mine_instance.specs.cpit.CpitKept.{cpit_of}
 use Rattle.mine_instance.specs.cpit.OfCpit.{without_destination}
-use Rattle.mine_instance.specs.OfModel.{instance_with}
 use Rattle.mine_instance.specs.Instance.{Instance}
 use Rattle.minelib_reading.specs.BlockLines.{blocks_in}
 use Rattle.minelib_reading.specs.HeaderNumbers.{count_in}
@@ -20,9 +19,18 @@ use Rattle.text_lines.specs.declared.text_fault.TextFile.TheVariants.{Blocks, Pr
 
 -- the instance of what its three files state
 abbrev pub instance_read : List Block → List (List ℕ) → ModelDraftView → Instance
-instance_read blocks lists d =
-    instance_with d.name (pos (count_in d.header key.Rate)) (count_in d.header key.Periods) (count_in d.header key.Destinations)
-    (count_in d.header key.Resources) blocks lists d.values d.coefs d.limits
+instance_read blocks lists d = record {
+  name = d.name;
+  rate = pos (count_in d.header key.Rate);
+  periods = count_in d.header key.Periods;
+  destinations = count_in d.header key.Destinations;
+  resources = count_in d.header key.Resources;
+  blocks = blocks;
+  preds = lists;
+  values = d.values;
+  coefs = d.coefs;
+  limits = d.limits;
+}
 
 -- the instance that three texts denote, or the first faulty line: the blocks' first, then the precedences', then the model's
 unfoldable pub denoted : List ℕ → List ℕ → List ℕ → Result Instance TextFault

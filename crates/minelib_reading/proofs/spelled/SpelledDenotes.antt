@@ -8,7 +8,6 @@ use Rattle.forms.specs.Words.{AllState, Spell}
 use Rattle.mine_instance.specs.cpit.Cpit.{CpitParts}
 use Rattle.mine_instance.specs.cpit.CpitKept.{cpit_of}
 use Rattle.mine_instance.specs.cpit.OfCpit.{without_destination}
-use Rattle.mine_instance.specs.OfModel.{instance_with}
 use Rattle.mine_instance.specs.Valid.{ArePredsOf}
 use Rattle.mine_instance.specs.declared.coefs.coef.Coef.{Coef}
 use Rattle.mine_instance.specs.declared.cpit.CpitCoef.{CpitCoef}
@@ -101,8 +100,18 @@ denoted_spelled blocks prec pcpsp i e =
 
 -- the instance of blocks, their predecessors and a model
 abbrev instance_stated : List Block → List (List ℕ) → StatedModel → Instance
-instance_stated blocks lists m =
-    instance_with m.header.name m.header.rate m.header.periods m.header.destinations m.header.resources blocks lists m.values m.coefs m.limits
+instance_stated blocks lists m = record {
+  name = m.header.name;
+  rate = m.header.rate;
+  periods = m.header.periods;
+  destinations = m.header.destinations;
+  resources = m.header.resources;
+  blocks = blocks;
+  preds = lists;
+  values = m.values;
+  coefs = m.coefs;
+  limits = m.limits;
+}
 
 pub spelled_denoted : (blocks prec pcpsp : List ℕ) (i : Instance) → SpellInstance blocks prec pcpsp i → Denotes blocks prec pcpsp i
 unfolding denoted
