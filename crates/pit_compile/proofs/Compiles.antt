@@ -13,10 +13,12 @@ use Rattle.pit_compile.specs.inner.ReadAnswers.{refusal_in}
 use Rattle.pit_compile.specs.ZoneFiles.{AreGiven}
 use Rattle.pit_compile.specs.Compiling.{IsNotCompiled}
 use Rattle.pit_compile.specs.inner.ModelRows.{AreModelRows}
-use Rattle.pit_compile.specs.Rows.{fault_in, model_rows, model_sends}
+use Rattle.pit_compile.specs.Rows.{fault_in, model_sends}
+use Rattle.pit_compile.specs.inner.ValuedRows.{RepeatsFirst, valued_rows}
 use Rattle.pit_compile.specs.inner.Repeats.{IsRepeat}
 use Rattle.pit_compile.specs.declared.refusal.Refusal.{Refusal}
 use Rattle.pit_compile.specs.declared.refusal.Refusal.TheVariants.{Same, OutOfMemory}
+use Rattle.pit_compile.proofs.PlainRows.{first_repeat}
 use Rattle.pit_compile.proofs.Readers.{all_read}
 use Rattle.pit_compile.proofs.RowFacts.{AreZoneFiles, are_model_rows, sent_rows}
 
@@ -31,7 +33,7 @@ pub record Compiles (plan : PlanParts) (lefts : List (Option (List ℕ))) (sents
   pub given : AreGiven lefts texts
   pub no_fault : fault_in texts plan.grid 0 ≡ None
   pub sent : sents ≡ model_sends plan texts
-  pub rows_are : rows ≡ model_rows plan texts
+  pub rows_are : rows ≡ valued_rows plan texts
   pub model : AreModelRows plan rows
 
 pub compiles : {F : Type 0} (left : F → Option (List ℕ)) (is_sure : F → Bool) (failures : F → ℕ) (plan : PlanParts) (feeds : List F)
@@ -42,7 +44,7 @@ pub compiles : {F : Type 0} (left : F → Option (List ℕ)) (is_sure : F → Bo
 compiles left is_sure failures plan feeds answers sents rows files count most h e collected =
     let read = all_read left is_sure failures plan.grid feeds answers sents h e in
     let as_many = given_count (map left feeds) read.texts read.given ∙ length-map feeds left in
-    let same : rows ≡ model_rows plan read.texts
+    let same : rows ≡ valued_rows plan read.texts
     = collected ∙ ap (flat_map (rows_by (formulas_of_plan plan))) read.sent ∙ sent_rows plan.grid (formulas_of_plan plan) 0 read.texts in
     record {
       texts = read.texts;
@@ -58,6 +60,7 @@ pub repeat_refused : (plan : PlanParts) (lefts : List (Option (List ℕ))) (Fail
     (rows : List Valued) (r : Refusal)
     → Compiles plan lefts sents rows → IsRepeat rows r → IsNotCompiled plan lefts Failed r
 repeat_refused plan lefts Failed sents rows (Same first again) m h =
-    record { texts = m.texts; given = m.given; refused = (m.no_fault, subst (λ rs. IsRepeat rs (Same first again)) m.rows_are h) }
+    let repeats = subst (λ rs. RepeatsFirst rs first again) m.rows_are h in
+    record { texts = m.texts; given = m.given; refused = (m.no_fault, first_repeat plan m.texts first again repeats) }
 repeat_refused plan lefts Failed sents rows OutOfMemory m h = tt
 repeat_refused plan lefts Failed sents rows other m h = absurd h

@@ -3,6 +3,7 @@ pub mod Collected
 pub mod Compiles
 pub mod HandedOn
 pub mod OneMoreSink
+pub mod PlainRows
 pub mod Readers
 pub mod RowFacts
 pub mod RunFacts

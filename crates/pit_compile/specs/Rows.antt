@@ -1,33 +1,33 @@
--- The rows of the zone files, valued, what their readers send, and the first fault among the files.
-use Rattle.std.specs.Prelude.{ℕ, ◌+◌, List, [], ◌∷◌, ◌++◌, length, nat_lt, Option, Some, None, if◌then◌else◌}
+-- The rows of the zone files, what their readers send, and the first fault among the files.
+use Rattle.std.specs.Prelude.{ℕ, ◌+◌, List, [], ◌∷◌, ◌++◌, length, map, nat_lt, Option, Some, None, if◌then◌else◌}
 use Rattle.std.specs.Option.{option_map, option_or}
 use Rattle.lane.specs.Message.{sent_from}
 use Rattle.lane.specs.declared.message.Taken.{Taken}
-use Rattle.pit_parts.specs.PlanFormulas.{formulas_of_plan}
 use Rattle.pit_parts.specs.Plan.{PlanParts}
 use Rattle.pit_parts.specs.declared.block.Block.{Block}
-use Rattle.pit_parts.specs.declared.formulas.formula.Formula.{Formula}
 use Rattle.pit_parts.specs.declared.grid.Grid.{Grid}
 use Rattle.run_threads.specs.MostBytes.{most_bytes}
-use Rattle.rows.specs.Valued.{row_by}
-use Rattle.rows.specs.declared.item.Valued.{Valued}
 use Rattle.zone_csv.specs.Zone.{blocks_of, fault_of}
 use Rattle.pit_compile.specs.declared.refusal.Refusal.{Refusal}
 use Rattle.pit_compile.specs.declared.refusal.Refusal.TheVariants.{TooLong, Row}
+use Rattle.pit_compile.specs.declared.refusal.RowAt.{RowAt}
 
--- the rows of these blocks of a file, the first of them at place n, each with its worth by each formula
-abbrev pub rows_from : List Block → List Formula → ℕ → ℕ → List Valued
-rows_from [] formulas file n = []
-rows_from (b ∷ blocks) formulas file n = row_by formulas file n b ∷ rows_from blocks formulas file (n + 1)
+-- the rows of these blocks of a file: each with the number of the file and of its record, from this one on
+abbrev pub rows_from : List Block → ℕ → ℕ → List (RowAt × Block)
+rows_from [] file row = []
+rows_from (b ∷ blocks) file row = (record { file = file; row = row }, b) ∷ rows_from blocks file (row + 1)
 
--- the rows of these zone files, the first of them being file n, one file after the other
-abbrev pub rows_in : List (List ℕ) → Grid → List Formula → ℕ → List Valued
-rows_in [] grid formulas n = []
-rows_in (text ∷ texts) grid formulas n = rows_from (blocks_of grid n text) formulas n 0 ++ rows_in texts grid formulas (n + 1)
+-- the rows of these zone files, the first of them being file n, one file after the other. The header is record 1
+abbrev pub rows_in : List (List ℕ) → Grid → ℕ → List (RowAt × Block)
+rows_in [] grid n = []
+rows_in (text ∷ texts) grid n = rows_from (blocks_of grid n text) n 2 ++ rows_in texts grid (n + 1)
 
--- all rows of a model
-abbrev pub model_rows : PlanParts → List (List ℕ) → List Valued
-model_rows plan texts = rows_in texts plan.grid (formulas_of_plan plan) 0
+-- all rows of a model, and their blocks
+abbrev pub model_rows : PlanParts → List (List ℕ) → List (RowAt × Block)
+model_rows plan texts = rows_in texts plan.grid 0
+
+abbrev pub model_blocks : PlanParts → List (List ℕ) → List Block
+model_blocks plan texts = map (λ row. row.1) (model_rows plan texts)
 
 -- what each of these zone files sends into the lane, the first of them being file n: its rows, and then its end mark
 abbrev pub files_send : ℕ → Grid → List (List ℕ) → List (List Taken)

@@ -1,10 +1,10 @@
 -- The verdict on the zone files of a plan.
-use Rattle.std.specs.Prelude.{◌≡◌, ℕ, ◌+◌, ◌<◌, List, length, Some, None, false, slice_index_or}
-use Rattle.precedence.specs.Identifier.{blocks_of_rows, is_same_place, IsFirstAgain}
+use Rattle.std.specs.Prelude.{◌≡◌, ℕ, ◌<◌, List, length, map, Some, None, false, slice_get, slice_index_or}
+use Rattle.std.specs.Option.{option_map}
+use Rattle.precedence.specs.Identifier.{is_same_place, IsFirstAgain}
 use Rattle.pit_parts.specs.Plan.{PlanParts}
 use Rattle.pit_parts.specs.declared.block.Block.{Block}
-use Rattle.rows.specs.declared.item.Valued.{Valued}
-use Rattle.pit_compile.specs.Rows.{model_rows, fault_in}
+use Rattle.pit_compile.specs.Rows.{model_blocks, model_rows, fault_in}
 use Rattle.pit_compile.specs.declared.refusal.Refusal.{Refusal}
 use Rattle.pit_compile.specs.declared.refusal.Refusal.TheVariants.{TooLong, Row, Same}
 use Rattle.pit_compile.specs.declared.refusal.RowAt.{RowAt}
@@ -17,20 +17,15 @@ AreApart blocks = (i j : ℕ) (d : Block) → i < j → j < length blocks
 -- accepted: no file has a fault, and no block stands twice
 pub record IsAccepted (plan : PlanParts) (texts : List (List ℕ)) : Type 0 where
   pub no_fault : fault_in texts plan.grid 0 ≡ None
-  pub apart : AreApart (blocks_of_rows (model_rows plan texts))
-
--- this is the row at a position of the list: its file, and its place with the header and the count from 1
-abbrev pub IsRowAt : List Valued → ℕ → RowAt → Type 0
-IsRowAt rows i at = (d : Valued) → i < length rows → (at.file ≡ (slice_index_or rows i d).file)
-    × (at.row ≡ (slice_index_or rows i d).place + 2)
+  pub apart : AreApart (model_blocks plan texts)
 
 -- the first row that repeats an earlier one, and that one
-pub record IsFirstRepeat (rows : List Valued) (first again : RowAt) : Type 0 where
+pub record IsFirstRepeat (rows : List (RowAt × Block)) (first again : RowAt) : Type 0 where
   pub earlier : ℕ
   pub later : ℕ
-  pub repeats : IsFirstAgain (blocks_of_rows rows) earlier later
-  pub first_row : IsRowAt rows earlier first
-  pub again_row : IsRowAt rows later again
+  pub repeats : IsFirstAgain (map (λ row. row.1) rows) earlier later
+  pub first_row : option_map (λ row. row.0) (slice_get rows earlier) ≡ Some first
+  pub again_row : option_map (λ row. row.0) (slice_get rows later) ≡ Some again
 
 -- refused: the fault of the least file that has one; or, where none has, the first repetition
 abbrev pub IsRefusedBy : PlanParts → List (List ℕ) → Refusal → Type 0

@@ -5,8 +5,7 @@ use Rattle.lane.specs.Whole.{GatheredView, IsWhole}
 use Rattle.mine_instance.specs.OfModel.{instance}
 use Rattle.mine_instance.specs.Instance.{Instance}
 use Rattle.pit_parts.specs.Plan.{PlanParts}
-use Rattle.precedence.specs.Identifier.{blocks_of_rows}
-use Rattle.pit_compile.specs.Rows.{model_rows, model_sends, fault_in}
+use Rattle.pit_compile.specs.Rows.{model_blocks, model_sends, fault_in}
 use Rattle.pit_compile.specs.Verdict.{IsRefusedBy}
 use Rattle.pit_compile.specs.declared.refusal.Refusal.{Refusal}
 
@@ -16,7 +15,7 @@ AreGiven lefts texts = AllZip (λ left text. IfSome left (λ bytes. text ≡ byt
 
 -- the instance of a plan and these zone files
 abbrev pub instance_from : PlanParts → List (List ℕ) → Instance
-instance_from plan texts = instance plan (blocks_of_rows (model_rows plan texts))
+instance_from plan texts = instance plan (model_blocks plan texts)
 
 -- what went through the lane of this capacity: of each zone file its rows and its end mark, whole, to so many valuers
 pub record HasPassed (plan : PlanParts) (texts : List (List ℕ)) (valuers capacity : ℕ) (g : GatheredView) : Type 0 where

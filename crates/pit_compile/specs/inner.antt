@@ -3,3 +3,4 @@ pub mod ModelRows
 pub mod ReadAnswers
 pub mod Repeats
 pub mod SinkWriting
+pub mod ValuedRows

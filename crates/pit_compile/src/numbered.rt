@@ -5,7 +5,7 @@ ghost use Rattle.precedence.specs.Identifier.{blocks_of_rows};
 ghost use Rattle.precedence.specs.Numbering.{IsNumbering};
 ghost use Rattle.pit_compile.specs.inner.ModelRows.{HasPlace};
 ghost use Rattle.pit_compile.specs.inner.Repeats.{IsRepeat};
-ghost use Rattle.pit_compile.specs.Verdict.{IsRowAt};
+ghost use Rattle.pit_compile.specs.inner.ValuedRows.{IsValuedAt};
 ghost use Rattle.pit_parts.specs.declared.ranges.TheConstants.{MAX_BLOCKS};
 
 use crate::refusal::{Refusal, RowAt};
@@ -40,7 +40,7 @@ pub fn numbered(alloc: Global, rows: &RowLists) -> Result<Numbering, Refusal>
 fn row_at(rows: &RowLists, position: u32) -> RowAt
     requires there { position < length rows.now }
     requires placed { All HasPlace rows.now }
-    ensures { IsRowAt rows.now position result }
+    ensures { IsValuedAt rows.now position result }
 {
     let row = rows.at(position as usize);
     RowAt {

@@ -3,11 +3,11 @@ use Rattle.std.specs.Prelude.{List}
 use Rattle.rows.specs.declared.item.Valued.{Valued}
 use Rattle.pit_compile.specs.declared.refusal.Refusal.{Refusal}
 use Rattle.pit_compile.specs.declared.refusal.Refusal.TheVariants.{Settings, NoThread, FeedFailed, TooLong, Row, Same, SinkFailed, OutOfMemory}
-use Rattle.pit_compile.specs.Verdict.{IsFirstRepeat}
+use Rattle.pit_compile.specs.inner.ValuedRows.{RepeatsFirst}
 
 -- the refusal names the first repetition; of memory nothing is known
 abbrev pub IsRepeat : List Valued → Refusal → Type 0
-IsRepeat rows (Same first again) = IsFirstRepeat rows first again
+IsRepeat rows (Same first again) = RepeatsFirst rows first again
 IsRepeat rows OutOfMemory = Unit {0}
 IsRepeat rows (Settings kind) = ⊥
 IsRepeat rows NoThread = ⊥

@@ -4,7 +4,6 @@ use Rattle.lane.specs.MessageKinds.{row_count}
 use Rattle.lane.specs.declared.message.Taken.{Taken}
 use Rattle.mine_instance.specs.OfModel.{instance}
 use Rattle.precedence.specs.Identifier.{blocks_of_rows}
-use Rattle.rows.specs.declared.item.Valued.{Valued}
 use Rattle.run_threads.specs.Refusing.{HasFailed}
 use Rattle.pit_compile.specs.inner.ReadAnswers.{refusal_in}
 use Rattle.pit_compile.specs.Compiling.{IsNotCompiled}
@@ -12,6 +11,7 @@ use Rattle.pit_compile.specs.Verdict.{AreApart}
 use Rattle.pit_compile.specs.declared.refusal.Refusal.TheVariants.{Settings}
 use Rattle.pit_compile.specs.declared.settings.SettingsFault.{SettingsFault}
 use Rattle.pit_compile.proofs.Compiles.{Compiles, compiles, repeat_refused}
+use Rattle.pit_compile.proofs.PlainRows.{blocks_are}
 use Rattle.pit_compile.proofs.Readers.{all_read, as_many, not_read}
 use Rattle.pit_compile.proofs.RowFacts.{AreZoneFiles, few_sents}
 use Rattle.pit_compile.proofs.StartsFacts.{read_behind, repeat_behind}
@@ -97,14 +97,14 @@ pub returns-clause-done : goal.returns-clause-done
 returns-clause-done g c =
     let plan = c.args.plan.now in
     let made = model g (goal.at.returns-clause-done g c).In_ok-rows in
-    let built = c.in_ok-instance.ensures.value ∙ ap (λ (rows : List Valued). instance plan (blocks_of_rows rows)) made.rows_are in
+    let blocks = ap blocks_of_rows made.rows_are ∙ blocks_are plan made.texts in
     record {
       texts = made.texts;
       given = made.given;
       accepted = record {
         no_fault = made.no_fault;
-        apart = subst (λ (rows : List Valued). AreApart (blocks_of_rows rows)) made.rows_are c.in_ok-instance.ensures.apart;
+        apart = subst AreApart blocks c.in_ok-instance.ensures.apart;
       };
       passed = record { sent = made.sent; takers = refl; capacity_is = refl; whole = c.requires.whole };
-      instance_is = built;
+      instance_is = c.in_ok-instance.ensures.value ∙ ap (instance plan) blocks;
     }
