@@ -3,15 +3,16 @@ use Rattle.std.proofs.Common.{◌≡◌, ℕ, suc, zero, ◌+◌, ◌<◌, ◌�
 use Rattle.std.specs.List.{All, flat_map, slice_get}
 use Rattle.std.specs.Option.{option_and_then, option_map}
 use Rattle.std.proofs.lemmas.Bool.{cond-true, cond-false, cases_eq, eq-eqb}
-use Rattle.std.proofs.lemmas.List.{take_more}
+use Rattle.std.proofs.lemmas.List.{length-map, take_more}
 use Rattle.std.proofs.lemmas.List.Elements.{All-append, All-cons, All-nil, All-tail}
-use Rattle.std.proofs.lemmas.Option.{get_or_from_slice_get, none-some, same_Some, slice_get-get_or, slice_get_within}
+use Rattle.std.proofs.lemmas.Option.{get_or_from_slice_get, none-some, same_Some, slice_get-get_or, slice_get-map, slice_get_within}
 use Rattle.collector.specs.Complete.{Fits}
 use Rattle.collector.specs.inner.Places.{spots_in, IsPut, IsPutAs, IsPlaced, AreFew}
 use Rattle.collector.specs.inner.WithAt.{with_at}
 use Rattle.collector.proofs.Slots.{eqb-other}
 use Rattle.collector.proofs.WithAt.{get-kept, get-put, length-put}
-use Rattle.rows.specs.Packed.{mark_of, row_in, row_of, row_on}
+use Rattle.rows.specs.ItemsView.{PackedView}
+use Rattle.rows.specs.Packed.{items_in, mark_of, row_in, row_of, row_on}
 use Rattle.rows.specs.declared.item.Item.{Item}
 use Rattle.rows.specs.declared.item.Item.TheVariants.{Row, End}
 use Rattle.rows.specs.declared.item.Valued.{Valued}
@@ -84,10 +85,16 @@ pub marked : (o : Option Item) (m : Mark) → option_map mark_of o ≡ Some m �
 marked None m e = absurd (none-some m e)
 marked (Some item) m e = (item, refl, same_Some (mark_of item) m e)
 
+pub items-long : (lists : List PackedView) → length (items_in lists) ≡ length lists
+items-long lists = length-map lists (λ (list : PackedView). list.items)
+
 -- a list that was read
-pub read-list : (lists : List (List Item)) (l : ℕ) (items : List Item) → l < length lists → items ≡ get_or lists l items → items ≡ get_or lists l []
-read-list lists l items within is =
-    is ∙ same_Some _ _ (sym (slice_get-get_or lists l items within) ∙ slice_get-get_or lists l [] within)
+pub read-list : (lists : List PackedView) (l : ℕ) (list : PackedView) → l < length lists → list ≡ get_or lists l list
+    → list.items ≡ get_or (items_in lists) l []
+read-list lists l list within is =
+    let there : slice_get lists l ≡ Some list = slice_get-get_or lists l list within ∙ ap Some (sym is) in
+    sym (get_or_from_slice_get (items_in lists) l list.items []
+    (slice_get-map (λ (list : PackedView). list.items) lists l ∙ ap (option_map (λ (list : PackedView). list.items)) there))
 
 -- the row at a position of one of the lists
 pub on-list : (lists : List (List Item)) (l p : ℕ) (s : Spot) (item : Item) → s.list ≡ l → s.position ≡ p → l < length lists

@@ -5,7 +5,7 @@ ghost use Rattle.std.specs.List.{flat_map};
 ghost use Rattle.collector.specs.Complete.{Fits, IsComplete};
 ghost use Rattle.collector.specs.Lists.{AreRows};
 ghost use Rattle.collector.specs.inner.Places.{AreFew, IsOfFile, IsPlaced, IsPut, IsPutAs};
-ghost use Rattle.rows.specs.Packed.{mark_of};
+ghost use Rattle.rows.specs.Packed.{items_in, mark_of};
 ghost use Rattle.rows.specs.declared.item.Item.{Item as AnItem};
 
 use crate::places::Places;
@@ -16,8 +16,8 @@ use std::alloc::{AllocError, Global};
 /// complete. The rows are not copied. Fails only where memory is refused.
 pub fn in_order(alloc: Global, files: u8, lists: Vec<PackedItems>) -> Result<RowLists, AllocError>
     requires few { length lists.items ≤ 256 }
-    requires complete { IsComplete files (flat_map (λ list. list) lists.items) }
-    ensures { IfOk result (AreRows files (flat_map (λ list. list) lists.items)) }
+    requires complete { IsComplete files (flat_map (λ list. list) (items_in lists.items)) }
+    ensures { IfOk result (AreRows files (flat_map (λ list. list) (items_in lists.items))) }
 {
     let mut places = no_places(alloc, files)?;
     put_lists(&mut places, &lists)?;
@@ -39,11 +39,11 @@ fn no_places(alloc: Global, files: u8) -> Result<Vec<Places<Spot>>, AllocError>
 // Puts the rows of all lists at their places.
 fn put_lists(places: &mut [Places<Spot>], lists: &[PackedItems]) -> Result<(), AllocError>
     requires few { length lists.now ≤ 256 }
-    requires files { All (λ item. IsOfFile (length places.old) (mark_of item)) (flat_map (λ list. list) lists.now) }
+    requires files { All (λ item. IsOfFile (length places.old) (mark_of item)) (flat_map (λ list. list) (items_in lists.now)) }
     ensures placed { OnOk result
-        (All (IsPlaced lists.now places.new) (flat_map (λ list. list) lists.now)) }
+        (All (IsPlaced (items_in lists.now) places.new) (flat_map (λ list. list) (items_in lists.now))) }
     ensures few { (files : ℕ) (counts : ℕ → ℕ)
-        → All (Fits files counts) (flat_map (λ list. list) lists.now) → AreFew counts places.old
+        → All (Fits files counts) (flat_map (λ list. list) (items_in lists.now)) → AreFew counts places.old
         → OnOk result (AreFew counts places.new) }
     ensures count { length places.new ≡ length places.old }
 {
@@ -56,13 +56,13 @@ fn put_lists(places: &mut [Places<Spot>], lists: &[PackedItems]) -> Result<(), A
 // Puts the rows of a list at their places. What stood at a place is still a row of that place.
 fn put_list(places: &mut [Places<Spot>], lists: &[PackedItems], list: u8) -> Result<(), AllocError>
     requires there { list < length lists.now }
-    requires files { All (λ item. IsOfFile (length places.old) (mark_of item)) (slice_index_or lists.now list []) }
+    requires files { All (λ item. IsOfFile (length places.old) (mark_of item)) (slice_index_or (items_in lists.now) list []) }
     ensures placed { OnOk result
-        (All (IsPlaced lists.now places.new) (slice_index_or lists.now list [])) }
-    ensures kept { (item : AnItem) → IsPlaced lists.now places.old item
-        → OnOk result (IsPlaced lists.now places.new item) }
+        (All (IsPlaced (items_in lists.now) places.new) (slice_index_or (items_in lists.now) list [])) }
+    ensures kept { (item : AnItem) → IsPlaced (items_in lists.now) places.old item
+        → OnOk result (IsPlaced (items_in lists.now) places.new item) }
     ensures few { (files : ℕ) (counts : ℕ → ℕ)
-        → All (Fits files counts) (slice_index_or lists.now list []) → AreFew counts places.old
+        → All (Fits files counts) (slice_index_or (items_in lists.now) list []) → AreFew counts places.old
         → OnOk result (AreFew counts places.new) }
     ensures count { length places.new ≡ length places.old }
 {

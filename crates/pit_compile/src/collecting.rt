@@ -5,6 +5,7 @@ ghost use Rattle.std.specs.List.{flat_map};
 ghost use Rattle.lane.specs.MessageKinds.{row_count};
 ghost use Rattle.lane.specs.Whole.{IsWhole};
 ghost use Rattle.pit_parts.specs.PlanFormulas.{formulas_of_plan};
+ghost use Rattle.rows.specs.Packed.{items_in};
 ghost use Rattle.valuers.specs.Valuing.{items_by, rows_by};
 ghost use Rattle.pit_parts.specs.declared.ranges.TheConstants.{MAX_ROWS, MAX_VALUERS};
 
@@ -27,7 +28,7 @@ pub(crate) fn collect(
     requires takers { length _gathered.now.took ≤ MAX_VALUERS }
     requires files { length _gathered.now.sent ≡ length plan.now.cones }
     requires few { All (λ sent. row_count sent ≤ MAX_ROWS) _gathered.now.sent }
-    requires handed { items.items ≡ map (items_by (formulas_of_plan plan.now)) _gathered.now.took }
+    requires handed { items_in items.items ≡ map (items_by (formulas_of_plan plan.now)) _gathered.now.took }
     ensures { IfOk result (λ rows.
         rows ≡ flat_map (rows_by (formulas_of_plan plan.now)) _gathered.now.sent) }
 {

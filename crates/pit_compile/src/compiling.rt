@@ -15,6 +15,7 @@ ghost use Rattle.pit_parts.specs.declared.ranges.TheConstants.{MAX_VALUERS, MAX_
 ghost use Rattle.run_threads.specs.Reading.{AreRead};
 ghost use Rattle.run_threads.specs.Refusing.{HasFailed};
 ghost use Rattle.run_threads.specs.Starts.{none_spent, AreSettled, AreSpent};
+ghost use Rattle.rows.specs.Packed.{items_in};
 ghost use Rattle.valuers.specs.Valuing.{items_by};
 
 use crate::collecting::collect;
@@ -163,7 +164,7 @@ fn compiled_of<F: Feed>(
     requires read { AreRead F.left F.is_sure F.failures plan.now.grid 0 _feeds.value.items
         handed.answers.items handed.gathered.sent }
     requires valued { IsFalse handed.memory
-        → handed.items.items ≡ map (items_by (formulas_of_plan plan.now)) handed.gathered.took }
+        → items_in handed.items.items ≡ map (items_by (formulas_of_plan plan.now)) handed.gathered.took }
 
     // What is compiled.
     ensures done { IfOk result

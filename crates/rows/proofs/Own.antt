@@ -6,7 +6,8 @@ use Rattle.std.proofs.lemmas.Bool.{false≢true}
 use Rattle.std.proofs.lemmas.List.{append-nil}
 use Rattle.std.proofs.lemmas.List.Elements.{All-cons, All-nil, All-tail}
 use Rattle.std.proofs.lemmas.Option.{none-some, same_Some, slice_get_within}
-use Rattle.rows.specs.Packed.{row_in, row_of, row_on, HasRow}
+use Rattle.rows.specs.ItemsView.{PackedView}
+use Rattle.rows.specs.Packed.{items_in, row_in, row_of, row_on, HasRow}
 use Rattle.rows.specs.declared.packed.entry.Entry.{Entry}
 use Rattle.rows.specs.declared.packed.entry.Entry.TheVariants.{Row, End}
 use Rattle.rows.specs.declared.item.Item.{Item}
@@ -34,8 +35,8 @@ has-worths width ws es whole position row is =
     (found.0, omega (arith, room, whole))
 
 -- once no list is to come
-pub all-zipped : (lists rest : List (List Item)) (all : List PackedWorths)
-    → ((more : List PackedWorths) → AllZip HasWorths rest more → AllZip HasWorths lists (all ++ more)) → length rest ≡ 0
+pub all-zipped : (lists : List (List Item)) (rest : List PackedView) (all : List PackedWorths)
+    → ((more : List PackedWorths) → AllZip HasWorths (items_in rest) more → AllZip HasWorths lists (all ++ more)) → length rest ≡ 0
     → AllZip HasWorths lists all
 all-zipped lists [] all come none = subst (λ (ws : List PackedWorths). AllZip HasWorths lists ws) (append-nil all) (come [] tt)
 all-zipped lists (x ∷ rest) all come none = absurd (omega (arith, none))

@@ -1,4 +1,4 @@
+pub mod ItemsView
 pub mod Packed
-pub mod PackingView
 pub mod Valued
 pub mod inner

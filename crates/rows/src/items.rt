@@ -14,7 +14,7 @@ pub struct Items {
 
 impl Model for Items {
     ghost use Rattle.std.specs.Prelude.{◌-◌, vec_len, vec_capacity};
-    ghost use Rattle.rows.specs.PackingView.{ItemsView};
+    ghost use Rattle.rows.specs.ItemsView.{ItemsView};
 
     ghost Value = { ItemsView };
 

@@ -17,7 +17,6 @@ pub use items::Items;
 pub use keeps::Keeps;
 pub use mark::Mark;
 pub use packed::items::PackedItems;
-pub use packed::packing::Packing;
 pub use row_lists::RowLists;
 pub use row_worths::RowWorths;
 pub use spot::Spot;

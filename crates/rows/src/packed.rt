@@ -2,5 +2,4 @@
 
 pub mod entry;
 pub mod items;
-pub mod packing;
 pub mod worths;

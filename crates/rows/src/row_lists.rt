@@ -4,7 +4,7 @@ ghost use Rattle.std.specs.Prelude.{◌≡◌, ◌^◌, ◌<◌, ◌≤◌, All,
 ghost use Rattle.std.specs.List.{range_with_len, AllZip};
 ghost use Rattle.std.specs.Option.{option_map};
 ghost use Rattle.pit_parts.specs.declared.ranges.TheConstants.{MAX_DESTINATIONS};
-ghost use Rattle.rows.specs.Packed.{row_on, AreWorths, HasRow};
+ghost use Rattle.rows.specs.Packed.{items_in, row_on, AreWorths, HasRow};
 ghost use Rattle.rows.specs.declared.item.Item.TheVariants.{Row};
 ghost use Rattle.rows.specs.inner.Own.{HasWorths};
 ghost use Rattle.rows.specs.inner.Spots.{first_spot};
@@ -12,7 +12,6 @@ ghost use Rattle.rows.specs.inner.Spots.{first_spot};
 use crate::item::{Item, Valued};
 use crate::keeps::Keeps;
 use crate::packed::items::PackedItems;
-use crate::packed::packing::Packing;
 use crate::packed::worths::PackedWorths;
 use crate::row_worths::RowWorths;
 use crate::spot::Spot;
@@ -30,21 +29,21 @@ pub struct RowLists {
 
 impl Model for RowLists {
     ghost use Rattle.std.specs.Prelude.{List, All, filter_map};
-    ghost use Rattle.rows.specs.Packed.{row_on, HasRow};
+    ghost use Rattle.rows.specs.Packed.{items_in, row_on, HasRow};
     ghost use Rattle.rows.specs.declared.item.Valued.{Valued};
 
     ghost Value = { List Valued };
 
-    ghost view = { λ r. filter_map (row_on r.lists.items) r.spots.items };
+    ghost view = { λ r. filter_map (row_on (items_in r.lists.items)) r.spots.items };
 
-    ghost invariant = { λ r. All (HasRow r.lists.items) r.spots.items };
+    ghost invariant = { λ r. All (HasRow (items_in r.lists.items)) r.spots.items };
 }
 
 impl RowLists {
     /// The rows at these spots of the lists, which are not copied.
     pub fn new(lists: Vec<PackedItems>, spots: Vec<Spot>) -> RowLists
-        requires { All (HasRow lists.items) spots.items }
-        ensures { result ≡ filter_map (row_on lists.items) spots.items }
+        requires { All (HasRow (items_in lists.items)) spots.items }
+        ensures { result ≡ filter_map (row_on (items_in lists.items)) spots.items }
     {
         RowLists { lists, spots }
     }
@@ -102,13 +101,13 @@ impl RowLists {
 fn packed(alloc: Global, rows: &[Valued], width: usize) -> Result<PackedItems, AllocError>
     requires width { (1 ≤ width) × (width ≤ MAX_DESTINATIONS) }
     requires worths { All (λ row. AreWorths width row.worths) rows.now }
-    ensures { IfOk result (λ items. items ≡ map Row rows.now) }
+    ensures { IfOk result (λ list. list.items ≡ map Row rows.now) }
 {
-    let mut packing = Packing::new(alloc, width);
+    let mut items = PackedItems::new(alloc, width);
     for row in rows {
-        packing.keep(Item::Row(*row))?;
+        items.keep(Item::Row(*row))?;
     }
-    Ok(PackedItems::new(packing))
+    Ok(items)
 }
 
 // The first spots of a list, so many of them.
@@ -123,8 +122,8 @@ fn first_spots(alloc: Global, count: u32) -> Result<Vec<Spot>, AllocError>
 }
 
 fn row_on(lists: &[PackedItems], spot: Spot) -> Valued
-    requires { HasRow lists.now spot }
-    ensures { Some result ≡ row_on lists.now spot }
+    requires { HasRow (items_in lists.now) spot }
+    ensures { Some result ≡ row_on (items_in lists.now) spot }
 {
     match lists[spot.list as usize].at(spot.position as usize) {
         Item::Row(row) => row,
@@ -133,8 +132,8 @@ fn row_on(lists: &[PackedItems], spot: Spot) -> Valued
 }
 
 fn block_on(lists: &[PackedItems], spot: Spot) -> Block
-    requires { HasRow lists.now spot }
-    ensures { Some result ≡ option_map (λ row. row.block) (row_on lists.now spot) }
+    requires { HasRow (items_in lists.now) spot }
+    ensures { Some result ≡ option_map (λ row. row.block) (row_on (items_in lists.now) spot) }
 {
     lists[spot.list as usize]
         .block_at(spot.position as usize)
@@ -143,7 +142,7 @@ fn block_on(lists: &[PackedItems], spot: Spot) -> Block
 
 // The worths of each of these lists of items, which are given up.
 fn worths_of(alloc: Global, lists: Vec<PackedItems>) -> Result<Vec<PackedWorths>, AllocError>
-    ensures { IfOk result (λ worths. AllZip HasWorths lists.items worths.items) }
+    ensures { IfOk result (λ worths. AllZip HasWorths (items_in lists.items) worths.items) }
 {
     let mut worths = Vec::with_capacity(alloc, lists.len())?;
     for items in lists {

@@ -10,7 +10,8 @@ use Rattle.lane.specs.MessageKinds.{is_done}
 use Rattle.pit_parts.specs.PlanFormulas.{formulas_of_plan}
 use Rattle.pit_parts.specs.Plan.{PlanParts}
 use Rattle.valuers.specs.Valuing.{items_by}
-use Rattle.rows.specs.declared.item.Item.{Item}
+use Rattle.rows.specs.ItemsView.{PackedView}
+use Rattle.rows.specs.Packed.{items_in}
 use Rattle.valuers.specs.declared.valuer.ValuerResult.{ValuerResult as ResultBy}
 use Rattle.run_threads.specs.inner.Promises.{KeepsRead, KeepsValued, AreUnsentFrom, IsPartly}
 use Rattle.run_threads.specs.Reading.{AreRead}
@@ -80,12 +81,12 @@ module _ {H F : Type 0} (left : F → Option (List ℕ)) (is_sure : F → Bool) 
   read_of k n _ _ kept plans ends = absurd kept
 
 abbrev ValuerResult : Type 0
-ValuerResult = ResultBy (List Item)
+ValuerResult = ResultBy PackedView
 
 -- the valuers of one plan
 module _ {H : Type 0} (plan : H → PlanParts) (end : H → TakeEndView) (p : PlanParts) (lane : Lane) (takers : ℕ) where
   abbrev KeptValues : H → ValuerResult → Type 0
-  KeptValues h r = KeepsValued (formulas_of_plan (plan h)) (end h) r.taker r.items r.memory
+  KeptValues h r = KeepsValued (formulas_of_plan (plan h)) (end h) r.taker r.items.items r.memory
 
   pub takes_of : (k n : ℕ) → k + n ≡ takers → (hs : List H) (rs : List ValuerResult) → AllZip KeptValues hs rs
       → map end hs ≡ first_takes lane k n
@@ -111,16 +112,16 @@ module _ {H : Type 0} (plan : H → PlanParts) (end : H → TakeEndView) (p : Pl
 
   pub valued_of : (k n : ℕ) (hs : List H) (rs : List ValuerResult) → AllZip KeptValues hs rs → All (λ h. plan h ≡ p) hs
       → map end hs ≡ first_takes lane k n
-      → list_any (λ r. r.memory) rs ≡ false → map (λ r. r.items) rs ≡ map (items_by (formulas_of_plan p))
+      → list_any (λ r. r.memory) rs ≡ false → items_in (map (λ r. r.items) rs) ≡ map (items_by (formulas_of_plan p))
       (map (λ (t : TakeEndView). t.took) (map (λ r. r.taker) rs))
   valued_of k n [] [] kept plans ends fine = refl
   valued_of k zero (h ∷ hs) (r ∷ rs) kept plans ends fine = absurd (let l = ap length ends in let z : ⊥ = omega arith in z)
   valued_of k (suc n) (h ∷ hs) (r ∷ rs) kept plans ends fine =
       let Same : H → Type 0 = λ w. plan w ≡ p in
       let fresh : (end h).took ≡ [] = ap (λ l. (get_or l 0 (end h)).took) ends in
-      let here : r.items ≡ items_by (formulas_of_plan p) r.taker.took =
+      let here : r.items.items ≡ items_by (formulas_of_plan p) r.taker.took =
       rw (fresh, All-head Same h hs plans) at kept.0.2 (or_parts r.memory _ fine).0 in
-      let rest : map (λ r. r.items) rs ≡ map (items_by (formulas_of_plan p)) (map (λ (t : TakeEndView). t.took) (map (λ r. r.taker) rs)) =
+      let rest : items_in (map (λ r. r.items) rs) ≡ map (items_by (formulas_of_plan p)) (map (λ (t : TakeEndView). t.took) (map (λ r. r.taker) rs)) =
       valued_of (k + 1) n hs rs kept.1 (All-rest Same h hs (h ∷ hs) refl plans) (ap (drop 1) ends) (or_parts r.memory _ fine).1 in
-      ap (λ w. w ∷ map (λ r. r.items) rs) here ∙ ap (λ w. items_by (formulas_of_plan p) r.taker.took ∷ w) rest
+      ap (λ w. w ∷ items_in (map (λ r. r.items) rs)) here ∙ ap (λ w. items_by (formulas_of_plan p) r.taker.took ∷ w) rest
   valued_of k n _ _ kept plans ends fine = absurd kept

@@ -8,6 +8,7 @@ ghost use Rattle.run_threads.specs.inner.HandingOver.{IsHandedOver};
 ghost use Rattle.run_threads.specs.Reading.{AreRead};
 ghost use Rattle.run_threads.specs.Starts.{none_spent, AreSettled, AreShort, AreSpent, AreTooFew};
 ghost use Rattle.pit_units.specs.declared.or_memory.OrMemory.TheVariants.{Fault};
+ghost use Rattle.rows.specs.Packed.{items_in};
 ghost use Rattle.valuers.specs.Valuing.{items_by};
 ghost use Rattle.pit_parts.specs.declared.ranges.TheConstants.{MAX_CAPACITY, MAX_VALUERS};
 
@@ -97,7 +98,7 @@ pub fn hand_over<R: Threads + Wait + Sync, F: Feed + Send + Drop, G: Gate + Sync
         AreRead F.left F.is_sure F.failures plan.now.grid 0 feeds.items
         handed.answers.items handed.gathered.sent) }
     ensures valued { IfOk result (λ handed. IsFalse handed.memory
-        → handed.items.items ≡ map (items_by (formulas_of_plan plan.now)) handed.gathered.took) }
+        → items_in handed.items.items ≡ map (items_by (formulas_of_plan plan.now)) handed.gathered.took) }
 
     // How many threads there were, and how long the lane was.
     ensures takers { IfOk result (λ handed. length handed.gathered.took ≡ allowance.valuers) }

@@ -39,7 +39,7 @@ impl Promise<ValuerResult<PackedItems>> for ValuedBy {
     ghost use Rattle.run_threads.specs.inner.Promises.{KeepsValued};
 
     ghost kept_by = { λ p r. KeepsValued (formulas_of_plan p.plan.value) p.end.value
-        r.taker r.items r.memory };
+        r.taker r.items.items r.memory };
 }
 
 // A valuer ends by the mark that it is sent.

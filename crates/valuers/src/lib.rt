@@ -8,6 +8,6 @@ mod valuer;
 mod valuing;
 
 pub use gate::{Gate, OpenGate};
-pub use rows::{Item, Items, PackedItems, Packing, RowLists, Rows, Valued, Worths};
+pub use rows::{Item, Items, PackedItems, RowLists, Rows, Valued, Worths};
 pub use valuer::{ValuerResult, value_all, value_packed};
 pub use valuing::worths_of;

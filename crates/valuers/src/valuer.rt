@@ -3,7 +3,7 @@
 ghost use Rattle.std.specs.Prelude.{◌≡◌, ◌≤◌, ◌++◌, true, [], ◌∷◌, length, take, drop, OnOk, OnErr, IsFalse, IsTrue};
 ghost use Rattle.lane.specs.MessageKinds.{is_done};
 ghost use Rattle.pit_parts.specs.Destinations.{formulas_of};
-ghost use Rattle.rows.specs.PackingView.{IsFull, IsFullFor};
+ghost use Rattle.rows.specs.ItemsView.{IsFull, IsFullFor};
 ghost use Rattle.valuers.specs.Valuing.{items_by, WereAsked, WerePassed};
 ghost use Rattle.pit_parts.specs.declared.ranges.TheConstants.{MAX_DESTINATIONS};
 
@@ -12,7 +12,7 @@ use crate::valuing::worths_of;
 use lane::{TakeEnd, Taken};
 use pit_parts::block::Block;
 use pit_parts::formulas::destination::{Destination, Valuer};
-use rows::{Item, Items, Keeps, PackedItems, Packing, Valued};
+use rows::{Item, Items, Keeps, PackedItems, Valued};
 use std::alloc::{AllocError, Global};
 use std::sync::Wait;
 
@@ -84,7 +84,7 @@ pub fn value_packed<R: Wait, G: Gate>(
     valuer: u8,
     destinations: &[Destination],
     gate: &G,
-) -> ValuerResult<Packing<Global>>
+) -> ValuerResult<PackedItems>
     // Of 1 to 8 destinations.
     requires some { 1 ≤ length destinations.now }
     requires few { length destinations.now ≤ MAX_DESTINATIONS }
@@ -111,26 +111,12 @@ pub fn value_packed<R: Wait, G: Gate>(
     ensures asked { WereAsked ⟦<Valuer as Fn(Block) -> i128>⟧.post destinations.now
         result.items.items }
 {
-    let items = Packing::new(alloc, destinations.len());
+    let items = PackedItems::new(alloc, destinations.len());
     let (taker, items, memory) = take_all(rt, take_end, valuer, destinations, gate, items);
     ValuerResult {
         taker,
         items,
         memory,
-    }
-}
-
-impl ValuerResult<Packing<Global>> {
-    /// The same, with the items alone.
-    pub fn packed(self) -> ValuerResult<PackedItems>
-        ensures { result
-            ≡ record { taker = self.taker; items = self.items.items; memory = self.memory } }
-    {
-        ValuerResult {
-            taker: self.taker,
-            items: PackedItems::new(self.items),
-            memory: self.memory,
-        }
     }
 }
 

@@ -1,77 +1,156 @@
 //! Items without the room that a row does not use.
 
-ghost use Rattle.std.specs.Prelude.{◌≡◌, ◌<◌, Some, length, slice_get};
+ghost use Rattle.std.specs.Prelude.{◌≡◌, ◌+◌, ◌<◌, ◌≤◌, ◌++◌, [], All, Some, length, slice_get, vec_len, vec_capacity};
 ghost use Rattle.std.specs.Option.{option_map};
-ghost use Rattle.rows.specs.Packed.{mark_of, row_of};
+ghost use Rattle.pit_parts.specs.formulas.Worth.{IsWorth};
+ghost use Rattle.pit_parts.specs.declared.ranges.TheConstants.{MAX_DESTINATIONS};
+ghost use Rattle.rows.specs.Packed.{mark_of, row_of, IsOfWidth};
+ghost use Rattle.rows.specs.ItemsView.{IsFullFor};
+ghost use Rattle.rows.specs.inner.Entries.{kept_worths};
 ghost use Rattle.rows.specs.inner.Own.{HasWorths};
 
 use crate::item::Item;
+use crate::keeps::Keeps;
+use crate::long_lists::make_room_for;
 use crate::mark::Mark;
-use crate::packed::packing::Packing;
-use crate::packed::worths::PackedWorths;
+use crate::packed::entry::Entry;
+use crate::packed::worths::{PackedWorths, own_worths};
 use pit_parts::block::Block;
-use std::alloc::Global;
+use std::alloc::{AllocError, Allocator, Global};
 use std::marker::Model;
 
-/// What one valuer hands on, packed. In memory an item takes 32 bytes, and 8 for each worth that a row has. Contracts see the
-/// list of items, as of `Items`.
+/// Items as a valuer packs them, without the room that a row does not use. In memory an item takes 32 bytes, and 8 for each worth that a
+/// row has. Contracts see the list of them, for how many more items and worths there is room, and how many worths a row has.
 #[derive(Debug, Drop)]
-pub struct PackedItems {
-    packing: Packing<Global>,
+pub struct PackedItems<A: Allocator = Global> {
+    entries: Vec<Entry, A>,
+    // of each entry as many, those of one after those of the one before it: zeros for an end mark
+    worths: Vec<i64, A>,
+    width: usize,
 }
 
-impl Model for PackedItems {
-    ghost use Rattle.std.specs.Prelude.{List};
-    ghost use Rattle.rows.specs.declared.item.Item.{Item as AnItem};
+impl<A: Allocator> Model for PackedItems<A> {
+    ghost use Rattle.std.specs.Prelude.{◌≡◌, ◌*◌, ◌-◌, ◌≤◌, vec_len, vec_capacity, length};
+    ghost use Rattle.pit_parts.specs.declared.ranges.TheConstants.{MAX_DESTINATIONS};
+    ghost use Rattle.rows.specs.ItemsView.{PackedView};
+    ghost use Rattle.rows.specs.inner.Entries.{items_of};
 
-    ghost Value = { List AnItem };
+    ghost Value = { PackedView };
 
-    ghost view = { λ p. p.packing.items };
+    ghost view = { λ p. record {
+      items = items_of p.width p.worths.items p.entries.items;
+      room = vec_capacity p.entries - vec_len p.entries;
+      worths_room = vec_capacity p.worths - vec_len p.worths;
+      width = p.width;
+    } };
+
+    ghost invariant = { λ p. (length p.worths.items ≡ length p.entries.items * p.width)
+        × (1 ≤ p.width) × (p.width ≤ MAX_DESTINATIONS) };
 }
 
-impl PackedItems {
-    /// These items, in their order.
-    pub fn new(packing: Packing<Global>) -> PackedItems
-        ensures { result ≡ packing.items }
+impl<A: Allocator + Copy> PackedItems<A> {
+    /// No items, for rows of so many worths.
+    pub fn new(alloc: A, width: usize) -> PackedItems<A>
+        requires some { 1 ≤ width }
+        requires few { width ≤ MAX_DESTINATIONS }
+        ensures items { result.items ≡ [] }
+        ensures width { result.width ≡ width }
     {
-        PackedItems { packing }
+        PackedItems {
+            entries: Vec::new(alloc),
+            worths: Vec::new(alloc),
+            width,
+        }
     }
+}
 
+impl<A: Allocator> PackedItems<A> {
     /// The number of items.
+    #[tactic(auto, using(crate::proofs::Entries::entries))]
     pub fn len(&self) -> usize
-        ensures { result ≡ length self.now }
+        ensures { result ≡ length self.now.items }
     {
-        self.packing.len()
+        self.entries.len()
     }
 
     /// The item at a position, from 0.
+    #[tactic(auto, using(crate::proofs::Entries::entries))]
     pub fn at(&self, position: usize) -> Item
-        requires { position < length self.now }
-        ensures { slice_get self.now position ≡ Some result }
+        requires { position < length self.now.items }
+        ensures { slice_get self.now.items position ≡ Some result }
     {
-        self.packing.at(position)
+        let own = own_worths(&self.worths, position, self.width);
+        self.entries[position].item(own)
     }
 
     /// Which item stands at a position, from 0.
+    #[tactic(auto, using(crate::proofs::Entries::entries))]
     pub fn mark_at(&self, position: usize) -> Mark
-        requires { position < length self.now }
-        ensures { option_map mark_of (slice_get self.now position) ≡ Some result }
+        requires { position < length self.now.items }
+        ensures { option_map mark_of (slice_get self.now.items position) ≡ Some result }
     {
-        self.packing.mark_at(position)
+        self.entries[position].mark()
     }
 
     /// The block of the row at a position, from 0, or `None` where no row stands there.
+    #[tactic(auto, using(crate::proofs::Entries::entries))]
     pub fn block_at(&self, position: usize) -> Option<Block>
-        requires { position < length self.now }
-        ensures { result ≡ option_map (λ row. row.block) (row_of self.now position) }
+        requires { position < length self.now.items }
+        ensures { result ≡ option_map (λ row. row.block) (row_of self.now.items position) }
     {
-        self.packing.block_at(position)
+        self.entries[position].block()
     }
+}
 
+impl PackedItems {
     // The worths of the items, which are given up.
     pub(crate) fn into_worths(self) -> PackedWorths
-        ensures { HasWorths self result }
+        ensures { HasWorths self.items result }
     {
-        self.packing.into_worths()
+        PackedWorths {
+            worths: self.worths,
+            width: self.width,
+        }
+    }
+}
+
+impl<A: Allocator> Keeps for PackedItems<A> {
+    ghost held = { λ list. list.items };
+
+    ghost is_for = { λ list width. list.width ≡ width };
+
+    ghost is_full = { λ list width. IsFullFor width list };
+
+    fn keep(&mut self, item: Item) -> Result<(), AllocError> {
+        make_room_for(&mut self.entries, 1)?;
+        make_room_for(&mut self.worths, self.width)?;
+        put_worths(&mut self.worths, &item, self.width);
+        self.entries.push(Entry::new(&item)).unwrap();
+        Ok(())
+    }
+}
+
+// Appends what is kept as the worths of an item.
+fn put_worths<A: Allocator>(worths: &mut Vec<i64, A>, item: &Item, width: usize)
+    requires room { vec_len worths.old + width ≤ vec_capacity worths.old }
+    requires fits { IsOfWidth width item.now }
+    ensures { worths.new.items ≡ worths.old.items ++ kept_worths width item.now }
+{
+    match item {
+        Item::Row(row) => put_cents(worths, row.worths.as_slice()),
+        Item::End { .. } => {
+            let end = worths.len() + width;
+            worths.resize(end, 0).unwrap();
+        }
+    }
+}
+
+fn put_cents<A: Allocator>(worths: &mut Vec<i64, A>, cents: &[i128])
+    requires room { vec_len worths.old + length cents.now ≤ vec_capacity worths.old }
+    requires fits { All IsWorth cents.now }
+    ensures { worths.new.items ≡ worths.old.items ++ cents.now }
+{
+    for worth in cents {
+        worths.push(*worth as i64).unwrap();
     }
 }

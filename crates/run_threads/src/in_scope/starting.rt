@@ -149,8 +149,8 @@ fn start_valuer<'s, E, T, R: Wait + Sync, G: Gate + Sync>(
             ensures done { is_done result.taker.took ≡ true }
             ensures items { let took = drop (length end.took) result.taker.took in
                 IsFalse result.memory
-                → result.items ≡ items_by (formulas_of destinations.entry.now) took }
-        { value_packed(rt, alloc, end, valuer, destinations, gate).packed() },
+                → result.items.items ≡ items_by (formulas_of destinations.entry.now) took }
+        { value_packed(rt, alloc, end, valuer, destinations, gate) },
     )
 }
 

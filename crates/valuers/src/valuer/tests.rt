@@ -203,7 +203,7 @@ fn take_into_heap<R: Wait>(
 {
     let heap = LocalHeap::new(alloc, bytes)?;
     if packed {
-        let items = Packing::new(&heap, destinations.len());
+        let items = PackedItems::new(&heap, destinations.len());
         let (take, items, memory) = take_all(rt, take, 0, destinations, &OpenGate, items);
         return Ok((take, items.len(), memory));
     }

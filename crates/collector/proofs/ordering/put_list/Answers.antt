@@ -5,8 +5,8 @@ use Rattle.std.proofs.lemmas.List.Elements.{All-weaker}
 use Rattle.std.proofs.lemmas.Option.{get_or_from_slice_get, slice_get_within}
 use Rattle.collector.specs.Complete.{Fits}
 use Rattle.collector.specs.inner.Places.{IsPlaced, IsPutAs}
-use Rattle.collector.proofs.Placing.{all-next, item-few, item-kept, item-placed, marked, on-list, read-list}
-use Rattle.rows.specs.Packed.{mark_of}
+use Rattle.collector.proofs.Placing.{all-next, item-few, item-kept, item-placed, items-long, marked, on-list, read-list}
+use Rattle.rows.specs.Packed.{items_in, mark_of}
 use Rattle.rows.specs.declared.mark.Mark.{Mark}
 use Rattle.rows.specs.declared.spot.Spot.{Spot}
 use Rattle.rows.specs.declared.item.Item.{Item}
@@ -14,10 +14,10 @@ use Rattle.collector.proofs.ordering.put_list.Goals as goal
 
 pub loop-position-preserved : goal.loop-position-preserved
 loop-position-preserved c =
-    let lists = c.args.lists.now in
+    let lists = items_in c.args.lists.now in
     let items = slice_index_or lists c.args.list [] in
     let i = c.loop-position.position in
-    let read = read-list lists c.args.list c.index-lists-list.result c.requires.there c.index-lists-list.is in
+    let read = read-list c.args.lists.now c.args.list c.index-lists-list.result c.requires.there c.index-lists-list.is in
     let there = marked (slice_get items i) c.mark_at-mark.result
     (ap (λ (xs : List Item). option_map mark_of (slice_get xs i)) (sym read) ∙ c.mark_at-mark.ensures) in
     let old = c.loop-position.places in
@@ -27,7 +27,7 @@ loop-position-preserved c =
     let same : c.in_ok-position.position ≡ i = search rules in
     let put : IsPutAs c.mark_at-mark.result spot old new = search rules in
     let as_item = subst (λ (m : Mark). IsPutAs m spot old new) (sym there.2) put in
-    let row = on-list lists c.args.list i spot there.0 refl same c.requires.there there.1 in
+    let row = on-list lists c.args.list i spot there.0 refl same (omega (arith, c.requires.there, items-long c.args.lists.now)) there.1 in
     let kept = item-kept lists old new spot there.0 row as_item in
     record {
       placed = all-next (IsPlaced lists new) items i there.0 there.1 (item-placed lists old new spot there.0 row as_item)
@@ -42,8 +42,8 @@ loop-position-preserved c =
 
 pub returns-clause-placed : goal.returns-clause-placed
 returns-clause-placed c =
-    let items = slice_index_or c.args.lists.now c.args.list [] in
+    let items = slice_index_or (items_in c.args.lists.now) c.args.list [] in
     let read = read-list c.args.lists.now c.args.list c.index-lists-list.result c.requires.there c.index-lists-list.is in
     let whole : take c.loop-position.position items ≡ items
     = take_all c.loop-position.position items (omega (arith, c.loop-position-test.false, c.len-position-end.ensures, ap length read)) in
-    subst (λ (xs : List Item). All (IsPlaced c.args.lists.now c.loop-position.places) xs) whole c.loop-position.invariant.placed
+    subst (λ (xs : List Item). All (IsPlaced (items_in c.args.lists.now) c.loop-position.places) xs) whole c.loop-position.invariant.placed

@@ -1,22 +1,23 @@
-use Rattle.std.proofs.Common.{rules, ◌≡◌, ⊎_elim, arith, length, [], slice_index_or, subst, sym, All, ℕ}
+use Rattle.std.proofs.Common.{rules, ◌≡◌, ◌<◌, ⊎_elim, arith, length, [], slice_index_or, subst, sym, All, ℕ}
 use Rattle.std.proofs.lemmas.Bool.{cases_lt}
 use Rattle.std.proofs.lemmas.List.Elements.{All-weaker}
 use Rattle.collector.specs.Complete.{Fits}
 use Rattle.collector.specs.inner.Places.{IsOfFile, IsPlaced}
-use Rattle.collector.proofs.Placing.{all-lists, all-of-list}
-use Rattle.rows.specs.Packed.{mark_of}
+use Rattle.collector.proofs.Placing.{all-lists, all-of-list, items-long}
+use Rattle.rows.specs.Packed.{items_in, mark_of}
 use Rattle.rows.specs.declared.item.Item.{Item}
 use Rattle.collector.proofs.ordering.put_lists.Goals as goal
 
 pub put_list-requires-clause-files : goal.put_list-requires-clause-files
 put_list-requires-clause-files c =
     let OfFile : ℕ → Item → Type 0 = λ files item. IsOfFile files (mark_of item) in
-    subst (λ (files : ℕ). All (OfFile files) (slice_index_or c.args.lists.now c.loop-list.list [])) (sym c.loop-list.invariant.count)
-    (all-of-list (OfFile (length c.args.places.now)) c.args.lists.now c.loop-list.list c.requires.files (search rules))
+    subst (λ (files : ℕ). All (OfFile files) (slice_index_or (items_in c.args.lists.now) c.loop-list.list [])) (sym c.loop-list.invariant.count)
+    (all-of-list (OfFile (length c.args.places.now)) (items_in c.args.lists.now) c.loop-list.list c.requires.files
+    (omega (arith, c.loop-list-test.true, items-long c.args.lists.now)))
 
 pub loop-list-preserved : goal.loop-list-preserved
 loop-list-preserved c =
-    let lists = c.args.lists.now in
+    let lists = items_in c.args.lists.now in
     let old = c.loop-list.places in
     let new = c.put_list.new.places in
     let before = c.loop-list.invariant in
@@ -30,11 +31,14 @@ loop-list-preserved c =
           (cases_lt i c.loop-list.list);
       few = λ files counts fit few.
           c.in_ok-put_list.ensures.few files counts
-          (all-of-list (Fits files counts) lists c.loop-list.list fit (search rules)) (before.few files counts fit few);
+          (all-of-list (Fits files counts) lists c.loop-list.list fit
+          (omega (arith, c.loop-list-test.true, items-long c.args.lists.now))) (before.few files counts fit few);
       count = search rules;
     }
 
 pub returns-clause-placed : goal.returns-clause-placed
 returns-clause-placed c =
-    all-lists (IsPlaced c.args.lists.now c.loop-list.places) c.args.lists.now
-    (λ i within. c.loop-list.invariant.placed i (search rules))
+    all-lists (IsPlaced (items_in c.args.lists.now) c.loop-list.places) (items_in c.args.lists.now)
+    (λ i within.
+    let below : i < length c.args.lists.now = omega (arith, within, items-long c.args.lists.now) in
+    c.loop-list.invariant.placed i (search rules))

@@ -1,6 +1,8 @@
 use Rattle.std.proofs.Common.{◌∙◌, arith, sym, ap, length}
 use Rattle.std.proofs.lemmas.List.{length-map}
 use Rattle.pit_compile.proofs.Collected.{FoundIsHeld, to-order, collected}
+use Rattle.rows.specs.ItemsView.{PackedView}
+use Rattle.rows.specs.Packed.{items_in}
 use Rattle.pit_compile.proofs.collecting.collect.Goals as goal
 use Rattle.pit_parts.specs.PlanFormulas.{formulas_of_plan}
 use Rattle.valuers.specs.Valuing.{items_by}
@@ -9,10 +11,10 @@ pub in_order-requires : goal.in_order-requires
 in_order-requires c =
     let given = c.requires in
     let fs = formulas_of_plan c.args.plan.now in
-    let lists = ap length given.handed ∙ length-map c.args._gathered.now.took (items_by fs) in
+    let lists = sym (length-map c.args.items.items (λ (list : PackedView). list.items)) ∙ ap length given.handed ∙ length-map c.args._gathered.now.took (items_by fs) in
     record {
       few = omega (arith, lists, given.takers);
-      complete = to-order fs c.args._gathered.now c.args.items.items _ given.whole given.few given.handed
+      complete = to-order fs c.args._gathered.now (items_in c.args.items.items) _ given.whole given.few given.handed
           (given.files ∙ ap length (sym c.cones.ensures.value));
     }
 
@@ -20,5 +22,5 @@ pub returns : goal.returns
 returns c =
     let given = c.requires in
     let found : FoundIsHeld = record { row = c.found_is_held.ensures.row; end = c.found_is_held.ensures.end } in
-    collected found (formulas_of_plan c.args.plan.now) c.args._gathered.now c.args.items.items _ _ given.whole given.handed
+    collected found (formulas_of_plan c.args.plan.now) c.args._gathered.now (items_in c.args.items.items) _ _ given.whole given.handed
     (given.files ∙ ap length (sym c.cones.ensures.value)) c.in_ok-in_order.ensures

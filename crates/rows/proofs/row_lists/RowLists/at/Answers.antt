@@ -1,10 +1,10 @@
 use Rattle.std.proofs.Common.{◌∙◌, sym}
-use Rattle.rows.specs.Packed.{row_on}
+use Rattle.rows.specs.Packed.{items_in, row_on}
 use Rattle.rows.proofs.Found.{found_there}
 use Rattle.rows.proofs.row_lists.RowLists.at.Goals as goal
 
 pub returns : goal.returns
 returns c =
-    let row = found_there (row_on c.self.inside.lists.items) c.self.inside.spots.items c.args.self.now c.args.position c.index-spot.result.now
+    let row = found_there (row_on (items_in c.self.inside.lists.items)) c.self.inside.spots.items c.args.self.now c.args.position c.index-spot.result.now
     c.self.invariant c.self.view_is c.requires c.index-spot.ensures in
     row ∙ sym (rw c.deref.ensures.value at c.row_on.ensures)

@@ -8,7 +8,7 @@ pub record ItemsView : Type 0 where
   pub room : ℕ
 
 -- packed: the items, for how many more items and how many more worths there is room, and how many worths each row has
-pub record PackingView : Type 0 where
+pub record PackedView : Type 0 where
   pub items : List Item
   pub room : ℕ
   pub worths_room : ℕ
@@ -19,5 +19,5 @@ abbrev pub IsFull : ItemsView → Type 0
 IsFull list = list.room ≡ 0
 
 -- the packed list has no room for one more item of so many worths
-abbrev pub IsFullFor : ℕ → PackingView → Type 0
+abbrev pub IsFullFor : ℕ → PackedView → Type 0
 IsFullFor worths list = worths ≤ list.worths_room → list.room ≡ 0

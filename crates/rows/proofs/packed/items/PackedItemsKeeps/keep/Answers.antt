@@ -1,9 +1,9 @@
 use Rattle.std.proofs.Common.{rules, ◌≡◌, ◌∙◌, ◌++◌, ◌∷◌, [], ap}
 use Rattle.rows.specs.Packed.{IsOfWidth}
-use Rattle.rows.specs.PackingView.{PackingView}
+use Rattle.rows.specs.ItemsView.{PackedView}
 use Rattle.rows.specs.inner.Entries.{kept_worths}
 use Rattle.rows.proofs.Entries.{still_whole, one_more}
-use Rattle.rows.proofs.packed.packing.PackingKeeps.keep.Goals as goal
+use Rattle.rows.proofs.packed.items.PackedItemsKeeps.keep.Goals as goal
 
 pub invariant_of-self-2 : goal.invariant_of-self-2
 invariant_of-self-2 g c =
@@ -23,4 +23,4 @@ returns-clause-appended g c =
     let after : c.push.new.self.items ≡ c.self.inside.entries.items ++ c.new.result ∷ [] = search rules in
     one_more c.self.inside.width c.self.inside.worths.items _ c.self.inside.entries.items _ c.args.item c.new.result c.self.invariant.0
     fits later after (c.new.ensures c.self.inside.width)
-    ∙ ap (λ (v : PackingView). v.items ++ c.args.item ∷ []) c.self.view_is
+    ∙ ap (λ (v : PackedView). v.items ++ c.args.item ∷ []) c.self.view_is
