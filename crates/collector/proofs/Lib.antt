@@ -1,4 +1,5 @@
 pub mod Complete
+pub mod Few
 pub mod Finished
 pub mod Kept
 pub mod Ordered

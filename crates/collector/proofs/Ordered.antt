@@ -16,7 +16,7 @@ use Rattle.rows.specs.Packed.{row_in, row_of, row_on, HasRow}
 use Rattle.rows.specs.declared.item.Item.{Item}
 use Rattle.rows.specs.declared.item.Item.TheVariants.{Row, End}
 use Rattle.rows.specs.declared.item.Valued.{Valued}
-use Rattle.rows.specs.declared.spot.Spot.{Spot}
+use Rattle.rows.specs.SpotView.{SpotView}
 
 -- what is found for each element of a list, where something is found for each
 abbrev IsFound : {A B : Type 0} → (A → Option B) → A → Type 0
@@ -92,13 +92,13 @@ only-row (Row v ∷ items) file place w once (suc k, h, e) own =
     (cases_Bool (eqb v.file file && eqb v.place place))
 
 -- the list of a file
-list-at : {B : Type 0} (f : List Spot → List B) (places : List (List Spot)) (file : ℕ) (rows : List B) →
+list-at : {B : Type 0} (f : List SpotView → List B) (places : List (List SpotView)) (file : ℕ) (rows : List B) →
     slice_get (map f places) file ≡ Some rows → (file < length places) × (f (spots_in places file) ≡ rows)
 list-at f [] file rows got = absurd (none-some rows got)
 list-at f (s ∷ places) zero rows got = (omega arith, same_Some (f s) rows got)
 list-at f (s ∷ places) (suc file) rows got = let h = list-at f places file rows got in (omega (arith, h.0), h.1)
 
-all-files : (P : Spot → Type 0) (places : List (List Spot)) → ((file : ℕ) → file < length places → All P (spots_in places file)) →
+all-files : (P : SpotView → Type 0) (places : List (List SpotView)) → ((file : ℕ) → file < length places → All P (spots_in places file)) →
     All P (flat_map (λ spots. spots) places)
 all-files P [] each = All-nil P
 all-files P (spots ∷ places) each =
@@ -114,7 +114,7 @@ none-yet counts (suc n) zero = omega arith
 none-yet counts (suc n) (suc file) = none-yet (λ f. counts (suc f)) n file
 
 -- where all rows of a complete list were put at their places
-module _ (files : ℕ) (lists : List (List Item)) (places : List (List Spot)) (whole : IsComplete files (flat_map (λ list. list) lists))
+module _ (files : ℕ) (lists : List (List Item)) (places : List (List SpotView)) (whole : IsComplete files (flat_map (λ list. list) lists))
     (many : length places ≡ files) (placed : All (IsPlaced lists places) (flat_map (λ list. list) lists)) (few : AreFew whole.counts places) where
   abbrev pub items : List Item
   items = flat_map (λ list. list) lists
@@ -131,7 +131,7 @@ module _ (files : ℕ) (lists : List (List Item)) (places : List (List Spot)) (w
       some-value (row_at file place items) (full.2 place (omega arith))
 
   at-place : (file place : ℕ) → file < files → place < whole.counts file →
-      (s : Spot) × (slice_get (spots_in places file) place ≡ Some s) × (row_on lists s ≡ row_at file place items)
+      (s : SpotView) × (slice_get (spots_in places file) place ≡ Some s) × (row_on lists s ≡ row_at file place items)
   at-place file place within below =
       let v = row-there file place within below in
       let held = row-held items file place v.0 v.1 in
@@ -205,7 +205,7 @@ module _ (files : ℕ) (lists : List (List Item)) (places : List (List Spot)) (w
   )
 
 -- where they were put at places that were none, and the places, lent by their front, give the spots of all files
-pub in-order : (files : ℕ) (lists : List (List Item)) (begun places rest : List (List Spot)) (n : ℕ) (spots : List Spot)
+pub in-order : (files : ℕ) (lists : List (List Item)) (begun places rest : List (List SpotView)) (n : ℕ) (spots : List SpotView)
     (whole : IsComplete files (flat_map (λ list. list) lists)) → begun ≡ replicate files [] → length places ≡ length begun
     → All (IsPlaced lists places) (flat_map (λ list. list) lists)
     → ((counts : ℕ → ℕ) → All (Fits files counts) (flat_map (λ list. list) lists) → AreFew counts begun → AreFew counts places)
@@ -215,7 +215,7 @@ in-order files lists begun places rest n spots whole none count placed kept long
     let many : length places ≡ files = count ∙ ap length none ∙ length-replicate files [] in
     let few : AreFew whole.counts places = kept whole.counts whole.others (rw none (none-yet whole.counts files)) in
     let laid : spots ≡ flat_map (λ of_file. of_file) places
-    = lent ∙ ap (λ (ps : List (List Spot)). flat_map (λ of_file. of_file) ps) (front-all n places rest long) in (
-      subst (λ (xs : List Spot). All (HasRow lists) xs) (sym laid) (all-there files lists places whole many placed few),
+    = lent ∙ ap (λ (ps : List (List SpotView)). flat_map (λ of_file. of_file) ps) (front-all n places rest long) in (
+      subst (λ (xs : List SpotView). All (HasRow lists) xs) (sym laid) (all-there files lists places whole many placed few),
       are-rows files lists places whole many placed few (filter_map (row_on lists) spots) (ap (filter_map (row_on lists)) laid),
     )

@@ -17,16 +17,16 @@ use Rattle.rows.specs.declared.item.Item.{Item}
 use Rattle.rows.specs.declared.item.Item.TheVariants.{Row, End}
 use Rattle.rows.specs.declared.item.Valued.{Valued}
 use Rattle.rows.specs.declared.mark.Mark.{Mark}
-use Rattle.rows.specs.declared.spot.Spot.{Spot}
+use Rattle.rows.specs.SpotView.{SpotView}
 
 -- the row of a spot that is found
-pub spot-found : (lists : List (List Item)) (o : Option Spot) (w : Valued) → option_and_then (row_on lists) o ≡ Some w
-    → (s : Spot) × (o ≡ Some s) × (row_on lists s ≡ Some w)
+pub spot-found : (lists : List (List Item)) (o : Option SpotView) (w : Valued) → option_and_then (row_on lists) o ≡ Some w
+    → (s : SpotView) × (o ≡ Some s) × (row_on lists s ≡ Some w)
 spot-found lists None w e = absurd (none-some w e)
 spot-found lists (Some s) w e = (s, refl, e)
 
 -- one row more is put at its place
-module _ (lists : List (List Item)) (old new : List (List Spot)) (file place : ℕ) (s : Spot) (put : IsPut file place s old new) where
+module _ (lists : List (List Item)) (old new : List (List SpotView)) (file place : ℕ) (s : SpotView) (put : IsPut file place s old new) where
   own : spots_in new file ≡ with_at (spots_in old file) place s
   own = put file ∙ cond-true (eqb file file) _ _ (eq-eqb file file refl)
 
@@ -75,9 +75,9 @@ module _ (lists : List (List Item)) (old new : List (List Spot)) (file place : �
   pub put-few : (counts : ℕ → ℕ) → place < counts file → AreFew counts old → AreFew counts new
   put-few counts below few f =
       ⊎_elim (λ same. subst (λ (k : ℕ). length (spots_in new k) ≤ counts k) same
-      (subst (λ (xs : List Spot). length xs ≤ counts file) (sym own)
+      (subst (λ (xs : List SpotView). length xs ≤ counts file) (sym own)
       (length-put (spots_in old file) place (counts file) s (few file) below)))
-      (λ differs. subst (λ (xs : List Spot). length xs ≤ counts f) (sym (other-file f differs)) (few f))
+      (λ differs. subst (λ (xs : List SpotView). length xs ≤ counts f) (sym (other-file f differs)) (few f))
       (cases_eq file f)
 
 -- the item of a mark
@@ -97,7 +97,7 @@ read-list lists l list within is =
     (slice_get-map (λ (list : PackedView). list.items) lists l ∙ ap (option_map (λ (list : PackedView). list.items)) there))
 
 -- the row at a position of one of the lists
-pub on-list : (lists : List (List Item)) (l p : ℕ) (s : Spot) (item : Item) → s.list ≡ l → s.position ≡ p → l < length lists
+pub on-list : (lists : List (List Item)) (l p : ℕ) (s : SpotView) (item : Item) → s.list ≡ l → s.position ≡ p → l < length lists
     → slice_get (get_or lists l []) p ≡ Some item → row_on lists s ≡ row_in item
 on-list lists l p s item is_list is_position within at =
     (λ j. option_and_then (λ items. row_of items (is_position j)) (slice_get lists (is_list j)))
@@ -105,7 +105,7 @@ on-list lists l p s item is_list is_position within at =
     ∙ ap (option_and_then row_in) at
 
 -- the item is put as it is marked
-module _ (lists : List (List Item)) (old new : List (List Spot)) (s : Spot) where
+module _ (lists : List (List Item)) (old new : List (List SpotView)) (s : SpotView) where
   pub item-placed : (item : Item) → row_on lists s ≡ row_in item → IsPutAs (mark_of item) s old new → IsPlaced lists new item
   item-placed (Row v) at put = put-placed lists old new v.file v.place s put v at refl refl
   item-placed (End f n) at put = tt
@@ -120,7 +120,7 @@ module _ (lists : List (List Item)) (old new : List (List Spot)) (s : Spot) wher
   pub item-few : (files : ℕ) (counts : ℕ → ℕ) (item : Item) → Fits files counts item → IsPutAs (mark_of item) s old new
       → AreFew counts old → AreFew counts new
   item-few files counts (Row v) fits put few = put-few lists old new v.file v.place s put counts fits.1 few
-  item-few files counts (End f n) fits put few = λ file. subst (λ (xs : List Spot). length xs ≤ counts file) (sym (put file)) (few file)
+  item-few files counts (End f n) fits put few = λ file. subst (λ (xs : List SpotView). length xs ≤ counts file) (sym (put file)) (few file)
 
 -- one item more of a list
 pub all-next : (P : Item → Type 0) (items : List Item) (i : ℕ) (item : Item) → slice_get items i ≡ Some item → P item → All P (take i items)

@@ -6,7 +6,9 @@ ghost use Rattle.collector.specs.Complete.{Fits, IsComplete};
 ghost use Rattle.collector.specs.Lists.{AreRows};
 ghost use Rattle.collector.specs.inner.Places.{AreFew, IsOfFile, IsPlaced, IsPut, IsPutAs};
 ghost use Rattle.rows.specs.Packed.{items_in, mark_of};
+ghost use Rattle.pit_parts.specs.declared.ranges.TheConstants.{MAX_VALUERS, MAX_ZONES};
 ghost use Rattle.rows.specs.declared.item.Item.{Item as AnItem};
+ghost use Rattle.rows.specs.declared.spot.TheConstants.{LISTS, POSITIONS};
 
 use crate::places::Places;
 use rows::{Mark, PackedItems, RowLists, Spot};
@@ -15,7 +17,8 @@ use std::alloc::{AllocError, Global};
 /// The rows of the files 0 to `files` - 1, file after file and in each file in order of place, from lists of items that together are
 /// complete. The rows are not copied. Fails only where memory is refused.
 pub fn in_order(alloc: Global, files: u8, lists: Vec<PackedItems>) -> Result<RowLists, AllocError>
-    requires few { length lists.items ≤ 256 }
+    requires few { length lists.items ≤ MAX_VALUERS }
+    requires files { files ≤ MAX_ZONES }
     requires complete { IsComplete files (flat_map (λ list. list) (items_in lists.items)) }
     ensures { IfOk result (AreRows files (flat_map (λ list. list) (items_in lists.items))) }
 {
@@ -38,7 +41,8 @@ fn no_places(alloc: Global, files: u8) -> Result<Vec<Places<Spot>>, AllocError>
 
 // Puts the rows of all lists at their places.
 fn put_lists(places: &mut [Places<Spot>], lists: &[PackedItems]) -> Result<(), AllocError>
-    requires few { length lists.now ≤ 256 }
+    requires few { length lists.now ≤ MAX_VALUERS }
+    requires short { length (flat_map (λ list. list) (items_in lists.now)) ≤ POSITIONS }
     requires files { All (λ item. IsOfFile (length places.old) (mark_of item)) (flat_map (λ list. list) (items_in lists.now)) }
     ensures placed { OnOk result
         (All (IsPlaced (items_in lists.now) places.new) (flat_map (λ list. list) (items_in lists.now))) }
@@ -56,6 +60,8 @@ fn put_lists(places: &mut [Places<Spot>], lists: &[PackedItems]) -> Result<(), A
 // Puts the rows of a list at their places. What stood at a place is still a row of that place.
 fn put_list(places: &mut [Places<Spot>], lists: &[PackedItems], list: u8) -> Result<(), AllocError>
     requires there { list < length lists.now }
+    requires told { list < LISTS }
+    requires short { length (slice_index_or (items_in lists.now) list []) ≤ POSITIONS }
     requires files { All (λ item. IsOfFile (length places.old) (mark_of item)) (slice_index_or (items_in lists.now) list []) }
     ensures placed { OnOk result
         (All (IsPlaced (items_in lists.now) places.new) (slice_index_or (items_in lists.now) list [])) }
@@ -69,9 +75,7 @@ fn put_list(places: &mut [Places<Spot>], lists: &[PackedItems], list: u8) -> Res
     let items = &lists[list as usize];
     for position in 0..items.len() {
         let mark = items.mark_at(position);
-        // complete lists have at most 255 * 1,000,001 items, so that every position fits
-        let position = u32::try_from(position).map_err(|_| AllocError)?;
-        put_marked(places, mark, Spot { position, list })?;
+        put_marked(places, mark, Spot::new(list, position as u32))?;
     }
     Ok(())
 }

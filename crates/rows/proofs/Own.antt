@@ -13,7 +13,7 @@ use Rattle.rows.specs.declared.packed.entry.Entry.TheVariants.{Row, End}
 use Rattle.rows.specs.declared.item.Item.{Item}
 use Rattle.rows.specs.declared.item.Valued.{Valued}
 use Rattle.rows.specs.declared.packed.worths.PackedWorths.{PackedWorths}
-use Rattle.rows.specs.declared.spot.Spot.{Spot}
+use Rattle.rows.specs.SpotView.{SpotView}
 use Rattle.rows.specs.inner.Entries.{item_with, items_of}
 use Rattle.rows.specs.inner.Own.{own_at, own_on, HasOwn, HasWorths}
 use Rattle.rows.proofs.Entries.{item_at, own_within}
@@ -60,7 +60,7 @@ spot-row lists (Some items) p is = let row = some-row (row_of items p) is in (it
     some-row (Some row) e = (row, refl)
 
 module _ (lists : List (List Item)) (worths : List PackedWorths) (zip : AllZip HasWorths lists worths) where
-  at-spot : (s : Spot) → HasRow lists s → (row : Valued) × (row_on lists s ≡ Some row) × (own_on worths s ≡ row.worths) × HasOwn worths s
+  at-spot : (s : SpotView) → HasRow lists s → (row : Valued) × (row_on lists s ≡ Some row) × (own_on worths s ≡ row.worths) × HasOwn worths s
   at-spot s has =
       let found = spot-row lists (slice_get lists s.list) s.position has in
       let list = zip-at lists worths zip s.list found.0 found.2 in
@@ -71,12 +71,12 @@ module _ (lists : List (List Item)) (worths : List PackedWorths) (zip : AllZip H
         (list.0, list.1, own.1),
       )
 
-  pub own-all : (spots : List Spot) → All (HasRow lists) spots → All (HasOwn worths) spots
+  pub own-all : (spots : List SpotView) → All (HasRow lists) spots → All (HasOwn worths) spots
   own-all [] all = All-nil (HasOwn worths)
   own-all (s ∷ spots) all =
       All-cons (HasOwn worths) s spots (at-spot s (all 0 s (omega arith))).3 (own-all spots (All-tail (HasRow lists) s spots all))
 
-  pub same-worths : (spots : List Spot) → All (HasRow lists) spots
+  pub same-worths : (spots : List SpotView) → All (HasRow lists) spots
       → map (own_on worths) spots ≡ map (λ (row : Valued). row.worths) (filter_map (row_on lists) spots)
   same-worths [] all = refl
   same-worths (s ∷ spots) all =

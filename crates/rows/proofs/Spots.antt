@@ -5,7 +5,7 @@ use Rattle.std.proofs.lemmas.List.Elements.{All-cons, All-nil}
 use Rattle.rows.specs.Packed.{row_of, row_on, HasRow}
 use Rattle.rows.specs.declared.item.Item.TheVariants.{Row}
 use Rattle.rows.specs.declared.item.Valued.{Valued}
-use Rattle.rows.specs.declared.spot.Spot.{Spot}
+use Rattle.rows.specs.SpotView.{SpotView}
 use Rattle.rows.specs.inner.Spots.{first_spot}
 
 row-there : (rows : List Valued) (k : ℕ) → row_of (map Row rows) k ≡ slice_get rows k
@@ -14,7 +14,7 @@ row-there (row ∷ rows) zero = refl
 row-there (row ∷ rows) (suc k) = row-there rows k
 
 -- where something is found for each number, the list of what is found
-each-found : (f : Spot → Option Valued) (a : ℕ) (xs : List Valued)
+each-found : (f : SpotView → Option Valued) (a : ℕ) (xs : List Valued)
     → ((k : ℕ) (x : Valued) → slice_get xs k ≡ Some x → f (first_spot (a + k)) ≡ Some x)
     → (filter_map f (map first_spot (range_with_len a (length xs))) ≡ xs)
     × All (λ s. is_some (f s) ≡ true) (map first_spot (range_with_len a (length xs)))

@@ -1,4 +1,5 @@
 pub mod ItemsView
 pub mod Packed
+pub mod SpotView
 pub mod Valued
 pub mod inner

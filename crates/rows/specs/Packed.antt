@@ -8,7 +8,7 @@ use Rattle.rows.specs.declared.item.Item.TheVariants.{Row, End}
 use Rattle.rows.specs.declared.item.Valued.{Valued}
 use Rattle.rows.specs.declared.mark.Mark.{Mark}
 use Rattle.rows.specs.declared.mark.Mark.TheVariants as mark
-use Rattle.rows.specs.declared.spot.Spot.{Spot}
+use Rattle.rows.specs.SpotView.{SpotView}
 
 -- so many worths, each of them one that a formula can give
 abbrev pub AreWorths : ℕ → List ℤ → Type 0
@@ -38,9 +38,9 @@ abbrev pub row_of : List Item → ℕ → Option Valued
 row_of items position = option_and_then row_in (slice_get items position)
 
 -- the row at a spot of these lists, if a row stands there
-abbrev pub row_on : List (List Item) → Spot → Option Valued
+abbrev pub row_on : List (List Item) → SpotView → Option Valued
 row_on lists spot = option_and_then (λ items. row_of items spot.position) (slice_get lists spot.list)
 
 -- a row stands there
-abbrev pub HasRow : List (List Item) → Spot → Type 0
+abbrev pub HasRow : List (List Item) → SpotView → Type 0
 HasRow lists spot = is_some (row_on lists spot) ≡ true

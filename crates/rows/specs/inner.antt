@@ -1,4 +1,5 @@
 pub mod Entries
 pub mod Own
+pub mod SpotFields
 pub mod Spots
 pub mod WorthsFields

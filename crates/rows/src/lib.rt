@@ -19,5 +19,5 @@ pub use mark::Mark;
 pub use packed::items::PackedItems;
 pub use row_lists::RowLists;
 pub use row_worths::RowWorths;
-pub use spot::Spot;
+pub use spot::{LISTS, POSITIONS, Spot};
 pub use worths::{MAX_WORTHS, Worths};

@@ -1,13 +1,14 @@
 //! The rows of several files as one list.
 
-ghost use Rattle.std.specs.Prelude.{◌≡◌, ◌^◌, ◌<◌, ◌≤◌, All, Some, filter_map, length, map, slice_get, IfOk};
+ghost use Rattle.std.specs.Prelude.{◌≡◌, ◌<◌, ◌≤◌, All, Some, filter_map, length, map, slice_get, IfOk};
 ghost use Rattle.std.specs.List.{range_with_len, AllZip};
 ghost use Rattle.std.specs.Option.{option_map};
-ghost use Rattle.pit_parts.specs.declared.ranges.TheConstants.{MAX_DESTINATIONS};
+ghost use Rattle.pit_parts.specs.declared.ranges.TheConstants.{MAX_BLOCKS, MAX_DESTINATIONS};
 ghost use Rattle.rows.specs.Packed.{items_in, row_on, AreWorths, HasRow};
 ghost use Rattle.rows.specs.declared.item.Item.TheVariants.{Row};
 ghost use Rattle.rows.specs.inner.Own.{HasWorths};
 ghost use Rattle.rows.specs.inner.Spots.{first_spot};
+ghost use Rattle.rows.specs.declared.spot.TheConstants.{POSITIONS};
 
 use crate::item::{Item, Valued};
 use crate::keeps::Keeps;
@@ -19,7 +20,7 @@ use pit_parts::block::Block;
 use std::alloc::{AllocError, Global};
 use std::marker::Model;
 
-/// The rows of several files, where the valuers put them, and their order. The order takes 8 bytes a row. Contracts see one list: the
+/// The rows of several files, where the valuers put them, and their order. The order takes 4 bytes a row. Contracts see one list: the
 /// rows in this order.
 #[derive(Debug, Drop)]
 pub struct RowLists {
@@ -52,7 +53,7 @@ impl RowLists {
     pub fn of(alloc: Global, rows: &[Valued], width: usize) -> Result<RowLists, AllocError>
         requires width { (1 ≤ width) × (width ≤ MAX_DESTINATIONS) }
         requires worths { All (λ row. AreWorths width row.worths) rows.now }
-        requires few { length rows.now < 2 ^ 32 }
+        requires few { length rows.now ≤ MAX_BLOCKS }
         ensures { IfOk result (λ lists. lists ≡ rows.now) }
     {
         let mut lists = Vec::with_capacity(alloc, 1)?;
@@ -112,11 +113,12 @@ fn packed(alloc: Global, rows: &[Valued], width: usize) -> Result<PackedItems, A
 
 // The first spots of a list, so many of them.
 fn first_spots(alloc: Global, count: u32) -> Result<Vec<Spot>, AllocError>
+    requires { count ≤ POSITIONS }
     ensures { IfOk result (λ spots. spots.items ≡ map first_spot (range_with_len 0 count)) }
 {
     let mut spots = Vec::with_capacity(alloc, count as usize)?;
     for position in 0..count {
-        spots.push(Spot { position, list: 0 })?;
+        spots.push(Spot::new(0, position))?;
     }
     Ok(spots)
 }
@@ -125,7 +127,7 @@ fn row_on(lists: &[PackedItems], spot: Spot) -> Valued
     requires { HasRow (items_in lists.now) spot }
     ensures { Some result ≡ row_on (items_in lists.now) spot }
 {
-    match lists[spot.list as usize].at(spot.position as usize) {
+    match lists[spot.list()].at(spot.position()) {
         Item::Row(row) => row,
         Item::End { .. } => unreachable!(),
     }
@@ -135,9 +137,7 @@ fn block_on(lists: &[PackedItems], spot: Spot) -> Block
     requires { HasRow (items_in lists.now) spot }
     ensures { Some result ≡ option_map (λ row. row.block) (row_on (items_in lists.now) spot) }
 {
-    lists[spot.list as usize]
-        .block_at(spot.position as usize)
-        .unwrap()
+    lists[spot.list()].block_at(spot.position()).unwrap()
 }
 
 // The worths of each of these lists of items, which are given up.

@@ -7,7 +7,7 @@ use crate::packed::worths::PackedWorths;
 use crate::spot::Spot;
 use std::marker::Model;
 
-/// The worths of the rows of several files, where the valuers put them, and the order of the rows. In memory a row takes 8 bytes, and 8
+/// The worths of the rows of several files, where the valuers put them, and the order of the rows. In memory a row takes 4 bytes, and 8
 /// for each of its worths. Contracts see the list of each row's worths.
 #[derive(Debug, Drop)]
 pub struct RowWorths {
@@ -57,5 +57,5 @@ fn own_on(lists: &[PackedWorths], spot: Spot) -> &[i64]
     requires { HasOwn lists.now spot }
     ensures { result.now ≡ own_on lists.now spot }
 {
-    lists[spot.list as usize].at(spot.position as usize)
+    lists[spot.list()].at(spot.position())
 }

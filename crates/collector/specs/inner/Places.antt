@@ -8,26 +8,26 @@ use Rattle.rows.specs.declared.item.Item.TheVariants.{Row, End}
 use Rattle.rows.specs.declared.item.Valued.{Valued}
 use Rattle.rows.specs.declared.mark.Mark.{Mark}
 use Rattle.rows.specs.declared.mark.Mark.TheVariants as mark
-use Rattle.rows.specs.declared.spot.Spot.{Spot}
+use Rattle.rows.specs.SpotView.{SpotView}
 
 -- the spots of a file
-abbrev pub spots_in : List (List Spot) → ℕ → List Spot
+abbrev pub spots_in : List (List SpotView) → ℕ → List SpotView
 spots_in places file = unwrap_or (slice_get places file) []
 
 -- the file has the spot at the place, and all else is as before
-abbrev pub IsPut : ℕ → ℕ → Spot → List (List Spot) → List (List Spot) → Type 0
+abbrev pub IsPut : ℕ → ℕ → SpotView → List (List SpotView) → List (List SpotView) → Type 0
 IsPut file place spot old new =
     (other : ℕ) → spots_in new other ≡ (if file == other then with_at (spots_in old other) place spot else spots_in old other)
 
 -- at the place of the row stands a row of its file and place
-abbrev pub IsPlaced : List (List Item) → List (List Spot) → Item → Type 0
+abbrev pub IsPlaced : List (List Item) → List (List SpotView) → Item → Type 0
 IsPlaced lists places (Row v) =
     (w : Valued) × (option_and_then (row_on lists) (slice_get (spots_in places v.file) v.place) ≡ Some w)
     × (w.file ≡ v.file) × (w.place ≡ v.place)
 IsPlaced lists places (End file count) = Unit {0}
 
 -- the row that is marked so has the spot at its place, and all else is as before
-abbrev pub IsPutAs : Mark → Spot → List (List Spot) → List (List Spot) → Type 0
+abbrev pub IsPutAs : Mark → SpotView → List (List SpotView) → List (List SpotView) → Type 0
 IsPutAs (mark.Row file place) spot old new = IsPut file place spot old new
 IsPutAs (mark.End file count) spot old new = (other : ℕ) → spots_in new other ≡ spots_in old other
 
@@ -37,5 +37,5 @@ IsOfFile files (mark.Row file place) = file < files
 IsOfFile files (mark.End file count) = Unit {0}
 
 -- no file has more places than this
-abbrev pub AreFew : (ℕ → ℕ) → List (List Spot) → Type 0
+abbrev pub AreFew : (ℕ → ℕ) → List (List SpotView) → Type 0
 AreFew counts places = (file : ℕ) → length (spots_in places file) ≤ counts file

@@ -1,6 +1,6 @@
 -- Spots of one list of items.
 use Rattle.std.specs.Prelude.{ℕ}
-use Rattle.rows.specs.declared.spot.Spot.{Spot}
+use Rattle.rows.specs.SpotView.{SpotView}
 
-abbrev pub first_spot : ℕ → Spot
+abbrev pub first_spot : ℕ → SpotView
 first_spot position = record { position = position; list = 0 }

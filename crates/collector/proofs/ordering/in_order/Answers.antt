@@ -2,9 +2,15 @@ use Rattle.std.proofs.Common.{rules, ap, arith, length, List, sym, subst}
 use Rattle.std.specs.List.{flat_map}
 use Rattle.collector.specs.Lists.{AreRows}
 use Rattle.rows.specs.Packed.{items_in}
+use Rattle.collector.proofs.Few.{few-items}
 use Rattle.collector.proofs.Ordered.{in-order}
 use Rattle.rows.specs.declared.item.Valued.{Valued}
 use Rattle.collector.proofs.ordering.in_order.Goals as goal
+
+pub put_lists-requires-clause-short : goal.put_lists-requires-clause-short
+put_lists-requires-clause-short c =
+    let few = few-items c.args.files (flat_map (λ list. list) (items_in c.args.lists.items)) c.requires.complete in
+    rw c.deref.ensures.value (omega (arith, few, c.requires.files))
 
 pub new-requires : goal.new-requires
 new-requires c =

@@ -8,9 +8,14 @@ use Rattle.collector.specs.inner.Places.{IsPlaced, IsPutAs}
 use Rattle.collector.proofs.Placing.{all-next, item-few, item-kept, item-placed, items-long, marked, on-list, read-list}
 use Rattle.rows.specs.Packed.{items_in, mark_of}
 use Rattle.rows.specs.declared.mark.Mark.{Mark}
-use Rattle.rows.specs.declared.spot.Spot.{Spot}
+use Rattle.rows.specs.SpotView.{SpotView}
 use Rattle.rows.specs.declared.item.Item.{Item}
 use Rattle.collector.proofs.ordering.put_list.Goals as goal
+
+pub new-requires-clause-position : goal.new-requires-clause-position
+new-requires-clause-position c =
+    let read = read-list c.args.lists.now c.args.list c.index-lists-list.result c.requires.there c.index-lists-list.is in
+    omega (arith, c.loop-position-test.true, c.len-position-end.ensures, ap length read, c.requires.short)
 
 pub loop-position-preserved : goal.loop-position-preserved
 loop-position-preserved c =
@@ -23,11 +28,10 @@ loop-position-preserved c =
     let old = c.loop-position.places in
     let new = c.put_marked.new.places in
     let before = c.loop-position.invariant in
-    let spot : Spot = record { position = c.in_ok-position.position; list = c.args.list } in
-    let same : c.in_ok-position.position ≡ i = search rules in
+    let spot : SpotView = record { list = c.args.list; position = i } in
     let put : IsPutAs c.mark_at-mark.result spot old new = search rules in
     let as_item = subst (λ (m : Mark). IsPutAs m spot old new) (sym there.2) put in
-    let row = on-list lists c.args.list i spot there.0 refl same (omega (arith, c.requires.there, items-long c.args.lists.now)) there.1 in
+    let row = on-list lists c.args.list i spot there.0 refl refl (omega (arith, c.requires.there, items-long c.args.lists.now)) there.1 in
     let kept = item-kept lists old new spot there.0 row as_item in
     record {
       placed = all-next (IsPlaced lists new) items i there.0 there.1 (item-placed lists old new spot there.0 row as_item)

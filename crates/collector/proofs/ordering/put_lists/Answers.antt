@@ -3,6 +3,7 @@ use Rattle.std.proofs.lemmas.Bool.{cases_lt}
 use Rattle.std.proofs.lemmas.List.Elements.{All-weaker}
 use Rattle.collector.specs.Complete.{Fits}
 use Rattle.collector.specs.inner.Places.{IsOfFile, IsPlaced}
+use Rattle.collector.proofs.Few.{list-within}
 use Rattle.collector.proofs.Placing.{all-lists, all-of-list, items-long}
 use Rattle.rows.specs.Packed.{items_in, mark_of}
 use Rattle.rows.specs.declared.item.Item.{Item}
@@ -14,6 +15,9 @@ put_list-requires-clause-files c =
     subst (λ (files : ℕ). All (OfFile files) (slice_index_or (items_in c.args.lists.now) c.loop-list.list [])) (sym c.loop-list.invariant.count)
     (all-of-list (OfFile (length c.args.places.now)) (items_in c.args.lists.now) c.loop-list.list c.requires.files
     (omega (arith, c.loop-list-test.true, items-long c.args.lists.now)))
+
+pub put_list-requires-clause-short : goal.put_list-requires-clause-short
+put_list-requires-clause-short c = omega (arith, list-within (items_in c.args.lists.now) c.loop-list.list, c.requires.short)
 
 pub loop-list-preserved : goal.loop-list-preserved
 loop-list-preserved c =

@@ -14,6 +14,7 @@ in_order-requires c =
     let lists = sym (length-map c.args.items.items (λ (list : PackedView). list.items)) ∙ ap length given.handed ∙ length-map c.args._gathered.now.took (items_by fs) in
     record {
       few = omega (arith, lists, given.takers);
+      files = omega (arith, c.cones.ensures.kept.zones, ap length c.cones.ensures.value);
       complete = to-order fs c.args._gathered.now (items_in c.args.items.items) _ given.whole given.few given.handed
           (given.files ∙ ap length (sym c.cones.ensures.value));
     }

@@ -3,7 +3,7 @@ use Rattle.std.specs.List.{All, filter_map, range_with_len}
 use Rattle.rows.specs.Packed.{items_in, row_on, HasRow}
 use Rattle.rows.specs.declared.item.Item.{Item}
 use Rattle.rows.specs.declared.item.Item.TheVariants.{Row}
-use Rattle.rows.specs.declared.spot.Spot.{Spot}
+use Rattle.rows.specs.SpotView.{SpotView}
 use Rattle.rows.specs.inner.Spots.{first_spot}
 use Rattle.rows.proofs.Spots.{rows-back}
 use Rattle.rows.proofs.row_lists.RowLists.of.Goals as goal
@@ -15,7 +15,7 @@ new-requires c =
     let lists : items_in c.push.new.self.items ≡ map Row rows ∷ [] = ap items_in one ∙ ap (λ (xs : List Item). xs ∷ []) c.in_ok-packed.ensures in
     let spots : c.in_ok-first_spots.field-0.items ≡ map first_spot (range_with_len 0 (length rows)) = search rules in
     subst (λ (ls : List (List Item)). All (HasRow ls) c.in_ok-first_spots.field-0.items) (sym lists)
-    (subst (λ (ss : List Spot). All (HasRow (map Row rows ∷ [])) ss) (sym spots) (rows-back rows).1)
+    (subst (λ (ss : List SpotView). All (HasRow (map Row rows ∷ [])) ss) (sym spots) (rows-back rows).1)
 
 pub returns : goal.returns
 returns c =
@@ -25,5 +25,5 @@ returns c =
     let spots : c.in_ok-first_spots.field-0.items ≡ map first_spot (range_with_len 0 (length rows)) = search rules in
     c.new.ensures
     ∙ ap (λ (ls : List (List Item)). filter_map (row_on ls) c.in_ok-first_spots.field-0.items) lists
-    ∙ ap (λ (ss : List Spot). filter_map (row_on (map Row rows ∷ [])) ss) spots
+    ∙ ap (λ (ss : List SpotView). filter_map (row_on (map Row rows ∷ [])) ss) spots
     ∙ (rows-back rows).0

@@ -1,0 +1,15 @@
+-- How the number of a spot is seen as a list and a position, and back.
+use Rattle.std.specs.Prelude.{◌≡◌, ℕ, ◌+◌, ◌*◌, ◌/◌, ◌%◌}
+use Rattle.std.proofs.Math.Nat.{div-add-mod}
+use Rattle.rows.specs.SpotView.{SpotView}
+use Rattle.rows.specs.declared.spot.Spot.TheInside.{Inside}
+use Rattle.rows.specs.declared.spot.TheConstants.{POSITIONS}
+
+abbrev pub spot_in : Inside → SpotView
+spot_in s = record { list = s.number / POSITIONS; position = s.number % POSITIONS }
+
+abbrev pub number_of : SpotView → Inside
+number_of s = record { number = POSITIONS * s.list + s.position }
+
+pub number_back : (s : Inside) → POSITIONS * (s.number / POSITIONS) + s.number % POSITIONS ≡ s.number
+number_back s = div-add-mod s.number POSITIONS
