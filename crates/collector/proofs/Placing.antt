@@ -11,8 +11,8 @@ use Rattle.collector.specs.inner.Places.{spots_in, IsPut, IsPutAs, IsPlaced, Are
 use Rattle.collector.specs.inner.WithAt.{with_at}
 use Rattle.collector.proofs.Slots.{eqb-other}
 use Rattle.collector.proofs.WithAt.{get-kept, get-put, length-put}
-use Rattle.rows.specs.ItemsView.{PackedView}
-use Rattle.rows.specs.Packed.{items_in, mark_of, row_in, row_of, row_on}
+use Rattle.rows.specs.ItemsView.{items_in, PackedView}
+use Rattle.rows.specs.Packed.{mark_of, row_in, row_of, row_on}
 use Rattle.rows.specs.declared.item.Item.{Item}
 use Rattle.rows.specs.declared.item.Item.TheVariants.{Row, End}
 use Rattle.rows.specs.declared.item.Valued.{Valued}

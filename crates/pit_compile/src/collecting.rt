@@ -5,7 +5,7 @@ ghost use Rattle.std.specs.List.{flat_map};
 ghost use Rattle.lane.specs.MessageKinds.{row_count};
 ghost use Rattle.lane.specs.Whole.{IsWhole};
 ghost use Rattle.pit_parts.specs.PlanFormulas.{formulas_of_plan};
-ghost use Rattle.rows.specs.Packed.{items_in};
+ghost use Rattle.rows.specs.ItemsView.{items_in};
 ghost use Rattle.valuers.specs.Valuing.{items_by, rows_by};
 ghost use Rattle.pit_parts.specs.declared.ranges.TheConstants.{MAX_ROWS, MAX_VALUERS};
 

@@ -15,7 +15,7 @@ ghost use Rattle.pit_parts.specs.declared.ranges.TheConstants.{MAX_VALUERS, MAX_
 ghost use Rattle.run_threads.specs.Reading.{AreRead};
 ghost use Rattle.run_threads.specs.Refusing.{HasFailed};
 ghost use Rattle.run_threads.specs.Starts.{none_spent, AreSettled, AreSpent};
-ghost use Rattle.rows.specs.Packed.{items_in};
+ghost use Rattle.rows.specs.ItemsView.{items_in};
 ghost use Rattle.valuers.specs.Valuing.{items_by};
 
 use crate::collecting::collect;

@@ -6,8 +6,8 @@ use Rattle.std.proofs.lemmas.Bool.{false≢true}
 use Rattle.std.proofs.lemmas.List.{append-nil}
 use Rattle.std.proofs.lemmas.List.Elements.{All-cons, All-nil, All-tail}
 use Rattle.std.proofs.lemmas.Option.{none-some, same_Some, slice_get_within}
-use Rattle.rows.specs.ItemsView.{PackedView}
-use Rattle.rows.specs.Packed.{items_in, row_in, row_of, row_on, HasRow}
+use Rattle.rows.specs.ItemsView.{items_in, PackedView}
+use Rattle.rows.specs.Packed.{row_in, row_of, row_on, HasRow}
 use Rattle.rows.specs.declared.packed.entry.Entry.{Entry}
 use Rattle.rows.specs.declared.packed.entry.Entry.TheVariants.{Row, End}
 use Rattle.rows.specs.declared.item.Item.{Item}

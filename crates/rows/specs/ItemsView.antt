@@ -1,5 +1,5 @@
 -- What contracts see of items in a list of a valuer, and when such a list is full.
-use Rattle.std.specs.Prelude.{◌≡◌, ℕ, ◌≤◌, List}
+use Rattle.std.specs.Prelude.{◌≡◌, ℕ, ◌≤◌, List, map}
 use Rattle.rows.specs.declared.item.Item.{Item}
 
 -- items as they are, and for how many more there is room
@@ -13,6 +13,10 @@ pub record PackedView : Type 0 where
   pub room : ℕ
   pub worths_room : ℕ
   pub width : ℕ
+
+-- the items of each of these packed lists
+abbrev pub items_in : List PackedView → List (List Item)
+items_in lists = map (λ list. list.items) lists
 
 -- the list has no room for one more item
 abbrev pub IsFull : ItemsView → Type 0

@@ -1,8 +1,7 @@
 -- Rows among packed items: which item it is, and the row that stands somewhere in several lists of items.
-use Rattle.std.specs.Prelude.{◌≡◌, ℕ, ℤ, true, is_some, slice_get, length, map, All, List, Option, Some, None}
+use Rattle.std.specs.Prelude.{◌≡◌, ℕ, ℤ, true, is_some, slice_get, length, All, List, Option, Some, None}
 use Rattle.std.specs.Option.{option_and_then}
 use Rattle.pit_parts.specs.formulas.Worth.{IsWorth}
-use Rattle.rows.specs.ItemsView.{PackedView}
 use Rattle.rows.specs.declared.item.Item.{Item}
 use Rattle.rows.specs.declared.item.Item.TheVariants.{Row, End}
 use Rattle.rows.specs.declared.item.Valued.{Valued}
@@ -28,10 +27,6 @@ mark_of (End file rows) = mark.End file rows
 abbrev pub row_in : Item → Option Valued
 row_in (Row v) = Some v
 row_in (End file rows) = None
-
--- the items of each of these packed lists
-abbrev pub items_in : List PackedView → List (List Item)
-items_in lists = map (λ list. list.items) lists
 
 -- the row at a position of a list of items, if a row stands there
 abbrev pub row_of : List Item → ℕ → Option Valued

@@ -4,7 +4,8 @@ ghost use Rattle.std.specs.Prelude.{◌≡◌, ◌<◌, ◌≤◌, All, Some, fi
 ghost use Rattle.std.specs.List.{range_with_len, AllZip};
 ghost use Rattle.std.specs.Option.{option_map};
 ghost use Rattle.pit_parts.specs.declared.ranges.TheConstants.{MAX_BLOCKS, MAX_DESTINATIONS};
-ghost use Rattle.rows.specs.Packed.{items_in, row_on, AreWorths, HasRow};
+ghost use Rattle.rows.specs.ItemsView.{items_in};
+ghost use Rattle.rows.specs.Packed.{row_on, AreWorths, HasRow};
 ghost use Rattle.rows.specs.declared.item.Item.TheVariants.{Row};
 ghost use Rattle.rows.specs.inner.Own.{HasWorths};
 ghost use Rattle.rows.specs.inner.Spots.{first_spot};
@@ -30,7 +31,8 @@ pub struct RowLists {
 
 impl Model for RowLists {
     ghost use Rattle.std.specs.Prelude.{List, All, filter_map};
-    ghost use Rattle.rows.specs.Packed.{items_in, row_on, HasRow};
+    ghost use Rattle.rows.specs.ItemsView.{items_in};
+    ghost use Rattle.rows.specs.Packed.{row_on, HasRow};
     ghost use Rattle.rows.specs.declared.item.Valued.{Valued};
 
     ghost Value = { List Valued };

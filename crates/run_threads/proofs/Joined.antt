@@ -10,8 +10,7 @@ use Rattle.lane.specs.MessageKinds.{is_done}
 use Rattle.pit_parts.specs.PlanFormulas.{formulas_of_plan}
 use Rattle.pit_parts.specs.Plan.{PlanParts}
 use Rattle.valuers.specs.Valuing.{items_by}
-use Rattle.rows.specs.ItemsView.{PackedView}
-use Rattle.rows.specs.Packed.{items_in}
+use Rattle.rows.specs.ItemsView.{items_in, PackedView}
 use Rattle.valuers.specs.declared.valuer.ValuerResult.{ValuerResult as ResultBy}
 use Rattle.run_threads.specs.inner.Promises.{KeepsRead, KeepsValued, AreUnsentFrom, IsPartly}
 use Rattle.run_threads.specs.Reading.{AreRead}

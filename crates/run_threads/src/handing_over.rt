@@ -8,7 +8,7 @@ ghost use Rattle.run_threads.specs.inner.HandingOver.{IsHandedOver};
 ghost use Rattle.run_threads.specs.Reading.{AreRead};
 ghost use Rattle.run_threads.specs.Starts.{none_spent, AreSettled, AreShort, AreSpent, AreTooFew};
 ghost use Rattle.pit_units.specs.declared.or_memory.OrMemory.TheVariants.{Fault};
-ghost use Rattle.rows.specs.Packed.{items_in};
+ghost use Rattle.rows.specs.ItemsView.{items_in};
 ghost use Rattle.valuers.specs.Valuing.{items_by};
 ghost use Rattle.pit_parts.specs.declared.ranges.TheConstants.{MAX_CAPACITY, MAX_VALUERS};
 

@@ -1,5 +1,5 @@
 -- How the number of a spot is seen as a list and a position, and back.
-use Rattle.std.specs.Prelude.{◌≡◌, ℕ, ◌+◌, ◌*◌, ◌/◌, ◌%◌}
+use Rattle.std.specs.Prelude.{◌≡◌, ◌+◌, ◌*◌, ◌/◌, ◌%◌}
 use Rattle.std.proofs.Math.Nat.{div-add-mod}
 use Rattle.rows.specs.SpotView.{SpotView}
 use Rattle.rows.specs.declared.spot.Spot.TheInside.{Inside}

@@ -4,7 +4,7 @@ use Rattle.lane.specs.Whole.{IsWhole}
 use Rattle.pit_parts.specs.PlanFormulas.{formulas_of_plan}
 use Rattle.pit_parts.specs.Plan.{PlanParts}
 use Rattle.valuers.specs.Valuing.{items_by}
-use Rattle.rows.specs.Packed.{items_in}
+use Rattle.rows.specs.ItemsView.{items_in}
 use Rattle.run_threads.specs.Reading.{AreRead}
 use Rattle.run_threads.specs.declared.handing_over.HandedOver.{HandedOver}
 

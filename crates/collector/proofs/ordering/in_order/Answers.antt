@@ -1,7 +1,7 @@
 use Rattle.std.proofs.Common.{rules, ap, arith, length, List, sym, subst}
 use Rattle.std.specs.List.{flat_map}
 use Rattle.collector.specs.Lists.{AreRows}
-use Rattle.rows.specs.Packed.{items_in}
+use Rattle.rows.specs.ItemsView.{items_in}
 use Rattle.collector.proofs.Few.{few-items}
 use Rattle.collector.proofs.Ordered.{in-order}
 use Rattle.rows.specs.declared.item.Valued.{Valued}

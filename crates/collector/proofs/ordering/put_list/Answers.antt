@@ -6,7 +6,8 @@ use Rattle.std.proofs.lemmas.Option.{get_or_from_slice_get, slice_get_within}
 use Rattle.collector.specs.Complete.{Fits}
 use Rattle.collector.specs.inner.Places.{IsPlaced, IsPutAs}
 use Rattle.collector.proofs.Placing.{all-next, item-few, item-kept, item-placed, items-long, marked, on-list, read-list}
-use Rattle.rows.specs.Packed.{items_in, mark_of}
+use Rattle.rows.specs.ItemsView.{items_in}
+use Rattle.rows.specs.Packed.{mark_of}
 use Rattle.rows.specs.declared.mark.Mark.{Mark}
 use Rattle.rows.specs.SpotView.{SpotView}
 use Rattle.rows.specs.declared.item.Item.{Item}

@@ -1,7 +1,7 @@
 use Rattle.std.proofs.Common.{◌≡◌, ℕ, [], length, take, All, slice_index_or}
 use Rattle.collector.specs.Complete.{Fits}
 use Rattle.collector.specs.inner.Places.{AreFew, IsPlaced}
-use Rattle.rows.specs.Packed.{items_in}
+use Rattle.rows.specs.ItemsView.{items_in}
 use Rattle.rows.specs.declared.item.Item.{Item}
 use Rattle.collector.proofs.ordering.put_list.Given as goal
 

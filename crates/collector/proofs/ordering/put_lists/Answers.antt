@@ -5,7 +5,8 @@ use Rattle.collector.specs.Complete.{Fits}
 use Rattle.collector.specs.inner.Places.{IsOfFile, IsPlaced}
 use Rattle.collector.proofs.Few.{list-within}
 use Rattle.collector.proofs.Placing.{all-lists, all-of-list, items-long}
-use Rattle.rows.specs.Packed.{items_in, mark_of}
+use Rattle.rows.specs.ItemsView.{items_in}
+use Rattle.rows.specs.Packed.{mark_of}
 use Rattle.rows.specs.declared.item.Item.{Item}
 use Rattle.collector.proofs.ordering.put_lists.Goals as goal
 

@@ -2,7 +2,7 @@ use Rattle.std.proofs.Common.{◌≡◌, ◌<◌, ℕ, [], length, All, slice_in
 use Rattle.std.specs.List.{flat_map}
 use Rattle.collector.specs.Complete.{Fits}
 use Rattle.collector.specs.inner.Places.{AreFew, IsPlaced}
-use Rattle.rows.specs.Packed.{items_in}
+use Rattle.rows.specs.ItemsView.{items_in}
 use Rattle.collector.proofs.ordering.put_lists.Given as goal
 
 abbrev pub invariant-loop-list : goal.invariant-loop-list

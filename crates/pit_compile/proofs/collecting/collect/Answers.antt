@@ -1,8 +1,7 @@
 use Rattle.std.proofs.Common.{◌∙◌, arith, sym, ap, length}
 use Rattle.std.proofs.lemmas.List.{length-map}
 use Rattle.pit_compile.proofs.Collected.{FoundIsHeld, to-order, collected}
-use Rattle.rows.specs.ItemsView.{PackedView}
-use Rattle.rows.specs.Packed.{items_in}
+use Rattle.rows.specs.ItemsView.{items_in, PackedView}
 use Rattle.pit_compile.proofs.collecting.collect.Goals as goal
 use Rattle.pit_parts.specs.PlanFormulas.{formulas_of_plan}
 use Rattle.valuers.specs.Valuing.{items_by}

@@ -1,6 +1,6 @@
 use Rattle.std.proofs.Common.{rules, ◌≡◌, ◌∙◌, sym}
 use Rattle.std.specs.Vec.Iter.{into_iter_items, into_iter_len}
-use Rattle.rows.specs.Packed.{items_in}
+use Rattle.rows.specs.ItemsView.{items_in}
 use Rattle.rows.proofs.Own.{all-zipped}
 use Rattle.rows.proofs.row_lists.worths_of.Goals as goal
 

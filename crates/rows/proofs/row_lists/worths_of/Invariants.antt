@@ -1,7 +1,7 @@
 use Rattle.std.proofs.Common.{◌≡◌, ◌++◌, List, length}
 use Rattle.std.specs.List.{AllZip}
 use Rattle.std.specs.Vec.Iter.{into_iter_items, into_iter_len}
-use Rattle.rows.specs.Packed.{items_in}
+use Rattle.rows.specs.ItemsView.{items_in}
 use Rattle.rows.specs.declared.packed.worths.PackedWorths.{PackedWorths}
 use Rattle.rows.specs.inner.Own.{HasWorths}
 use Rattle.rows.proofs.row_lists.worths_of.Given as goal

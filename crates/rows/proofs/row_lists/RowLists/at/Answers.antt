@@ -1,5 +1,6 @@
 use Rattle.std.proofs.Common.{◌∙◌, sym}
-use Rattle.rows.specs.Packed.{items_in, row_on}
+use Rattle.rows.specs.ItemsView.{items_in}
+use Rattle.rows.specs.Packed.{row_on}
 use Rattle.rows.proofs.Found.{found_there}
 use Rattle.rows.proofs.row_lists.RowLists.at.Goals as goal
 

@@ -1,6 +1,7 @@
 use Rattle.std.proofs.Common.{◌∙◌, ap, sym}
 use Rattle.std.specs.Option.{option_map}
-use Rattle.rows.specs.Packed.{items_in, row_on}
+use Rattle.rows.specs.ItemsView.{items_in}
+use Rattle.rows.specs.Packed.{row_on}
 use Rattle.rows.specs.declared.item.Valued.{Valued}
 use Rattle.rows.proofs.Found.{found_there}
 use Rattle.rows.proofs.row_lists.RowLists.block_at.Goals as goal

@@ -1,5 +1,5 @@
 use Rattle.std.proofs.Common.{◌∙◌, map, ap, List}
-use Rattle.rows.specs.Packed.{items_in}
+use Rattle.rows.specs.ItemsView.{items_in}
 use Rattle.rows.specs.declared.item.Valued.{Valued}
 use Rattle.rows.proofs.Own.{own-all, same-worths}
 use Rattle.rows.proofs.row_lists.RowLists.into_worths.Goals as goal

@@ -1,6 +1,7 @@
 use Rattle.std.proofs.Common.{rules, ◌≡◌, ◌∙◌, ◌∷◌, [], ap, length, map, List, sym, subst}
 use Rattle.std.specs.List.{All, filter_map, range_with_len}
-use Rattle.rows.specs.Packed.{items_in, row_on, HasRow}
+use Rattle.rows.specs.ItemsView.{items_in}
+use Rattle.rows.specs.Packed.{row_on, HasRow}
 use Rattle.rows.specs.declared.item.Item.{Item}
 use Rattle.rows.specs.declared.item.Item.TheVariants.{Row}
 use Rattle.rows.specs.SpotView.{SpotView}
