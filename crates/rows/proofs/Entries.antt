@@ -1,17 +1,23 @@
 -- Items whose worths stand in one list, of each item as many.
-use Rattle.std.proofs.Common.{◌≡◌, ℕ, zero, suc, ◌+◌, ◌*◌, ◌<◌, ◌≤◌, ℤ, List, [], ◌∷◌, ◌++◌, length, take, drop, get_or, Some, refl, sym, ap, ◌∙◌, arith, zero-mul, pos, length-append, length-drop, length-take-le}
+use Rattle.std.proofs.Common.{◌≡◌, ℕ, zero, suc, ◌+◌, ◌*◌, ◌<◌, ◌≤◌, ℤ, List, [], ◌∷◌, ◌++◌, length, take, drop, get_or, cond, nat_lt, Option, Some, None, refl, sym, ap, ◌∙◌, arith, zero-mul, pos, length-append, length-drop, length-take-le}
 use Rattle.std.specs.List.{slice_get}
 use Rattle.std.specs.Option.{option_map}
 use Rattle.std.proofs.Math.Nat.{mul-le-mul_right}
+use Rattle.std.proofs.lemmas.Bool.{cond-true, lt-ltb}
 use Rattle.std.proofs.lemmas.List.{drop-drop, drop-append-le, length-replicate, take_all, take-append-le}
 use Rattle.std.proofs.lemmas.Option.{slice_get_read}
-use Rattle.rows.specs.declared.packed.entry.Entry.{Entry}
+use Rattle.pit_parts.proofs.BlockFacts.{block_again}
+use Rattle.pit_parts.specs.Block.{block_with}
+use Rattle.pit_parts.specs.declared.block.Block.{Block}
+use Rattle.pit_parts.specs.declared.ranges.TheConstants.{MAX_ZONES}
 use Rattle.rows.specs.declared.item.Item.{Item}
 use Rattle.rows.specs.declared.item.Item.TheVariants as item
-use Rattle.rows.specs.Packed.{IsOfWidth}
-use Rattle.rows.specs.inner.Entries.{item_with, items_of, kept_worths}
+use Rattle.rows.specs.declared.item.Valued.{Valued}
+use Rattle.rows.specs.Packed.{row_in, IsOfWidth}
+use Rattle.rows.specs.inner.EntryView.{EntryView}
+use Rattle.rows.specs.inner.Entries.{item_of, item_with, items_of, kept_worths}
 
-pub length-items_of : (width : ℕ) (ws : List ℤ) (es : List Entry) → length (items_of width ws es) ≡ length es
+pub length-items_of : (width : ℕ) (ws : List ℤ) (es : List EntryView) → length (items_of width ws es) ≡ length es
 length-items_of width ws [] = refl
 length-items_of width ws (e ∷ es) = ap suc (length-items_of width (drop width ws) es)
 
@@ -33,7 +39,19 @@ kept_long : (width : ℕ) (item : Item) → IsOfWidth width item → length (kep
 kept_long width (item.Row v) fits = fits.0
 kept_long width (item.End file rows) fits = length-replicate width (pos 0)
 
-pub item_at : (width : ℕ) (ws : List ℤ) (es : List Entry) (i : ℕ) →
+pub entry_block : (own : List ℤ) (file number : ℕ) (block : Option Block)
+    → option_map (λ (row : Valued). row.block) (row_in (item_of own file number block)) ≡ block
+entry_block own file number None = refl
+entry_block own file number (Some block) = refl
+
+-- a block comes back from its fields, and its zone says that there is one
+pub block_kept : (b : Block) (kg : ℕ) → kg ≡ b.kg
+    → cond (nat_lt b.zone MAX_ZONES) (Some (block_with b.x b.y b.z kg b.grade b.zone)) None ≡ Some b
+block_kept b kg same =
+    cond-true (nat_lt b.zone MAX_ZONES) _ _ (lt-ltb b.zone MAX_ZONES b.zone_in_range)
+    ∙ ap Some (ap (λ k. block_with b.x b.y b.z k b.grade b.zone) same ∙ block_again b)
+
+pub item_at : (width : ℕ) (ws : List ℤ) (es : List EntryView) (i : ℕ) →
     slice_get (items_of width ws es) i ≡ option_map (item_with (take width (drop (i * width) ws))) (slice_get es i)
 item_at width ws [] i = refl
 item_at width ws (e ∷ es) zero = rw zero-mul refl
@@ -43,14 +61,14 @@ item_at width ws (e ∷ es) (suc i) =
     (drop-drop (i * width) width ws ∙ ap (λ k. drop k ws) (grind arith))
 
 -- the item of an entry that is read
-pub item_there : (width : ℕ) (ws : List ℤ) (es : List Entry) (items : List Item) (i : ℕ) (e : Entry) → items_of width ws es ≡ items
+pub item_there : (width : ℕ) (ws : List ℤ) (es : List EntryView) (items : List Item) (i : ℕ) (e : EntryView) → items_of width ws es ≡ items
     → i < length items → e ≡ get_or es i e → slice_get items i ≡ Some (item_with (take width (drop (i * width) ws)) e)
 item_there width ws es items i e is within read =
     let below : i < length es = omega (arith, within, ap length is, length-items_of width ws es) in
     ap (λ items. slice_get items i) (sym is) ∙ item_at width ws es i
     ∙ ap (option_map (item_with (take width (drop (i * width) ws)))) (slice_get_read es _ i e refl below read)
 
-pub items_push : (width : ℕ) (ws own : List ℤ) (es : List Entry) (e : Entry) → length ws ≡ length es * width → length own ≡ width
+pub items_push : (width : ℕ) (ws own : List ℤ) (es : List EntryView) (e : EntryView) → length ws ≡ length es * width → length own ≡ width
     → items_of width (ws ++ own) (es ++ e ∷ []) ≡ items_of width ws es ++ item_with own e ∷ []
 items_push width [] own [] e whole wide = ap (λ o. item_with o e ∷ []) (take_all width own (omega arith))
 items_push width (w ∷ ws) own [] e whole wide = absurd (grind (arith))
@@ -67,7 +85,7 @@ whole_more all n width later after whole is_later is_after = rw is_after (next a
     next all n width later whole is_later = grind arith
 
 -- the list and its worths, where one item more was kept
-module _ (width : ℕ) (ws later : List ℤ) (es after : List Entry) (item : Item) (e : Entry) (whole : length ws ≡ length es * width)
+module _ (width : ℕ) (ws later : List ℤ) (es after : List EntryView) (item : Item) (e : EntryView) (whole : length ws ≡ length es * width)
     (fits : IsOfWidth width item) (is_later : later ≡ ws ++ kept_worths width item) (is_after : after ≡ es ++ e ∷ []) where
   pub still_whole : length later ≡ length after * width
   still_whole =

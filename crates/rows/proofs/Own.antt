@@ -6,26 +6,28 @@ use Rattle.std.proofs.lemmas.Bool.{false≢true}
 use Rattle.std.proofs.lemmas.List.{append-nil}
 use Rattle.std.proofs.lemmas.List.Elements.{All-cons, All-nil, All-tail}
 use Rattle.std.proofs.lemmas.Option.{none-some, same_Some, slice_get_within}
+use Rattle.pit_parts.specs.declared.block.Block.{Block}
 use Rattle.rows.specs.ItemsView.{items_in, PackedView}
 use Rattle.rows.specs.Packed.{row_in, row_of, row_on, HasRow}
-use Rattle.rows.specs.declared.packed.entry.Entry.{Entry}
-use Rattle.rows.specs.declared.packed.entry.Entry.TheVariants.{Row, End}
 use Rattle.rows.specs.declared.item.Item.{Item}
 use Rattle.rows.specs.declared.item.Valued.{Valued}
 use Rattle.rows.specs.declared.packed.worths.PackedWorths.{PackedWorths}
 use Rattle.rows.specs.SpotView.{SpotView}
-use Rattle.rows.specs.inner.Entries.{item_with, items_of}
+use Rattle.rows.specs.inner.EntryView.{EntryView}
+use Rattle.rows.specs.inner.Entries.{item_of, item_with, items_of}
 use Rattle.rows.specs.inner.Own.{own_at, own_on, HasOwn, HasWorths}
 use Rattle.rows.proofs.Entries.{item_at, own_within}
 
-entry-worths : (own : List ℤ) (o : Option Entry) (row : Valued) → option_and_then row_in (option_map (item_with own) o) ≡ Some row
-    → (row.worths ≡ own) × (e : Entry) × (o ≡ Some e)
+entry-worths : (own : List ℤ) (o : Option EntryView) (row : Valued) → option_and_then row_in (option_map (item_with own) o) ≡ Some row
+    → (row.worths ≡ own) × (e : EntryView) × (o ≡ Some e)
 entry-worths own None row is = absurd (none-some row is)
-entry-worths own (Some (End file rows)) row is = absurd (none-some row is)
-entry-worths own (Some (Row file place block)) row is =
-    (ap (λ (v : Valued). v.worths) (sym (same_Some _ row is)), Row file place block, refl)
+entry-worths own (Some e) row is = (row-worths e.block is, e, refl)
+  where
+    row-worths : (block : Option Block) → row_in (item_of own e.file e.number block) ≡ Some row → row.worths ≡ own
+    row-worths None is = absurd (none-some row is)
+    row-worths (Some block) is = ap (λ (v : Valued). v.worths) (sym (same_Some _ row is))
 
-pub has-worths : (width : ℕ) (ws : List ℤ) (es : List Entry) → length ws ≡ length es * width → (position : ℕ) (row : Valued)
+pub has-worths : (width : ℕ) (ws : List ℤ) (es : List EntryView) → length ws ≡ length es * width → (position : ℕ) (row : Valued)
     → row_of (items_of width ws es) position ≡ Some row
     → (row.worths ≡ take width (drop (position * width) ws)) × (position * width + width ≤ length ws)
 has-worths width ws es whole position row is =

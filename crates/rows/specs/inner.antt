@@ -1,4 +1,6 @@
 pub mod Entries
+pub mod EntryFields
+pub mod EntryView
 pub mod Own
 pub mod SpotFields
 pub mod Spots

@@ -1,21 +1,45 @@
 //! Items without their worths.
 
-ghost use Rattle.std.specs.Prelude.{◌≡◌, ◌≤◌, ℕ, ℤ, List, length};
-ghost use Rattle.std.specs.Option.{option_map};
+ghost use Rattle.std.specs.Prelude.{◌≡◌, ◌≤◌, ℕ, ℤ, List, Some, None, length};
 ghost use Rattle.pit_parts.specs.declared.ranges.TheConstants.{MAX_DESTINATIONS};
-ghost use Rattle.rows.specs.Packed.{mark_of, row_in};
+ghost use Rattle.rows.specs.Packed.{mark_of};
 ghost use Rattle.rows.specs.inner.Entries.{item_with, kept_worths};
 
 use crate::item::{Item, Valued};
 use crate::mark::Mark;
 use crate::worths::Worths;
 use pit_parts::block::Block;
+use pit_parts::ranges::MAX_ZONES;
+use std::marker::Model;
 
-/// An item without its worths, which stand in one list with those of other items. It takes 32 bytes.
-#[derive(Clone, Copy, Debug)]
-pub enum Entry {
-    Row { file: u8, place: u32, block: Block },
-    End { file: u8, rows: u32 },
+/// An item without its worths, which stand in one list with those of other items. Contracts see its file, its place or count, and the
+/// block of a row.
+#[derive(Debug, Drop)]
+pub struct Entry {
+    grade: u64,
+    kg: u32,
+    // the place of a row, the count of an end mark
+    number: u32,
+    x: u16,
+    y: u16,
+    z: u16,
+    // that of a row is below 64, and that of an end mark is not: so no byte tells which it is
+    zone: u8,
+    file: u8,
+}
+
+const _: () = prove!(size_of::<Entry>() == 24);
+
+impl Model for Entry {
+    ghost use Rattle.pit_parts.specs.BlockParts.{AreInRange};
+    ghost use Rattle.rows.specs.inner.EntryFields.{block_in};
+    ghost use Rattle.rows.specs.inner.EntryView.{EntryView};
+
+    ghost Value = { EntryView };
+
+    ghost view = { λ e. record { file = e.file; number = e.number; block = block_in e } };
+
+    ghost invariant = { λ e. AreInRange e.x e.y e.z e.kg e.grade 0 };
 }
 
 impl Entry {
@@ -24,15 +48,39 @@ impl Entry {
         ensures { (width : ℕ) → item_with (kept_worths width item.now) result ≡ item.now }
     {
         match item {
-            Item::Row(row) => Entry::Row {
-                file: row.file,
-                place: row.place,
-                block: row.block,
-            },
-            Item::End { file, rows } => Entry::End {
-                file: *file,
-                rows: *rows,
-            },
+            Item::Row(row) => Entry::of_row(row.file, row.place, row.block),
+            Item::End { file, rows } => Entry::of_end(*file, *rows),
+        }
+    }
+
+    #[tactic(auto, using(crate::proofs::Entries::block_kept))]
+    fn of_row(file: u8, place: u32, block: Block) -> Entry
+        ensures { result ≡ record { file = file; number = place; block = Some block } }
+    {
+        Entry {
+            grade: block.grade,
+            kg: block.kg as u32,
+            number: place,
+            x: block.x,
+            y: block.y,
+            z: block.z,
+            zone: block.zone,
+            file,
+        }
+    }
+
+    fn of_end(file: u8, rows: u32) -> Entry
+        ensures { result ≡ record { file = file; number = rows; block = None } }
+    {
+        Entry {
+            grade: 0,
+            kg: 0,
+            number: rows,
+            x: 0,
+            y: 0,
+            z: 0,
+            zone: MAX_ZONES,
+            file,
         }
     }
 
@@ -42,14 +90,17 @@ impl Entry {
         requires few { length own.now ≤ MAX_DESTINATIONS }
         ensures { result ≡ item_with own.now self.now }
     {
-        match *self {
-            Entry::Row { file, place, block } => Item::Row(Valued {
-                file,
-                place,
+        match self.block() {
+            Some(block) => Item::Row(Valued {
+                file: self.file,
+                place: self.number,
                 block,
                 worths: Worths::of_cents(own),
             }),
-            Entry::End { file, rows } => Item::End { file, rows },
+            None => Item::End {
+                file: self.file,
+                rows: self.number,
+            },
         }
     }
 
@@ -57,19 +108,34 @@ impl Entry {
     pub fn mark(&self) -> Mark
         ensures { (own : List ℤ) → result ≡ mark_of (item_with own self.now) }
     {
-        match *self {
-            Entry::Row { file, place, .. } => Mark::Row { file, place },
-            Entry::End { file, rows } => Mark::End { file, rows },
+        if self.zone < MAX_ZONES {
+            Mark::Row {
+                file: self.file,
+                place: self.number,
+            }
+        } else {
+            Mark::End {
+                file: self.file,
+                rows: self.number,
+            }
         }
     }
 
     /// The block of a row.
     pub fn block(&self) -> Option<Block>
-        ensures { (own : List ℤ) → result ≡ option_map (λ row. row.block) (row_in (item_with own self.now)) }
+        ensures { result ≡ self.now.block }
     {
-        match *self {
-            Entry::Row { block, .. } => Some(block),
-            Entry::End { .. } => None,
+        if self.zone < MAX_ZONES {
+            Some(Block {
+                x: self.x,
+                y: self.y,
+                z: self.z,
+                kg: u64::from(self.kg),
+                grade: self.grade,
+                zone: self.zone,
+            })
+        } else {
+            None
         }
     }
 }

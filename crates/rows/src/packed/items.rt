@@ -19,7 +19,7 @@ use pit_parts::block::Block;
 use std::alloc::{AllocError, Allocator, Global};
 use std::marker::Model;
 
-/// Items as a valuer packs them, without the room that a row does not use. In memory an item takes 32 bytes, and 8 for each worth that a
+/// Items as a valuer packs them, without the room that a row does not use. In memory an item takes 24 bytes, and 8 for each worth that a
 /// row has. Contracts see the list of them, for how many more items and worths there is room, and how many worths a row has.
 #[derive(Debug, Drop)]
 pub struct PackedItems<A: Allocator = Global> {

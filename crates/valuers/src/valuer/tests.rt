@@ -212,7 +212,7 @@ fn take_into_heap<R: Wait>(
 }
 
 // Memory is refused for the first item, or for the fifth, or for none: the reader ends, all is gathered, and the items are those before.
-// A packed list is refused memory for items or, with 144 bytes, for worths.
+// A packed list is refused memory for items or, with 112 bytes, for worths.
 #[test]
 fn growth_refused(rt: HostRuntime) -> Result<(), Fail> {
     let alloc = rt.alloc();
@@ -222,8 +222,8 @@ fn growth_refused(rt: HostRuntime) -> Result<(), Fail> {
         (false, 1_024, 4),
         (false, 65_536, 7),
         (true, 64, 0),
-        (true, 144, 0),
-        (true, 400, 4),
+        (true, 112, 0),
+        (true, 304, 4),
         (true, 65_536, 7),
     ];
     for (packed, bytes, count) in heaps {
