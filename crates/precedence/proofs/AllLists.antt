@@ -1,7 +1,11 @@
 -- What the rows of the zones' cones say of all blocks is what lies above each.
-use Rattle.std.proofs.Common.{◌≡◌, ℕ, zero, suc, ◌+◌, ◌<◌, ◌≤◌, ◌^◌, Bool, false, List, [], ◌∷◌, Some, All, length, map, get_or, slice_get, refl, sym, ap, subst, ◌∙◌, arith, ⊎_elim, if◌then◌else◌}
+use Rattle.std.proofs.Common.{◌≡◌, ℕ, zero, suc, ◌+◌, ◌-◌, ◌<◌, ◌≤◌, ◌^◌, ◌&&◌, Bool, false, List, [], ◌∷◌, Some, All, length, map, get_or, nat_lt, nat_le, slice_get, refl, sym, ap, subst, ◌∙◌, arith, ⊎_elim, if◌then◌else◌}
+use Rattle.std.specs.Int.{abs_diff}
+use Rattle.std.specs.List.Sorted.{IsStrictlyIncreasing}
 use Rattle.std.specs.Simd.Lanes.{zip2}
-use Rattle.std.proofs.lemmas.List.{get_or_default}
+use Rattle.std.proofs.lemmas.Bool.{cases_lt, le-ltb}
+use Rattle.std.proofs.lemmas.List.{get_or-map, get_or_default, length-map}
+use Rattle.std.proofs.lemmas.List.Kept.{AllPairs-from_increasing}
 use Rattle.std.proofs.lemmas.Simd.{get_or-zip2, length-zip2}
 use Rattle.std.proofs.lemmas.Option.{slice_get_cases, slice_get-get_or, get_or_from_slice_get}
 use Rattle.std.proofs.lemmas.List.Elements.{All-head, All-map, All-tail}
@@ -11,16 +15,18 @@ use Rattle.pit_parts.specs.declared.cone.Cone.{Cone}
 use Rattle.pit_parts.specs.declared.grid.Grid.{Grid}
 use Rattle.precedence.specs.Codes.{place_code, place_codes}
 use Rattle.precedence.specs.declared.places.code.TheConstants.{CODES}
-use Rattle.precedence.specs.Cone.{above, is_above, places_where, preds, HasZones}
+use Rattle.precedence.specs.Cone.{above, is_above, is_within_slopes, places_where, preds, slope_along_x, slope_along_y, HasZones}
 use Rattle.precedence.specs.IdRuns.{is_in}
 use Rattle.precedence.specs.inner.FoundFields.{found_in, KeepsFound}
 use Rattle.precedence.specs.inner.Lists.{in_cone, in_cones}
-use Rattle.precedence.specs.inner.Rows.{is_in_rows, AreInOrder, IsWithin}
+use Rattle.precedence.specs.inner.Rows.{is_in_rows, AreInOrder, IsTable, IsWithin}
 use Rattle.precedence.specs.inner.ZoneTables.{HasTables, IsTold, zone_rows}
 use Rattle.precedence.specs.declared.cones.cone_table.ConeTable.{ConeTable}
 use Rattle.precedence.specs.declared.cones.cone_rows.Extent.{Extent}
+use Rattle.precedence.specs.declared.cones.cone_rows.Row.{Row}
 use Rattle.precedence.specs.declared.lists.found_preds.FoundPreds.TheInside.{Inside}
 use Rattle.precedence.proofs.PlacesWhere.{length-places_where, told_nowhere}
+use Rattle.precedence.proofs.runs.RunsOfRows.{before_rows}
 
 -- an element that is there meets what all meet
 pub all_at : {X : Type 0} (P : X → Type 0) (xs : List X) (k : ℕ) (x : X) → All P xs → k < length xs → slice_get xs k ≡ Some x → P x
@@ -44,35 +50,75 @@ zipped one list (b ∷ bs) h =
     let rest = zipped one list bs (All-tail (λ b. one b.zone (place_code b) ≡ list b) b bs h) in
     λ j. first j ∷ rest j
 
-module _ (plan : PlanParts) (extent : Extent) (tables : List ConeTable) (of_zone : List ℕ) (blocks : List Block)
-    (has : HasTables plan.grid plan.cones extent tables of_zone)
-    (near : (i j : ℕ) (d : Block) → i < length blocks → j < length blocks → IsWithin extent (get_or blocks i d) (get_or blocks j d))
-    (zones : HasZones plan blocks) where
+-- a block before another lies neither in a row of its cone nor above it
+none_before : (grid : Grid) (cone : Cone) (rows : List Row) (low high : Block) → AreInOrder rows → place_code high < place_code low
+    → is_in_rows (place_code low) rows (place_code high) ≡ is_above grid cone low high
+none_before grid cone rows low high order lt =
+    let lower : nat_lt low.z high.z ≡ false =
+    le-ltb low.z high.z (omega (arith, lt, low.x_in_grid, low.y_in_grid, high.x_in_grid, high.y_in_grid)) in
+    before_rows (place_code low) (place_code high) 0 rows order.0 order.1 (omega arith)
+    ∙ sym (ap (λ b. b && (nat_le (high.z - low.z) cone.k && is_within_slopes grid (slope_along_x cone low high) (slope_along_y cone low high) (abs_diff low.x high.x) (abs_diff low.y high.y) (high.z - low.z))) lower)
+
+module _ (plan : PlanParts) (extents : List Extent) (tables : List ConeTable) (of_zone : List ℕ) (blocks : List Block)
+    (has : HasTables plan.grid plan.cones extents tables of_zone)
+    (near : (i j : ℕ) (d : Block) (e : Extent) → i ≤ j → j < length blocks
+    → IsWithin (get_or extents (get_or blocks i d).zone e) (get_or blocks i d) (get_or blocks j d))
+    (rising : IsStrictlyIncreasing (place_codes blocks)) (zones : HasZones plan blocks) where
   abbrev place : ℕ → ℕ
   place zone = get_or of_zone zone 0
 
+  nowhere : Extent
+  nowhere = record { rows = 0; benches = 0; few_rows = omega arith; few_benches = omega arith }
+
+  code_is : (k : ℕ) (d : Block) → k < length blocks → get_or (place_codes blocks) k 0 ≡ place_code (get_or blocks k d)
+  code_is k d lt = get_or-map place_code blocks k d 0 lt
+
+  -- the codes of the blocks before a block are less
+  less_before : (j k : ℕ) (d e : Block) → j < k → k < length blocks → place_code (get_or blocks j e) < place_code (get_or blocks k d)
+  less_before j k d e before lt =
+      let long = length-map blocks place_code in
+      omega (
+        arith,
+        code_is j e (omega arith),
+        code_is k d lt,
+        AllPairs-from_increasing (place_codes blocks) rising j k 0 before (omega (arith, long)),
+      )
+
+  -- the rows tell of a block and each other
+  told_is : (cone : Cone) (rows : List Row) (k j : ℕ) (d e : Block) → k < length blocks → j < length blocks → AreInOrder rows
+      → IsTable plan.grid cone (get_or extents (get_or blocks k d).zone nowhere) rows
+      → is_in_rows (place_code (get_or blocks k d)) rows (place_code (get_or blocks j e)) ≡ is_above plan.grid cone (get_or blocks k d) (get_or blocks j e)
+  told_is cone rows k j d e lt within order table = ⊎_elim
+      (λ before. none_before plan.grid cone rows (get_or blocks k d) (get_or blocks j e) order (less_before j k d e before lt))
+      (λ behind. table.told (get_or blocks k d) (get_or blocks j e)
+      (subst (IsWithin (get_or extents (get_or blocks k d).zone nowhere) (get_or blocks k d)) (get_or_default blocks j d e within)
+      (near k j d nowhere behind within)))
+      (cases_lt j k)
+
   -- one block's list
-  list_is : (low : Block) → All (IsWithin extent low) blocks → low.zone < length plan.cones
-      → in_cone tables of_zone (place_codes blocks) low.zone (place_code low) ≡ above plan.grid (slice_get plan.cones low.zone) blocks low
-  list_is low close lt = ⊎_elim
+  list_is : (k : ℕ) (d : Block) → k < length blocks → (get_or blocks k d).zone < length plan.cones
+      → in_cone tables of_zone (place_codes blocks) (get_or blocks k d).zone (place_code (get_or blocks k d))
+      ≡ above plan.grid (slice_get plan.cones (get_or blocks k d).zone) blocks (get_or blocks k d)
+  list_is k d lt here =
+      let low = get_or blocks k d in
+      ⊎_elim
       (λ found.
       let table : ConeTable = found.0 in
       let cone : Cone = table.cone in
+      let own : get_or plan.cones low.zone cone ≡ cone =
+      sym (has.same low.zone cone table here)
+      ∙ ap (λ (t : ConeTable). t.cone) (get_or_from_slice_get tables (place low.zone) table table found.2) in
       let same : slice_get plan.cones low.zone ≡ Some cone =
-      slice_get-get_or plan.cones low.zone cone lt
-      ∙ ap (λ (c : Cone). Some c) (sym (has.same low.zone cone table lt)
-      ∙ ap (λ (t : ConeTable). t.cone) (get_or_from_slice_get tables (place low.zone) table table found.2)) in
-      let told = all_at (IsTold plan.grid extent) tables (place low.zone) table has.told found.1 found.2 in
+      slice_get-get_or plan.cones low.zone cone here ∙ ap (λ (c : Cone). Some c) own in
+      let told = all_at (IsTold plan.grid plan.cones extents) tables (place low.zone) table has.told found.1 found.2 in
       rw (found.2, same) (blocks_where (is_in_rows (place_code low) table.rows.items) (is_above plan.grid cone low) 0 blocks
-      (λ k d within. told.told low (get_or blocks k d) (close k d within))))
+      (λ j e within. told_is cone table.rows.items k j d e lt within told.in_order (told.each low.zone cone nowhere here own))))
       (λ past. let below = has.below low.zone 0 (omega (arith, has.zones)) in absurd (omega (arith, past.0)))
       ((slice_get_cases tables (place low.zone)).1)
 
   pub preds_are : in_cones tables of_zone (place_codes blocks) (map (λ b. b.zone) blocks) (place_codes blocks) ≡ preds plan blocks
   preds_are = zipped (in_cone tables of_zone (place_codes blocks)) (λ low. above plan.grid (slice_get plan.cones low.zone) blocks low) blocks
-      (λ k d lt. list_is (get_or blocks k d)
-      (λ j e within. subst (IsWithin extent (get_or blocks k d)) (get_or_default blocks j d e within) (near k j d lt within))
-      (zones k d lt))
+      (λ k d lt. list_is k d lt (zones k d lt))
 
 -- each code of a block is small
 pub codes_small : (blocks : List Block) → All (λ c. c < CODES) (place_codes blocks)
@@ -81,9 +127,9 @@ codes_small blocks = All-map (λ c. c < CODES) place_code blocks (λ k d lt. sma
     small : (b : Block) → place_code b < CODES
     small b = omega (arith, b.x_in_grid, b.y_in_grid, b.z_in_grid)
 
-pub tables_in_order : (grid : Grid) (extent : Extent) (tables : List ConeTable) → All (IsTold grid extent) tables
+pub tables_in_order : (grid : Grid) (cones : List Cone) (extents : List Extent) (tables : List ConeTable) → All (IsTold grid cones extents) tables
     → All (λ t. AreInOrder t.rows.items) tables
-tables_in_order grid extent tables told k d lt = let h = told k d lt in (h.high, h.apart)
+tables_in_order grid cones extents tables told k d lt = (told k d lt).in_order
 
 -- an identifier that no block has stands in no list
 in_none : (one : ℕ → ℕ → List ℕ) (zones codes : List ℕ) (m k : ℕ) → ((zone from : ℕ) → is_in (one zone from) k ≡ false)

@@ -10,6 +10,7 @@ use Rattle.precedence.specs.Codes.{place_code}
 use Rattle.precedence.specs.Cone.{is_above}
 use Rattle.precedence.specs.inner.Reach.{CountsRow}
 use Rattle.precedence.specs.inner.Rows.{center, edge, is_in_row, is_in_rows, LieApart, IsWithin, Tells, IsTable}
+use Rattle.precedence.specs.inner.ZoneTables.{IsWider}
 use Rattle.precedence.specs.declared.cones.cone_rows.Extent.{Extent}
 use Rattle.precedence.specs.declared.cones.cone_rows.Counts.{Counts}
 use Rattle.precedence.specs.declared.cones.cone_rows.Row.{Row}
@@ -151,6 +152,17 @@ module _ (grid : Grid) (cone : Cone) (extent : Extent) where
       let looked : nat_le (high.z - low.z) cone.k ≡ true =
       (and_parts (nat_le (high.z - low.z) cone.k) _ (and_parts (nat_lt low.z high.z) _ lies).1).0 in
       omega (arith, ltb-true low.z high.z higher, leb-true _ _ looked, near.benches)
+
+  -- they tell of blocks that are less far apart
+  pub narrower : (other : Extent) (rows : List Row) → IsWider extent other → IsTable grid cone extent rows → IsTable grid cone other rows
+  narrower other rows wide h = record {
+    high = h.high;
+    apart = h.apart;
+    told = λ low high near. h.told low high (record {
+      rows = omega (arith, near.rows, wide.rows);
+      benches = omega (arith, near.benches, wide.benches);
+    });
+  }
 
   pub is_table : (top : ℕ) (rows : List Row) → top ≡ min cone.k extent.benches → Tells grid cone extent (edge extent.rows (top + 1) 0) rows
       → IsTable grid cone extent rows

@@ -3,7 +3,7 @@ use Rattle.std.specs.Prelude.{◌≡◌, ℕ, ◌<◌, ◌≤◌, List, [], Opti
 use Rattle.pit_parts.specs.declared.block.Block.{Block}
 use Rattle.pit_parts.specs.declared.cone.Cone.{Cone}
 use Rattle.pit_parts.specs.declared.grid.Grid.{Grid}
-use Rattle.precedence.specs.inner.Rows.{IsTable}
+use Rattle.precedence.specs.inner.Rows.{AreInOrder, IsTable}
 use Rattle.precedence.specs.declared.cones.bounds.Bounds.{Bounds}
 use Rattle.precedence.specs.declared.cones.cone_table.ConeTable.{ConeTable}
 use Rattle.precedence.specs.declared.cones.cone_rows.Extent.{Extent}
@@ -13,19 +13,25 @@ use Rattle.precedence.specs.declared.cones.cone_rows.Row.{Row}
 pub record Holds (bounds : Bounds) (b : Block) : Type 0 where
   pub south : bounds.south ≤ b.y
   pub north : b.y ≤ bounds.north
-  pub bottom : bounds.bottom ≤ b.z
   pub top : b.z ≤ bounds.top
 
--- the table tells of its cone
-abbrev pub IsTold : Grid → Extent → ConeTable → Type 0
-IsTold grid extent table = IsTable grid table.cone extent table.rows.items
+-- as far as another, or further
+pub record IsWider (extent other : Extent) : Type 0 where
+  pub rows : other.rows ≤ extent.rows
+  pub benches : other.benches ≤ extent.benches
+
+-- the table tells of each zone that has its cone, as far as that zone needs it
+pub record IsTold (grid : Grid) (cones : List Cone) (extents : List Extent) (table : ConeTable) : Type 0 where
+  pub in_order : AreInOrder table.rows.items
+  pub each : (z : ℕ) (cone : Cone) (e : Extent) → z < length cones → slice_index_or cones z cone ≡ table.cone
+      → IsTable grid table.cone (slice_index_or extents z e) table.rows.items
 
 -- zone by zone, the table at the zone's index is that of its cone
-pub record HasTables (grid : Grid) (cones : List Cone) (extent : Extent) (tables : List ConeTable) (of_zone : List ℕ) : Type 0 where
+pub record HasTables (grid : Grid) (cones : List Cone) (extents : List Extent) (tables : List ConeTable) (of_zone : List ℕ) : Type 0 where
   pub zones : length of_zone ≡ length cones
   pub below : All (λ t. t < length tables) of_zone
   pub same : (z : ℕ) (cone : Cone) (table : ConeTable) → z < length cones → (slice_index_or tables (slice_index of_zone z) table).cone ≡ slice_index_or cones z cone
-  pub told : All (IsTold grid extent) tables
+  pub told : All (IsTold grid cones extents) tables
 
 abbrev pub rows_of_table : Option ConeTable → List Row
 rows_of_table None = []

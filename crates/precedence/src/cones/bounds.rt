@@ -1,42 +1,56 @@
-//! The bounds of a model.
+//! How far the blocks above those of a zone are from them.
 
-ghost use Rattle.std.specs.Prelude.{ℕ, ◌<◌, length, slice_index_or};
+ghost use Rattle.std.specs.Prelude.{◌≡◌, ◌<◌, ◌≤◌, ℕ, All, IfOk, length, slice_index_or};
 ghost use Rattle.pit_parts.specs.declared.block.Block.{Block};
+ghost use Rattle.pit_parts.specs.declared.cone.Cone.{Cone};
 ghost use Rattle.precedence.specs.inner.Rows.{IsWithin};
-ghost use Rattle.precedence.specs.inner.ZoneTables.{Holds};
+ghost use Rattle.precedence.specs.inner.ZoneTables.{Holds, IsWider};
+ghost use Rattle.precedence.specs.declared.cones.cone_rows.Extent.{Extent};
 ghost use Rattle.pit_parts.specs.declared.ranges.TheConstants.{GRID_CELLS};
 
 use crate::cones::cone_rows::Extent;
 use pit_parts::block::Block;
+use pit_parts::cone::Cone;
 use pit_parts::ranges::GRID_CELLS;
+use std::alloc::{AllocError, Global};
 
-/// The least and greatest indices of blocks along y and z.
+/// The least and greatest index along y of some blocks, and the greatest along z.
 #[derive(Clone, Copy, Debug)]
 pub struct Bounds {
     pub south: u16,
     pub north: u16,
-    pub bottom: u16,
     pub top: u16,
 }
 
-/// The greatest distances between two of the blocks.
-pub fn extent_of(blocks: &[Block]) -> Extent
-    ensures { (i j : ℕ) (d : Block) → i < length blocks.now → j < length blocks.now
-        → IsWithin result (slice_index_or blocks.now i d) (slice_index_or blocks.now j d) }
+// No distance at all.
+const NOWHERE: Extent = Extent {
+    rows: 0,
+    benches: 0,
+};
+
+/// For each of so many zones the greatest distances between one of its blocks and one of the blocks with a greater identifier.
+pub fn extents_of(alloc: Global, blocks: &[Block], zones: usize) -> Result<Vec<Extent>, AllocError>
+    requires { All (λ b. b.zone < zones) blocks.now }
+    ensures each { IfOk result (λ extents. length extents.items ≡ zones) }
+    ensures near { IfOk result (λ extents. (i j : ℕ) (d : Block) (e : Extent) → i ≤ j → j < length blocks.now
+        → IsWithin (slice_index_or extents.items (slice_index_or blocks.now i d).zone e)
+        (slice_index_or blocks.now i d) (slice_index_or blocks.now j d)) }
 {
+    let mut extents = vec![in alloc; NOWHERE; zones]?;
     let mut bounds = Bounds {
         south: GRID_CELLS - 1,
         north: 0,
-        bottom: GRID_CELLS - 1,
         top: 0,
     };
-    for block in blocks {
-        bounds = widened(bounds, block);
+    let mut i = blocks.len();
+    while i > 0 {
+        i -= 1;
+        let block = blocks[i];
+        let zone = block.zone as usize;
+        bounds = widened(bounds, &block);
+        extents[zone] = reaching(extents[zone], bounds, &block);
     }
-    Extent {
-        rows: bounds.north.saturating_sub(bounds.south),
-        benches: bounds.top.saturating_sub(bounds.bottom),
-    }
+    Ok(extents)
 }
 
 // The bounds that hold the block too.
@@ -49,7 +63,52 @@ fn widened(bounds: Bounds, block: &Block) -> Bounds
     Bounds {
         south: bounds.south.min(block.y),
         north: bounds.north.max(block.y),
-        bottom: bounds.bottom.min(block.z),
         top: bounds.top.max(block.z),
     }
+}
+
+// The extent that also reaches from the block to each one that the bounds hold.
+fn reaching(extent: Extent, bounds: Bounds, block: &Block) -> Extent
+    requires north { bounds.north < GRID_CELLS }
+    requires top { bounds.top < GRID_CELLS }
+    ensures wider { IsWider result extent }
+    ensures within { (other : Block) → Holds bounds other → IsWithin result block.now other }
+{
+    let south = block.y.saturating_sub(bounds.south);
+    let north = bounds.north.saturating_sub(block.y);
+    Extent {
+        rows: extent.rows.max(south).max(north),
+        benches: extent.benches.max(bounds.top.saturating_sub(block.z)),
+    }
+}
+
+/// The extent that each of the zones with a cone needs.
+pub fn extent_for(cones: &[Cone], extents: &[Extent], cone: Cone) -> Extent
+    requires { length extents.now ≡ length cones.now }
+    ensures { (z : ℕ) (c : Cone) (e : Extent) → z < length cones.now
+        → slice_index_or cones.now z c ≡ cone → IsWider result (slice_index_or extents.now z e) }
+{
+    let mut rows = 0;
+    let mut benches = 0;
+    for zone in 0..cones.len() {
+        let extent = extent_where(&cones[zone], cone, extents[zone]);
+        rows = greater(rows, extent.rows);
+        benches = greater(benches, extent.benches);
+    }
+    Extent { rows, benches }
+}
+
+// The extent of a zone, where it has the cone.
+fn extent_where(own: &Cone, cone: Cone, extent: Extent) -> Extent
+    ensures { own.now ≡ cone → result ≡ extent }
+{
+    if *own == cone { extent } else { NOWHERE }
+}
+
+fn greater(one: u16, other: u16) -> u16
+    ensures one { one ≤ result }
+    ensures other { other ≤ result }
+    ensures few { one < GRID_CELLS → other < GRID_CELLS → result < GRID_CELLS }
+{
+    if one < other { other } else { one }
 }

@@ -6,6 +6,7 @@ ghost use Rattle.precedence.specs.inner.Rows.{pasts};
 ghost use Rattle.precedence.specs.inner.ZoneTables.{HasTables, IsTold};
 ghost use Rattle.precedence.specs.declared.cones.cone_table.ConeTable.{ConeTable};
 
+use crate::cones::bounds::extent_for;
 use crate::cones::cone_rows::{Extent, Row};
 use crate::cones::cone_table::ConeTable;
 use crate::cones::row_making::cone_rows;
@@ -37,21 +38,22 @@ impl ZoneTables {
     }
 }
 
-/// The tables of these cones, one a zone, in a model no greater than `extent`. Equal cones share one.
+/// The tables of these cones, one a zone, each as wide as its zone's extent. Equal cones share one.
 pub fn tables_of(
     alloc: Global,
     grid: Grid,
     cones: &[Cone],
-    extent: Extent,
+    extents: &[Extent],
 ) -> Result<ZoneTables, AllocError>
     requires grid { IsGrid grid }
     requires cones { All IsCone cones.now }
-    ensures { IfOk result (λ t. HasTables grid cones.now extent t.tables.items t.of_zone.items) }
+    requires each { length extents.now ≡ length cones.now }
+    ensures { IfOk result (λ t. HasTables grid cones.now extents.now t.tables.items t.of_zone.items) }
 {
     let mut tables = Vec::new(alloc);
     let mut of_zone = Vec::with_capacity(alloc, cones.len())?;
     for cone in cones {
-        let place = place_of(alloc, &mut tables, grid, *cone, extent)?;
+        let place = place_of(alloc, &mut tables, grid, cones, extents, *cone)?;
         of_zone.push(place)?;
     }
     Ok(ZoneTables { tables, of_zone })
@@ -62,13 +64,15 @@ fn place_of(
     alloc: Global,
     tables: &mut Vec<ConeTable>,
     grid: Grid,
+    cones: &[Cone],
+    extents: &[Extent],
     cone: Cone,
-    extent: Extent,
 ) -> Result<usize, AllocError>
     requires grid { IsGrid grid }
     requires cone { IsCone cone }
-    requires told { All (IsTold grid extent) tables.old.items }
-    ensures told { OnOk result (All (IsTold grid extent) tables.new.items) }
+    requires each { length extents.now ≡ length cones.now }
+    requires told { All (IsTold grid cones.now extents.now) tables.old.items }
+    ensures told { OnOk result (All (IsTold grid cones.now extents.now) tables.new.items) }
     ensures within { IfOk result (λ place. place < length tables.new.items) }
     ensures cone { IfOk result (λ place. (t : ConeTable)
         → (slice_index_or tables.new.items place t).cone ≡ cone) }
@@ -80,7 +84,8 @@ fn place_of(
         return Ok(place);
     }
     let place = tables.len();
-    let table = table_of(alloc, grid, cone, extent, rows_before(tables.as_slice()))?;
+    let start = rows_before(tables.as_slice());
+    let table = table_of(alloc, grid, cones, extents, cone, start)?;
     tables.push(table)?;
     Ok(place)
 }
@@ -104,16 +109,18 @@ fn rows_before(tables: &[ConeTable]) -> usize {
 fn table_of(
     alloc: Global,
     grid: Grid,
+    cones: &[Cone],
+    extents: &[Extent],
     cone: Cone,
-    extent: Extent,
     start: usize,
 ) -> Result<ConeTable, AllocError>
     requires grid { IsGrid grid }
     requires cone { IsCone cone }
+    requires each { length extents.now ≡ length cones.now }
     ensures cone { IfOk result (λ table. table.cone ≡ cone) }
-    ensures told { IfOk result (IsTold grid extent) }
+    ensures told { IfOk result (IsTold grid cones.now extents.now) }
 {
-    let rows = cone_rows(alloc, grid, cone, extent)?;
+    let rows = cone_rows(alloc, grid, cone, extent_for(cones, extents, cone))?;
     let past = past_of(alloc, rows.as_slice())?;
     Ok(ConeTable {
         cone,

@@ -8,7 +8,7 @@ ghost use Rattle.precedence.specs.inner.Lists.{in_cone};
 ghost use Rattle.precedence.specs.inner.Rows.{AreInOrder};
 ghost use Rattle.precedence.specs.declared.places.code.TheConstants.{CODES};
 
-use crate::cones::bounds::extent_of;
+use crate::cones::bounds::extents_of;
 use crate::cones::cone_table::ConeTable;
 use crate::cones::zone_tables::{ZoneTables, tables_of};
 use crate::cuts::cut_cone::CutCone;
@@ -68,7 +68,9 @@ impl FoundPreds {
         let blocks = numbering.blocks();
         let places = places_of(alloc, blocks)?;
         let zones = zones_of(alloc, blocks)?;
-        let tables = tables_of(alloc, plan.grid(), plan.cones(), extent_of(blocks))?;
+        let cones = plan.cones();
+        let extents = extents_of(alloc, blocks, cones.len())?;
+        let tables = tables_of(alloc, plan.grid(), cones, extents.as_slice())?;
         let hints = no_hints(alloc, tables.rows())?;
         Ok(FoundPreds {
             places,

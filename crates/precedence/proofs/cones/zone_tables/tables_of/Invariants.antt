@@ -11,5 +11,5 @@ invariant-loop-cone l = record {
   below : All (λ t. t < length l.tables.items) l.of_zone.items;
   same : (z : ℕ) (cone : Cone) (table : ConeTable) → z < l.cone-index
       → (get_or l.tables.items (get_or l.of_zone.items z 0) table).cone ≡ get_or l.cones z cone;
-  told : All (IsTold l.grid l.extent) l.tables.items;
+  told : All (IsTold l.grid l.cones l.extents) l.tables.items;
 }

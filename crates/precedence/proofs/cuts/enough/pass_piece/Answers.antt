@@ -1,7 +1,6 @@
 use Rattle.std.proofs.Common.{◌≡◌, ◌+◌, ◌++◌, ◌∷◌, [], ℕ, List, length, get_or, refl, sym, subst, ap, ◌∙◌, arith}
 use Rattle.precedence.specs.inner.Cut.{table_of, IsWalked}
 use Rattle.precedence.specs.inner.Rows.{start_of}
-use Rattle.precedence.specs.inner.Search.{run}
 use Rattle.precedence.specs.declared.cones.cone_rows.Row.{Row}
 use Rattle.std.proofs.lemmas.List.{length-map}
 use Rattle.precedence.proofs.enough.Walks.{pass_covered, pass_empty, pass_spot}

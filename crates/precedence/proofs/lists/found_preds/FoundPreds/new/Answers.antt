@@ -13,7 +13,7 @@ invariant_of-result c =
     let blocks = c.blocks-blocks.result.now in
     let tables = c.in_ok-tables.tables in
     let zones : HasZones c.args.plan.now blocks = rw c.blocks-blocks.ensures.value c.requires in
-    let cones = ap length c.cones.ensures.value in
+    let cones = ap length c.cones-cones.ensures.value in
     record {
       each =
           ap length c.in_ok-zones.ensures ∙ length-map blocks (λ (b : Block). b.zone)
@@ -21,7 +21,7 @@ invariant_of-result c =
       zones = rw c.in_ok-zones.ensures (All-map (λ z. z < length tables.of_zone.items) (λ (b : Block). b.zone) blocks
           (λ k d lt. omega (arith, zones k d lt, c.in_ok-tables.ensures.zones, cones)));
       below = c.in_ok-tables.ensures.below;
-      in_order = tables_in_order c.grid.result c.extent_of.result tables.tables.items c.in_ok-tables.ensures.told;
+      in_order = tables_in_order c.grid.result c.cones-cones.result.now c.as_slice.result.now tables.tables.items c.in_ok-tables.ensures.told;
       cut = λ t table cut lt. absurd (omega arith);
     }
 
@@ -29,7 +29,8 @@ pub returns : goal.returns
 returns c =
     let tables = c.in_ok-tables.tables in
     (λ j. in_cones tables.tables.items tables.of_zone.items (c.in_ok-places.ensures j) (c.in_ok-zones.ensures j) (c.in_ok-places.ensures j))
-    ∙ preds_are c.args.plan.now c.extent_of.result tables.tables.items tables.of_zone.items c.blocks-blocks.result.now
-    (rw (c.grid.ensures.value, c.cones.ensures.value) at c.in_ok-tables.ensures) c.extent_of.ensures
+    ∙ preds_are c.args.plan.now c.as_slice.result.now tables.tables.items tables.of_zone.items c.blocks-blocks.result.now
+    (rw (c.grid.ensures.value, c.cones-cones.ensures.value) at c.in_ok-tables.ensures)
+    (rw c.as_slice.ensures.value c.in_ok-extents.ensures.near) (rw c.blocks-blocks.ensures.value c.blocks-blocks.ensures.rising)
     (rw c.blocks-blocks.ensures.value c.requires)
     ∙ ap (preds c.args.plan.now) c.blocks-blocks.ensures.value
