@@ -1,3 +1,4 @@
+pub mod Beside
 pub mod RowOfCode
 pub mod RunLists
 pub mod RunsOfRows

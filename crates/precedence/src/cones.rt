@@ -5,4 +5,5 @@ pub mod cone_rows;
 pub mod cone_table;
 pub mod counting;
 pub mod row_making;
+pub mod widths;
 pub mod zone_tables;

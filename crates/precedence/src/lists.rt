@@ -1,6 +1,7 @@
 //! The lists of predecessors, kept, found or counted, and the runs of identifiers that they are told by.
 
 pub mod ask_preds;
+pub mod beside;
 pub mod counted_preds;
 pub mod cut_runs;
 pub mod found_preds;

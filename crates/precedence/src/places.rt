@@ -3,23 +3,33 @@
 ghost use Rattle.std.specs.Prelude.{◌≡◌, ◌<◌, ◌≤◌, All, IfOk, length, map};
 ghost use Rattle.std.specs.List.Sorted.{IsStrictlyIncreasing};
 ghost use Rattle.precedence.specs.Codes.{place_code, place_codes};
+ghost use Rattle.precedence.specs.inner.Beside.{AreSpans};
 ghost use Rattle.precedence.specs.declared.places.code.TheConstants.{CODES};
 ghost use Rattle.pit_parts.specs.declared.ranges.TheConstants.{MAX_BLOCKS};
 
 use crate::places::code::code;
+use crate::places::span::Span;
+use crate::places::spans::{is_sparse, spans_of};
 use pit_parts::block::Block;
 use std::alloc::{AllocError, Global};
 
 pub mod code;
+pub mod span;
+pub mod spans;
 pub mod start_of;
 
 /// The codes of all blocks of a model in the order of their identifiers.
 #[derive(Debug, Drop)]
 pub struct Places {
     pub codes: Vec<u64>,
+    /// Where the blocks of each chunk of identifiers lie along x.
+    pub spans: Vec<Span>,
+    /// Whether it is worth to look at these.
+    pub sparse: bool,
     pub ghost rising: { IsStrictlyIncreasing codes.items },
     pub ghost few: { length codes.items ≤ MAX_BLOCKS },
     pub ghost small: { All (λ c. c < CODES) codes.items },
+    pub ghost spanned: { AreSpans spans.items codes.items },
 }
 
 /// The places of blocks that stand in the order of their identifiers.
@@ -29,7 +39,13 @@ pub fn places_of(alloc: Global, blocks: &[Block]) -> Result<Places, AllocError>
     ensures { IfOk result (λ places. places.codes.items ≡ place_codes blocks.now) }
 {
     let codes = codes_of(alloc, blocks)?;
-    Ok(Places { codes })
+    let spans = spans_of(alloc, blocks)?;
+    let sparse = is_sparse(codes.as_slice());
+    Ok(Places {
+        codes,
+        spans,
+        sparse,
+    })
 }
 
 fn codes_of(alloc: Global, blocks: &[Block]) -> Result<Vec<u64>, AllocError>

@@ -109,7 +109,8 @@ no_rows from n codes = nowhere n codes
 -- from a row to the next one that has codes, what is added is the row's run
 module _ (from high : ℕ) (rows : List Row) (codes : List ℕ) (apart : LieApart 0 rows high) (rising : IsStrictlyIncreasing codes)
     (i j past : ℕ) (row : Row) (is : row ≡ get_or rows i row) (within : i < length rows) (later : i < j) (inside : j ≤ length rows)
-    (found : past ≡ start_of (from + row.past) codes)
+    (found : start_of (from + row.past) codes ≤ past)
+    (beside : (k : ℕ) → start_of (from + row.past) codes ≤ k → k < past → k < length codes → is_in_rows from rows (get_or codes k 0) ≡ false)
     (skipped : (k : ℕ) → i < k → k < j → past < length codes → get_or (pasts rows) k 0 ≤ get_or codes past 0 - from) where
   abbrev others : List Row
   others = drop (suc i) rows
@@ -134,6 +135,14 @@ module _ (from high : ℕ) (rows : List Row) (codes : List ℕ) (apart : LieApar
       let P : Row → Type 0 = λ r. (r.first < r.past) × LieApart r.past others high in
       subst P (sym is) (apart_at 0 rows high i row apart within)
 
+  whole : drop i rows ≡ row ∷ others
+  whole = drop-cons rows i row within ∙ ap (λ r. r ∷ others) (sym is)
+
+  rest : drop (j - suc i) others ≡ drop j rows
+  rest =
+      let last : suc i + (j - suc i) ≡ j = omega arith in
+      drop-drop (j - suc i) (suc i) rows ∙ ap (λ n. drop n rows) last
+
   before : (k : ℕ) → k < first_place → in_all k ≡ false
   before k lt = before_rows from (code k) row.first (row ∷ others) high (omega arith, here.0, here.1)
       (start_before_in (from + row.first) k codes lt)
@@ -145,15 +154,21 @@ module _ (from high : ℕ) (rows : List Row) (codes : List ℕ) (apart : LieApar
       let up = lt-ltb _ _ (start_before_in (from + row.past) k codes lt) in
       λ t. (low t && up t) || is_in_rows from others (code k)
 
+  -- the blocks passed over lie in no row
+  passed : (k : ℕ) → past_place ≤ k → k < past → k < length codes → in_all k ≡ in_rest k
+  passed k le lt within =
+      let lies = beside k le lt within in
+      ap (λ rs. is_in_rows from rs (code k)) (sym whole) ∙ fewer_rows from (code k) i rows lies
+      ∙ sym (ap (λ rs. is_in_rows from rs (code k)) rest ∙ fewer_rows from (code k) j rows lies)
+
   -- the rows passed over have no code
-  beyond : (k : ℕ) → past_place ≤ k → k < length codes → in_all k ≡ in_rest k
+  beyond : (k : ℕ) → past ≤ k → k < length codes → in_all k ≡ in_rest k
   beyond k le lt =
-      let far = from_start (from + row.past) past_place codes rising (omega arith) (omega arith) in
-      let same = ap code found in
-      ap (λ b. b || is_in_rows from others (code k)) (behind_row from (code k) row (from_start (from + row.past) k codes rising le lt))
+      ap (λ b. b || is_in_rows from others (code k)) (behind_row from (code k) row (from_start (from + row.past) k codes rising (omega (arith, found)) lt))
       ∙ skip from (code k) (j - suc i) others (omega (arith, length-drop (suc i) rows)) (λ m less.
       let gap = skipped (suc i + m) (omega arith) (omega arith) (omega arith) in
-      omega (arith, past_at rows (suc i) m, no_less codes past_place k rising le lt))
+      let far = from_start (from + row.past) past codes rising found (omega arith) in
+      omega (arith, gap, far, past_at rows (suc i) m, no_less codes past k rising le lt))
 
   none : (k : ℕ) → k < past_place → in_rest k ≡ false
   none k lt = fewer_rows from (code k) (j - suc i) others
@@ -162,12 +177,12 @@ module _ (from high : ℕ) (rows : List Row) (codes : List ℕ) (apart : LieApar
   pub adds_run : places_where (is_in_rows from (drop i rows)) 0 codes ≡ run from row codes
       ++ places_where (is_in_rows from (drop j rows)) 0 codes
   adds_run =
-      let whole : drop i rows ≡ row ∷ others = drop-cons rows i row within ∙ ap (λ r. r ∷ others) (sym is) in
       let begin : max first_place 0 ≡ first_place = omega arith in
-      let last : suc i + (j - suc i) ≡ j = omega arith in
-      let rest : drop (j - suc i) others ≡ drop j rows = drop-drop (j - suc i) (suc i) rows ∙ ap (λ n. drop n rows) last in
       rw (whole, ← rest) (where_at (is_in_rows from (row ∷ others)) 0 codes
-      ∙ filter_run in_all in_rest first_place past_place 0 (length codes) before within_row (λ k le lt. beyond k le (omega arith)) none
+      ∙ filter_run in_all in_rest first_place past_place 0 (length codes) before within_row (λ k le lt. ⊎_elim
+      (λ near. passed k le near (omega arith))
+      (λ far. beyond k far (omega arith))
+      (cases_lt k past)) none
       (start_grows (from + row.first) (from + row.past) codes rising (omega (arith, here.0)))
       (omega (arith, start_within (from + row.past) codes))
       ∙ (λ t. range_with_len (begin t) (past_place - begin t) ++ sym (where_at (is_in_rows from (drop (j - suc i) others)) 0 codes) t))

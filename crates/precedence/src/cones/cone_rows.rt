@@ -37,6 +37,13 @@ pub struct Counts {
     pub east: u16,
 }
 
+/// How far rows of a cone reach at most to the west and to the east of the block below, in blocks.
+#[derive(Clone, Copy, Debug)]
+pub struct Widths {
+    pub west: u64,
+    pub east: u64,
+}
+
 /// Where a row of a cone lies: the codes of its blocks are from `first` on and before `past`, as distances from the code of the
 /// block below.
 #[derive(Clone, Copy, Debug)]

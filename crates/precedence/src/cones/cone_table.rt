@@ -1,9 +1,10 @@
 //! The table of a cone.
 
 ghost use Rattle.std.specs.Prelude.{◌≡◌};
+ghost use Rattle.precedence.specs.inner.Beside.{AreNoWider};
 ghost use Rattle.precedence.specs.inner.Rows.{pasts};
 
-use crate::cones::cone_rows::Row;
+use crate::cones::cone_rows::{Row, Widths};
 use pit_parts::cone::Cone;
 
 /// The rows of a cone.
@@ -13,7 +14,9 @@ pub struct ConeTable {
     pub rows: Vec<Row>,
     /// Where each row is past.
     pub past: Vec<u64>,
+    pub widths: Widths,
     /// The number of rows in the tables before, where the hints for its own begin.
     pub start: usize,
     pub ghost all_past: { past.items ≡ pasts rows.items },
+    pub ghost no_wider: { AreNoWider widths rows.items },
 }

@@ -10,6 +10,7 @@ use crate::cones::bounds::extent_for;
 use crate::cones::cone_rows::{Extent, Row};
 use crate::cones::cone_table::ConeTable;
 use crate::cones::row_making::cone_rows;
+use crate::cones::widths::widths_of;
 use pit_parts::cone::Cone;
 use pit_parts::grid::Grid;
 use std::alloc::{AllocError, Global};
@@ -122,10 +123,12 @@ fn table_of(
 {
     let rows = cone_rows(alloc, grid, cone, extent_for(cones, extents, cone))?;
     let past = past_of(alloc, rows.as_slice())?;
+    let widths = widths_of(rows.as_slice());
     Ok(ConeTable {
         cone,
         rows,
         past,
+        widths,
         start,
     })
 }

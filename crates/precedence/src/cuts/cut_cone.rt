@@ -1,9 +1,10 @@
 //! A cone that is cut in pieces. Definitions name these types, and so no function stands beside them.
 
 ghost use Rattle.std.specs.Prelude.{◌≡◌};
+ghost use Rattle.precedence.specs.inner.Beside.{AreNoWider};
 ghost use Rattle.precedence.specs.inner.Rows.{pasts};
 
-use crate::cones::cone_rows::Row;
+use crate::cones::cone_rows::{Row, Widths};
 use crate::lists::runs::Hint;
 use std::cell::Cell;
 
@@ -22,6 +23,7 @@ pub struct CutCone {
     pub pieces: Vec<Row>,
     /// Where each piece is past.
     pub past: Vec<u64>,
+    pub widths: Widths,
     /// How far from the code of the block below each spot is.
     pub spots: Vec<u64>,
     /// Of each piece.
@@ -31,4 +33,5 @@ pub struct CutCone {
     /// Where the block at each spot was put last: a guess.
     pub marks: Vec<Cell<usize>>,
     pub ghost all_past: { past.items ≡ pasts pieces.items },
+    pub ghost no_wider: { AreNoWider widths pieces.items },
 }

@@ -6,6 +6,7 @@ ghost use Rattle.precedence.specs.inner.Rows.{is_in_row, is_in_rows, pasts, AreI
 ghost use Rattle.precedence.specs.declared.cuts.cutting.TheConstants.{MOST_SPOTS};
 
 use crate::cones::cone_rows::Row;
+use crate::cones::widths::widths_of;
 use crate::cuts::cut_cone::{Cover, CutCone};
 use crate::lists::runs::NOTHING_KNOWN;
 use crate::places::start_of::start_of;
@@ -51,6 +52,7 @@ fn put_together(
     ensures spots { IfOk result (λ cut. cut.spots ≡ spots) }
 {
     let past = pasts_of(alloc, pieces.as_slice())?;
+    let widths = widths_of(pieces.as_slice());
     let hints = pieces
         .iter()
         .map(|_| Cell::new(NOTHING_KNOWN))
@@ -59,6 +61,7 @@ fn put_together(
     Ok(CutCone {
         pieces,
         past,
+        widths,
         spots,
         covers,
         hints,

@@ -8,6 +8,7 @@ ghost use Rattle.precedence.specs.declared.places.code.TheConstants.{CODES};
 
 use crate::cones::cone_rows::Row;
 use crate::cuts::cut_cone::CutCone;
+use crate::lists::beside::{ByChunk, PassBlocks};
 use crate::lists::runs::{Hint, NOTHING_KNOWN, find_run, next_row};
 use crate::places::Places;
 use std::alloc::AllocError;
@@ -50,6 +51,11 @@ pub fn add_enough(
     Ok(true)
 }
 
+// From which identifier on it is worth to try whether blocks can be passed over.
+fn first_try(places: &Places) -> u32 {
+    if places.sparse { 0 } else { u32::MAX }
+}
+
 // Passes a piece whose identifiers are covered, or that has none, or one at a spot, which is put into `found`; or tells that it can not.
 #[inline(always)]
 fn pass_piece(
@@ -83,13 +89,16 @@ fn pass_piece(
         }));
     }
     let run = piece_run(places, cut, number, piece, from);
-    let later = next_row(places, cut.past.as_slice(), number, run.past as usize, from);
+    let past = cut.past.as_slice();
     if run.first >= run.past {
+        let retry = first_try(places);
+        let behind = ByChunk.id_behind(places, past, &cut.widths, number, run, retry, from);
         return Ok(Some(Passed {
-            piece: later,
+            piece: next_row(places, past, number, behind.id as usize, from),
             next: passed.next,
         }));
     }
+    let later = next_row(places, past, number, run.past as usize, from);
     match spot_of(
         places,
         zones,
@@ -166,6 +175,7 @@ fn piece_run(places: &Places, cut: &CutCone, number: usize, piece: Row, from: u6
     requires { from < CODES }
     ensures first { result.first ≡ start_of (from + piece.first) places.now.codes.items }
     ensures past { result.past ≡ start_of (from + piece.past) places.now.codes.items }
+    ensures within { result.past ≤ length places.now.codes.items }
 {
     let known = match cut.hints.get(number) {
         Some(hint) => hint.get(),

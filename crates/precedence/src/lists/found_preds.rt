@@ -221,6 +221,7 @@ fn add_in_cone(
         places,
         table.rows.as_slice(),
         table.past.as_slice(),
+        &table.widths,
         &hints[start..],
         from,
     )

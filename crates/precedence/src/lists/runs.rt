@@ -5,11 +5,13 @@ ghost use Rattle.std.specs.List.{range_with_len};
 ghost use Rattle.std.specs.List.Sorted.{IsStrictlyIncreasing};
 ghost use Rattle.precedence.specs.Cone.{places_where};
 ghost use Rattle.precedence.specs.IdRuns.{ids_of};
+ghost use Rattle.precedence.specs.inner.Beside.{AreNoWider};
 ghost use Rattle.precedence.specs.inner.Rows.{is_in_rows, pasts, start_of, AreInOrder};
 ghost use Rattle.precedence.specs.inner.Search.{run};
 ghost use Rattle.precedence.specs.declared.places.code.TheConstants.{CODES};
 
-use crate::cones::cone_rows::Row;
+use crate::cones::cone_rows::{Row, Widths};
+use crate::lists::beside::{BEFORE_ALL, ByChunk, ByRow, PassBlocks};
 use crate::lists::id_run::IdRun;
 use crate::places::Places;
 use crate::places::start_of::start_of;
@@ -26,35 +28,64 @@ pub struct Hint {
 /// What is known before the first block.
 pub const NOTHING_KNOWN: Hint = Hint { first: 0, past: 0 };
 
-/// Appends the runs of the identifiers whose codes lie in the rows, seen from the code `from`, in rising order. `past` has
-/// the end of each row. The hints, one for each row, are guesses, such as where the rows' runs were found for a smaller
-/// code: they change the time and not the answer.
+/// Appends the runs of the identifiers whose codes lie in the rows, seen from the code `from`, in rising order. `past` has the end of
+/// each row, and the rows are no wider than `widths`. The hints, one for each row, are guesses, such as where the rows' runs were found
+/// for a smaller code: they change the time and not the answer.
+#[inline(always)]
 pub fn add_above(
     runs: &mut Vec<IdRun>,
     places: &Places,
     rows: &[Row],
     past: &[u64],
+    widths: &Widths,
     hints: &[Cell<Hint>],
     from: u64,
 ) -> Result<(), AllocError>
     requires in_order { AreInOrder rows.now }
     requires past { past.now ≡ pasts rows.now }
+    requires widths { AreNoWider widths.now rows.now }
+    requires from { from < CODES }
+    ensures { OnOk result (ids_of runs.new.items
+        ≡ ids_of runs.old.items ++ places_where (is_in_rows from rows.now) 0 places.now.codes.items) }
+{
+    if places.sparse {
+        add_rows(&ByChunk, runs, places, rows, past, widths, hints, from)
+    } else {
+        add_rows(&ByRow, runs, places, rows, past, widths, hints, from)
+    }
+}
+
+// The same, where `pass` tells which blocks are passed over behind an empty run.
+#[inline(never)]
+fn add_rows<P: PassBlocks>(
+    pass: &P,
+    runs: &mut Vec<IdRun>,
+    places: &Places,
+    rows: &[Row],
+    past: &[u64],
+    widths: &Widths,
+    hints: &[Cell<Hint>],
+    from: u64,
+) -> Result<(), AllocError>
+    requires in_order { AreInOrder rows.now }
+    requires past { past.now ≡ pasts rows.now }
+    requires widths { AreNoWider widths.now rows.now }
     requires from { from < CODES }
     ensures { OnOk result (ids_of runs.new.items
         ≡ ids_of runs.old.items ++ places_where (is_in_rows from rows.now) 0 places.now.codes.items) }
 {
     let mut i = 0;
-    let mut behind = 0;
+    let mut behind = BEFORE_ALL;
     while i < rows.len() {
-        let run = add_run(runs, places, rows[i], hint_at(hints, i, behind), from)?;
+        let run = add_run(runs, places, rows[i], hint_at(hints, i, behind.id), from)?;
         keep_hint(hints, i, run);
-        behind = run.past;
-        i = next_row(places, past, i, run.past as usize, from);
+        behind = pass.id_behind(places, past, widths, i, run, behind.retry, from);
+        i = next_row(places, past, i, behind.id as usize, from);
     }
     Ok(())
 }
 
-// A row's hint, but for what is before `behind`, where the row before it ends: a row that was left out for long has an old one.
+// A row's hint, but for what is before `behind`, from which on blocks are looked for: a row that was left out for long has an old one.
 #[inline(always)]
 fn hint_at(hints: &[Cell<Hint>], i: usize, behind: u32) -> Hint {
     let known = match hints.get(i) {
@@ -89,6 +120,7 @@ fn add_run(
         ≡ ids_of runs.old.items ++ run from row places.now.codes.items) }
     ensures past { IfOk result (λ found. found.past
         ≡ start_of (from + row.past) places.now.codes.items) }
+    ensures within { IfOk result (λ found. found.past ≤ length places.now.codes.items) }
 {
     let found = find_run(places, row, hint, from);
     push_run(runs, found.first, found.past)?;
@@ -103,6 +135,7 @@ pub fn find_run(places: &Places, row: Row, hint: Hint, from: u64) -> Hint
     ensures first { result.first ≡ start_of (from + row.first) places.now.codes.items }
     ensures past { result.past ≡ start_of (from + row.past) places.now.codes.items }
     ensures in_order { result.first ≤ result.past }
+    ensures within { result.past ≤ length places.now.codes.items }
 {
     let codes = places.codes.as_slice();
     let first = start_of(codes, hint.first as usize, from + row.first);
@@ -146,19 +179,19 @@ fn run_end(codes: &[u64], first: usize, hint: usize, past: u64) -> usize
     }
 }
 
-/// The first row after the row `i` that can have a code from the one of the identifier `past` on, or the number of rows.
+/// The first row after the row `i` that can have a code from the one of the identifier `id` on, or the number of rows.
 #[tactic(auto, using(crate::proofs::runs::Starts::runs))]
 #[inline(always)]
-pub fn next_row(places: &Places, pasts: &[u64], i: usize, past: usize, from: u64) -> usize
+pub fn next_row(places: &Places, pasts: &[u64], i: usize, id: usize, from: u64) -> usize
     requires rising { IsStrictlyIncreasing pasts.now }
     requires i { i < length pasts.now }
     ensures later { i < result }
     ensures within { result ≤ length pasts.now }
-    ensures skipped { (k : ℕ) → i < k → k < result → past < length places.now.codes.items
-        → slice_index pasts.now k ≤ slice_index places.now.codes.items past - from }
+    ensures skipped { (k : ℕ) → i < k → k < result → id < length places.now.codes.items
+        → slice_index pasts.now k ≤ slice_index places.now.codes.items id - from }
 {
-    if past < places.codes.len() {
-        let gap = places.codes[past].saturating_sub(from);
+    if id < places.codes.len() {
+        let gap = places.codes[id].saturating_sub(from);
         start_of(pasts, i, gap.saturating_add(1)).max(i + 1)
     } else {
         pasts.len()

@@ -1,21 +1,28 @@
-use Rattle.std.proofs.Common.{◌≤◌, length, ap, arith, append_assoc, append-nil}
+use Rattle.std.proofs.Common.{◌≤◌, length, get_or, ap, arith, append_assoc, append-nil}
 use Rattle.std.proofs.lemmas.List.{drop_all, length-map}
 use Rattle.precedence.specs.declared.cones.cone_rows.Row.{Row}
+use Rattle.precedence.proofs.runs.Beside.{in_no_rows}
 use Rattle.precedence.proofs.runs.RunsOfRows.{adds_run, no_rows, pasts_rise}
-use Rattle.precedence.proofs.lists.runs.add_above.Goals as goal
+use Rattle.precedence.proofs.lists.runs.add_rows.Goals as goal
 
 pub next_row-i-requires-clause-rising : goal.next_row-i-requires-clause-rising
-next_row-i-requires-clause-rising c =
+next_row-i-requires-clause-rising g c =
     rw c.requires.past (pasts_rise 0 c.args.rows.now c.requires.in_order.0 c.requires.in_order.1)
 
 pub loop-i-preserved : goal.loop-i-preserved
-loop-i-preserved c =
+loop-i-preserved g c =
     let rows = c.args.rows.now in
     let inside : c.next_row-i.result ≤ length rows =
     omega (arith, c.next_row-i.ensures.within, ap length c.requires.past, length-map rows (λ (row : Row). row.past)) in
-    let adds = adds_run c.args.from c.requires.in_order.0 rows c.args.places.now.codes.items c.requires.in_order.1
-    c.args.places.now.rising c.loop-i.i c.next_row-i.result c.in_ok-run.run'.past c.index-rows-i.result
-    c.index-rows-i.is c.loop-i-test.true c.next_row-i.ensures.later inside c.in_ok-run.ensures.past
+    let codes = c.args.places.now.codes.items in
+    let widths = c.args.widths.now in
+    let behind = c.id_behind-behind in
+    let adds = adds_run c.args.from c.requires.in_order.0 rows codes c.requires.in_order.1
+    c.args.places.now.rising c.loop-i.i c.next_row-i.result behind.result.id c.index-rows-i.result
+    c.index-rows-i.is c.loop-i-test.true c.next_row-i.ensures.later inside
+    (omega (arith, c.in_ok-run.ensures.past, behind.ensures.later))
+    (λ k le lt _. in_no_rows widths.west widths.east c.args.from (get_or codes k 0) rows c.requires.widths
+    (λ row wide. behind.ensures.beside row k wide (omega (arith, c.in_ok-run.ensures.past, le)) lt))
     (rw c.requires.past at c.next_row-i.ensures.skipped) in
     record {
       within = inside;
@@ -23,6 +30,6 @@ loop-i-preserved c =
     }
 
 pub returns : goal.returns
-returns c =
+returns g c =
     rw (drop_all c.loop-i.i c.args.rows.now c.loop-i-test.false, no_rows c.args.from 0 c.args.places.now.codes.items, append-nil)
     at c.loop-i.invariant.list

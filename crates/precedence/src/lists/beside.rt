@@ -1,0 +1,235 @@
+//! Passing over blocks beside a cone, many at a time.
+
+ghost use Rattle.std.specs.Prelude.{◌≡◌, ◌+◌, ◌*◌, ◌/◌, ◌<◌, ◌≤◌, ℕ, false, length, slice_index, IsTrue};
+ghost use Rattle.precedence.specs.inner.Beside.{IsBeside, IsNoWider, LeaveOut};
+ghost use Rattle.precedence.specs.inner.Rows.{is_in_row};
+ghost use Rattle.precedence.specs.declared.cones.cone_rows.Row.{Row};
+ghost use Rattle.precedence.specs.declared.places.spans.TheConstants.{CHUNK};
+
+use crate::cones::cone_rows::Widths;
+use crate::lists::runs::Hint;
+use crate::places::Places;
+use crate::places::code::ROW;
+use crate::places::spans::{CHUNK, FEW_ROWS};
+use pit_parts::ranges::GRID_CELLS;
+
+// Of a cone that reaches further nothing is passed over.
+const WIDE: u64 = 50_000;
+
+/// From which identifier on blocks are looked for, and from which on it is worth to try again whether some can be passed over: a guess.
+#[derive(Clone, Copy, Debug)]
+pub struct Behind {
+    pub id: u32,
+    pub retry: u32,
+}
+
+/// What is known before the first row.
+pub const BEFORE_ALL: Behind = Behind { id: 0, retry: 0 };
+
+// The blocks at an index along x before `west`, and from `east` on, lie beside a cone.
+#[derive(Clone, Copy, Debug)]
+struct Columns {
+    west: u64,
+    east: u64,
+}
+
+/// How blocks are passed over behind an empty run.
+pub trait PassBlocks {
+    /// From which identifier on blocks are looked for behind the run of the row `i`. `past` has the end of each row of the cone.
+    fn id_behind(
+        &self,
+        places: &Places,
+        past: &[u64],
+        widths: &Widths,
+        i: usize,
+        run: Hint,
+        retry: u32,
+        from: u64,
+    ) -> Behind
+        requires { run.past ≤ length places.now.codes.items }
+        ensures later { run.past ≤ result.id }
+        ensures within { result.id ≤ length places.now.codes.items }
+        ensures beside { (row : Row) (m : ℕ) → IsNoWider widths.now.west widths.now.east row
+            → run.past ≤ m → m < result.id
+            → is_in_row from row (slice_index places.now.codes.items m) ≡ false };
+}
+
+/// Passes over nothing: where rows have many blocks there is little to pass over, and each step counts.
+#[derive(Clone, Copy, Debug)]
+pub struct ByRow;
+
+/// Passes over chunks of identifiers whose blocks lie beside all rows of the cone.
+#[derive(Clone, Copy, Debug)]
+pub struct ByChunk;
+
+impl PassBlocks for ByRow {
+    #[inline(always)]
+    fn id_behind(
+        &self,
+        _places: &Places,
+        _past: &[u64],
+        _widths: &Widths,
+        _i: usize,
+        run: Hint,
+        retry: u32,
+        _from: u64,
+    ) -> Behind {
+        Behind {
+            id: run.past,
+            retry,
+        }
+    }
+}
+
+impl PassBlocks for ByChunk {
+    #[inline(always)]
+    fn id_behind(
+        &self,
+        places: &Places,
+        past: &[u64],
+        widths: &Widths,
+        i: usize,
+        run: Hint,
+        retry: u32,
+        from: u64,
+    ) -> Behind {
+        if run.first < run.past || run.past < retry {
+            return Behind {
+                id: run.past,
+                retry,
+            };
+        }
+        behind_empty(places, past, widths, i, run.past, from)
+    }
+}
+
+// The same behind an empty run, where it is worth to try.
+#[cold]
+#[inline(never)]
+fn behind_empty(
+    places: &Places,
+    past: &[u64],
+    widths: &Widths,
+    i: usize,
+    id: u32,
+    from: u64,
+) -> Behind
+    requires id { id ≤ length places.now.codes.items }
+    ensures later { id ≤ result.id }
+    ensures within { result.id ≤ length places.now.codes.items }
+    ensures beside { (row : Row) (m : ℕ) → IsNoWider widths.now.west widths.now.east row → id ≤ m → m < result.id
+        → is_in_row from row (slice_index places.now.codes.items m) ≡ false }
+{
+    let next = first_not_beside(places, past, widths, i, id as usize, from);
+    Behind {
+        id: next as u32,
+        retry: end_of_chunk(places.codes.len(), next) as u32,
+    }
+}
+
+// The first identifier from `id` on that is not passed over.
+fn first_not_beside(
+    places: &Places,
+    past: &[u64],
+    widths: &Widths,
+    i: usize,
+    id: usize,
+    from: u64,
+) -> usize
+    requires id { id ≤ length places.now.codes.items }
+    ensures later { id ≤ result }
+    ensures within { result ≤ length places.now.codes.items }
+    ensures beside { (row : Row) (m : ℕ) → IsNoWider widths.now.west widths.now.east row → id ≤ m → m < result
+        → is_in_row from row (slice_index places.now.codes.items m) ≡ false }
+{
+    if !gets_on(
+        places.codes.as_slice(),
+        past,
+        i.saturating_add(FEW_ROWS),
+        id,
+        from,
+    ) {
+        return id;
+    }
+    pass_beside(places, past, columns_of(widths, from), i, id, from)
+}
+
+// The same, of these columns.
+fn pass_beside(
+    places: &Places,
+    past: &[u64],
+    columns: Columns,
+    i: usize,
+    id: usize,
+    from: u64,
+) -> usize
+    requires id { id ≤ length places.now.codes.items }
+    ensures later { id ≤ result }
+    ensures within { result ≤ length places.now.codes.items }
+    ensures beside { (m : ℕ) → id ≤ m → m < result
+        → IsBeside columns.west columns.east (slice_index places.now.codes.items m) }
+{
+    let codes = places.codes.as_slice();
+    let mut next = id;
+    let mut row = i.saturating_add(FEW_ROWS);
+    while gets_on(codes, past, row, next, from) && lies_beside(places, columns, next) {
+        next = end_of_chunk(codes.len(), next);
+        row = row.saturating_add(FEW_ROWS);
+    }
+    next
+}
+
+// Whether the rest of a chunk, from an identifier on, goes past the row.
+#[inline(always)]
+fn gets_on(codes: &[u64], past: &[u64], row: usize, id: usize, from: u64) -> bool
+    ensures { IsTrue result → id < length codes.now }
+{
+    if id >= codes.len() || row >= past.len() {
+        return false;
+    }
+    let end = end_of_chunk(codes.len(), id);
+    from.saturating_add(past[row]) <= codes[end - 1]
+}
+
+// Where the chunk of an identifier ends.
+#[inline(always)]
+fn end_of_chunk(count: usize, id: usize) -> usize
+    ensures later { id < count → id < result }
+    ensures within { result ≤ count }
+    ensures chunk { result ≤ id / CHUNK * CHUNK + CHUNK }
+{
+    (id / CHUNK * CHUNK).saturating_add(CHUNK).min(count)
+}
+
+// Whether all blocks of the chunk of an identifier lie beside the columns.
+#[inline(always)]
+fn lies_beside(places: &Places, columns: Columns, id: usize) -> bool
+    ensures { IsTrue result → (m : ℕ) → id ≤ m → m < id / CHUNK * CHUNK + CHUNK
+        → m < length places.now.codes.items
+        → IsBeside columns.west columns.east (slice_index places.now.codes.items m) }
+{
+    match places.spans.get(id / CHUNK) {
+        Some(span) => {
+            u64::from(span.east) < columns.west || columns.east <= u64::from(span.west)
+        }
+        None => false,
+    }
+}
+
+// The columns of a cone, seen from the code `from`.
+fn columns_of(widths: &Widths, from: u64) -> Columns
+    ensures { LeaveOut widths.now from result.west result.east }
+{
+    let x = from % ROW;
+    let cells = u64::from(GRID_CELLS);
+    if x >= cells || widths.west > WIDE || widths.east > WIDE {
+        return Columns {
+            west: 0,
+            east: cells,
+        };
+    }
+    Columns {
+        west: x.saturating_sub(widths.west),
+        east: x + widths.east,
+    }
+}

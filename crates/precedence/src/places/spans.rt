@@ -1,0 +1,61 @@
+//! Where blocks lie along x, some identifiers at a time.
+
+ghost use Rattle.std.specs.Prelude.{◌≡◌, ◌<◌, ◌≤◌, ℕ, IfOk, length, slice_index_or};
+ghost use Rattle.pit_parts.specs.declared.block.Block.{Block};
+ghost use Rattle.precedence.specs.Codes.{place_codes};
+ghost use Rattle.precedence.specs.inner.Beside.{AreSpans};
+
+use crate::places::code::{BENCH, ROW};
+use crate::places::span::Span;
+use pit_parts::block::Block;
+use pit_parts::ranges::GRID_CELLS;
+use std::alloc::{AllocError, Global};
+
+/// So many identifiers have a span.
+pub const CHUNK: usize = 64;
+
+/// So many rows are passed over with each chunk, or more: to look at a row takes hardly longer than to look at a chunk.
+pub const FEW_ROWS: usize = 8;
+
+// So many chunks go past a few rows of blocks where it is worth to ask for them.
+const MANY: usize = 16;
+
+/// Whether many chunks go past a few rows of blocks of one bench, so that blocks can be passed over.
+pub fn is_sparse(codes: &[u64]) -> bool {
+    let mut thin = 0usize;
+    for k in 0..codes.len() / CHUNK {
+        let first = codes[k * CHUNK];
+        let last = codes[k * CHUNK + CHUNK - 1];
+        if first / BENCH == last / BENCH && last.saturating_sub(first) >= FEW_ROWS as u64 * ROW {
+            thin = thin.saturating_add(1);
+        }
+    }
+    thin > MANY
+}
+
+/// The spans of blocks, of 64 each.
+pub fn spans_of(alloc: Global, blocks: &[Block]) -> Result<Vec<Span>, AllocError>
+    ensures { IfOk result (λ spans. AreSpans spans.items (place_codes blocks.now)) }
+{
+    let chunks = blocks.len() / CHUNK + 1;
+    let mut spans = Vec::with_capacity(alloc, chunks)?;
+    for k in 0..chunks {
+        let start = k * CHUNK;
+        let end = blocks.len().min(start + CHUNK);
+        spans.push(span_of(&blocks[start..end]))?;
+    }
+    Ok(spans)
+}
+
+fn span_of(blocks: &[Block]) -> Span
+    ensures { (k : ℕ) (d : Block) → k < length blocks.now
+        → (result.west ≤ (slice_index_or blocks.now k d).x) × ((slice_index_or blocks.now k d).x ≤ result.east) }
+{
+    let mut west = GRID_CELLS - 1;
+    let mut east = 0;
+    for block in blocks {
+        west = west.min(block.x);
+        east = east.max(block.x);
+    }
+    Span { west, east }
+}
