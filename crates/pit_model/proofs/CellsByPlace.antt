@@ -11,7 +11,7 @@ use Rattle.forms.specs.Words.{Field, Decimal, Value, Millionths, below, whole, w
 use Rattle.records.specs.RecordCells.{cell_at}
 use Rattle.pit_model.specs.inner.ByPlace.{bound_in, covered, destination_in, destined, key_in, limit_in, limited, part_from, read_from, read_then, resource_in, said_by_place}
 use Rattle.pit_model.specs.FormulaShapes.{bands_asked, bands_form, bands_of}
-use Rattle.pit_model.specs.PlanShapes.{key_of, record_shape, a_destination, a_resource, bound_form, bound_of, covers_of, limit_on, cells_shape, destination_shape, is_interval, key_shape, limit_form, limit_shape, resource_form, resource_shape}
+use Rattle.pit_model.specs.PlanShapes.{a_destination, a_resource, bound_form, bound_of, covers_of, limit_on, cells_shape, destination_shape, is_interval, key_shape, limit_form, limit_shape, resource_form, resource_shape}
 use Rattle.pit_model.specs.Stated.{Stated, resource_named}
 use Rattle.pit_model.specs.declared.plan_fault.PlanFaultKind.TheVariants.{Width}
 use Rattle.pit_model.specs.declared.draft.formulas.FormulaKey.{FormulaKey}
@@ -58,7 +58,7 @@ part_apart place form cells part behind =
     ∙ sym (again (read_from place form cells) (λ values. Ok (part values)) behind)
 
 -- read at their places, cells are read from the front
-from_front : (place : ℕ) (form : List Field) (cells : List (List ℕ)) → length cells ≡ place + length form
+pub from_front : (place : ℕ) (form : List Field) (cells : List (List ℕ)) → length cells ≡ place + length form
     → read_from place form cells ≡ read_fields (λ p. plan_kind) form (drop place cells)
 from_front place [] cells long = by (drop place cells) (omega (arith, long, length-drop place cells))
   where
@@ -89,7 +89,7 @@ by_place cells shape some = by (length cells == suc (length shape.form)) refl
         ne_eqb _ _ (λ is. eqb-false (length cells) (suc (length shape.form)) e (omega (arith, some, is, length-drop 1 cells))) in
         rw short refl
 
-bands_long : (n : ℕ) → length (bands_form n) ≡ 2 * n
+pub bands_long : (n : ℕ) → length (bands_form n) ≡ 2 * n
 bands_long zero = refl
 bands_long (suc n) = omega (arith, bands_long n)
 
@@ -127,17 +127,13 @@ destination_placed : (s : Stated) (k : FormulaKey) (cells : List (List ℕ))
 destination_placed s formula_key.Leach cells = leach_placed s cells
 destination_placed s k cells = refl
 
-key_placed : (s : Stated) (k : PlanKey) (cells : List (List ℕ)) → ¬ (length cells ≡ 0)
+pub key_placed : (s : Stated) (k : PlanKey) (cells : List (List ℕ)) → ¬ (length cells ≡ 0)
     → said (key_shape s (Some k) cells) ≡ key_in s k cells
 key_placed s (key.Destination k) cells some =
     by_place cells (key_shape s (Some (key.Destination k)) cells) some ∙ destination_placed s k cells
 key_placed s key.Resource cells some = by_place cells (key_shape s (Some key.Resource) cells) some ∙ resource_placed s cells
 key_placed s key.Limit cells some = by_place cells (key_shape s (Some key.Limit) cells) some ∙ limit_placed s cells
 key_placed s k cells some = by_place cells (key_shape s (Some k) cells) some
-
-pub recorded : (s : Stated) (k : PlanKey) (cells : List (List ℕ)) → ¬ (length cells ≡ 0) → key_of (cell_at cells 0) ≡ Some k
-    → said (record_shape s cells) ≡ key_in s k cells
-recorded s k cells some is = let test : (length cells == 0) ≡ false = ne_eqb _ _ some in rw (test, is) (key_placed s k cells some)
 
 -- a limit by its parts
 pub limit_said : (s : Stated) (cells : List (List ℕ)) (resource period : ℕ) (bound : Bound)

@@ -7,3 +7,4 @@ pub mod PlanFits
 pub mod PlanKept
 pub mod PlanLaws
 pub mod PlanSteps
+pub mod RecordFacts

@@ -3,8 +3,9 @@ use Rattle.std.specs.Prelude.{◌≡◌, ℕ, zero, suc, ◌==◌, Bool, true, f
 use Rattle.std.proofs.Common.{refl}
 use Rattle.forms.specs.Words.{is_fine, HasFineForms}
 use Rattle.records.specs.RecordCells.{cell_at, cells_of}
-use Rattle.pit_model.specs.PlanShapes.{blank_shape, bound_form, key_of, key_shape, record_shape, zone_form, a_destination}
-use Rattle.pit_model.specs.Planned.{plan_grammar}
+use Rattle.pit_model.specs.PlanShapes.{blank_shape, bound_form, key_shape, record_shape, zone_form, a_destination}
+use Rattle.pit_model.specs.PlanKeys.{key_of}
+use Rattle.pit_model.specs.SpelledPlan.{plan_grammar}
 use Rattle.pit_model.specs.Stated.{Stated}
 use Rattle.pit_model.specs.declared.plan_key.PlanKey.{PlanKey}
 use Rattle.pit_model.specs.declared.plan_key.PlanKey.TheVariants as key

@@ -15,8 +15,10 @@ use Rattle.pit_parts.specs.formulas.Formula.{IsRuled}
 use Rattle.pit_parts.specs.PlanKept.{plan_of, AreCovers, AreTonnes, IsBound, IsCone, IsGrid, IsPlan, IsSlope, IsTonnes, RiseStrictly, has_repeat, is_turned}
 use Rattle.pit_model.specs.PlanCells.{a_bound, a_period_count, a_rate}
 use Rattle.pit_model.specs.FormulaShapes.{formula_shape}
-use Rattle.pit_model.specs.PlanShapes.{a_destination, blank_shape, bound_form, bound_of, cone_of, covers_of, grid_form, grid_of, is_interval, key_of, key_shape, limit_form, limit_of, record_shape, resource_form, room_for_destination, slope_at, zone_form}
-use Rattle.pit_model.specs.Planned.{SpellPlan, numbered_shape, plan_grammar, whole_plan}
+use Rattle.pit_model.specs.PlanShapes.{a_destination, blank_shape, bound_form, bound_of, cone_of, covers_of, grid_form, grid_of, is_interval, key_shape, limit_form, limit_of, record_shape, resource_form, room_for_destination, slope_at, zone_form}
+use Rattle.pit_model.specs.PlanKeys.{key_of}
+use Rattle.pit_model.specs.Planned.{whole_plan}
+use Rattle.pit_model.specs.SpelledPlan.{SpellPlan, numbered_shape, plan_grammar}
 use Rattle.pit_model.specs.Stated.{Stated, is_same_place, nothing_stated, resource_named, with_destination, with_limit}
 use Rattle.pit_parts.specs.declared.formulas.formula.Formula.{Formula}
 use Rattle.pit_parts.specs.declared.formulas.formula.NamedFormula.{NamedFormula}

@@ -1,29 +1,33 @@
 -- One record of a plan after the other: what the records ahead state, behind those before them.
+use Rattle.std.specs.Prelude.{Bool, Some, not, if◌then◌else◌}
 use Rattle.std.proofs.Common.{◌≡◌, ◌<◌, ◌≤◌, ℕ, suc, ◌+◌, true, false, List, [], ◌∷◌, Result, Ok, Err, refl, sym, ◌∙◌, ap, arith, length, nat_le}
 use Rattle.std.proofs.lemmas.Bool.Decides.{nat_tests}
-use Rattle.forms.specs.Words.{placed, read_all, said, ◌>>=◌}
+use Rattle.forms.specs.Words.{Shape, failing, placed, read, read_all, said, unless, ◌>>=◌}
 use Rattle.records.specs.RecordCells.{cells_of}
-use Rattle.pit_model.specs.inner.ByPlace.{record_said}
 use Rattle.pit_parts.specs.Plan.{PlanParts}
 use Rattle.pit_model.specs.PlanShapes.{record_shape}
-use Rattle.pit_model.specs.Planned.{finished, finished_at, plan_grammar, planned}
+use Rattle.pit_model.specs.PlanRecords.{record_of}
+use Rattle.pit_model.specs.Planned.{at_row, finished, planned, record_at, records_from}
+use Rattle.pit_model.specs.SpelledPlan.{numbered_shape, plan_grammar, planned_by_shapes}
 use Rattle.records.specs.RecordReader.{RecordReaderView, Rows, Over, GaveUp, TakesRow}
 use Rattle.records.specs.Records.{records_of}
 use Rattle.pit_model.specs.Stated.{Stated, nothing_stated}
 use Rattle.pit_model.specs.declared.plan_fault.PlanFault.{PlanFault}
+use Rattle.pit_model.specs.declared.plan_fault.PlanFaultKind.{PlanFaultKind}
 use Rattle.pit_model.specs.declared.plan_fault.PlanFaultKind.TheVariants.{TooMany}
 use Rattle.pit_units.specs.OrMemory.{Gives}
 use Rattle.pit_units.specs.declared.or_memory.OrMemory.{OrMemory}
 use Rattle.pit_units.specs.declared.or_memory.OrMemory.TheVariants.{Fault, OutOfMemory}
+use Rattle.pit_model.proofs.RecordFacts.{record_is}
 
 -- the plan of these records, the first of them of this number
 abbrev pub plan_from : List (List (List ℕ)) → ℕ → Stated → Result PlanParts PlanFault
-plan_from rows n s = read_all plan_grammar n s rows >>= λ last. finished_at (n + length rows) (finished last)
+plan_from rows n s = records_from n s rows >>= λ last. at_row (n + length rows) (finished last)
 
 pub all_planned : (text : List ℕ) → plan_from (records_of text) 1 nothing_stated ≡ planned text
 all_planned text =
     let same : 1 + length (records_of text) ≡ length (records_of text) + 1 = omega arith in
-    ap (λ n. read_all plan_grammar 1 nothing_stated (records_of text) >>= λ last. finished_at n (finished last)) same
+    ap (λ n. records_from 1 nothing_stated (records_of text) >>= λ last. at_row n (finished last)) same
 
 -- the records ahead state this plan
 abbrev pub Leads : RecordReaderView → ℕ → Stated → Result PlanParts PlanFault → Type 0
@@ -33,25 +37,25 @@ Leads GaveUp n s stated = ⊥
 
 -- a record whose number is not too great, and one whose number is
 pub numbered : (n : ℕ) (s : Stated) (row : List (List ℕ)) → n ≤ 10000
-    → record_said n s row ≡ placed plan_grammar n row (said (record_shape s (cells_of row)))
+    → record_at n s row ≡ at_row n (record_of s (cells_of row))
 numbered n s row few = let test : nat_le n 10000 ≡ true = grind (arith, nat_tests) in rw test refl
 
-pub too_many : (n : ℕ) (s : Stated) (row : List (List ℕ)) → 10000 < n → record_said n s row ≡ Err (record { row = n; kind = TooMany })
+pub too_many : (n : ℕ) (s : Stated) (row : List (List ℕ)) → 10000 < n → record_at n s row ≡ Err (record { row = n; kind = TooMany })
 too_many n s row past = let test : nat_le n 10000 ≡ false = grind (arith, nat_tests) in rw test refl
 
 -- the first of them
 one : (row : List (List ℕ)) (rows : List (List (List ℕ))) (n : ℕ) (s : Stated)
-    → plan_from (row ∷ rows) n s ≡ (record_said n s row >>= λ next. plan_from rows (n + 1) next)
+    → plan_from (row ∷ rows) n s ≡ (record_at n s row >>= λ next. plan_from rows (n + 1) next)
 one row rows n s =
     let last : n + length (row ∷ rows) ≡ n + 1 + length rows = omega arith in
     let next : suc n ≡ n + 1 = omega arith in
-    ap (λ k. (record_said n s row >>= λ x. read_all plan_grammar (suc n) x rows) >>= λ last. finished_at k (finished last)) last
-    ∙ ap (λ k. (record_said n s row >>= λ x. read_all plan_grammar k x rows)
-    >>= λ last. finished_at (n + 1 + length rows) (finished last)) next
-    ∙ by (record_said n s row)
+    ap (λ k. (record_at n s row >>= λ x. records_from (suc n) x rows) >>= λ last. at_row k (finished last)) last
+    ∙ ap (λ k. (record_at n s row >>= λ x. records_from k x rows)
+    >>= λ last. at_row (n + 1 + length rows) (finished last)) next
+    ∙ by (record_at n s row)
   where
     by : (r : Result Stated PlanFault)
-        → ((r >>= λ x. read_all plan_grammar (n + 1) x rows) >>= λ last. finished_at (n + 1 + length rows) (finished last))
+        → ((r >>= λ x. records_from (n + 1) x rows) >>= λ last. at_row (n + 1 + length rows) (finished last))
         ≡ (r >>= λ x. plan_from rows (n + 1) x)
     by (Ok next) = refl
     by (Err fault) = refl
@@ -68,8 +72,8 @@ took E GaveUp fields after n s stated t h = absurd t
 
 pub ended : (E : Type 0) (old : RecordReaderView) (fields : List (List ℕ))
     (after : RecordReaderView) (n : ℕ) (s : Stated) (stated : Result PlanParts PlanFault)
-    → TakesRow {E = E} old (Ok false) fields after → Leads old n s stated → finished_at n (finished s) ≡ stated
-ended E (Rows []) fields after n s stated t h = let same : n ≡ n + 0 = omega arith in ap (λ k. finished_at k (finished s)) same ∙ h
+    → TakesRow {E = E} old (Ok false) fields after → Leads old n s stated → at_row n (finished s) ≡ stated
+ended E (Rows []) fields after n s stated t h = let same : n ≡ n + 0 = omega arith in ap (λ k. at_row k (finished s)) same ∙ h
 ended E (Rows (row ∷ rows)) fields after n s stated t h = absurd (cc (t.0))
 ended E Over fields after n s stated t h = absurd h
 ended E GaveUp fields after n s stated t h = absurd t
@@ -77,7 +81,7 @@ ended E GaveUp fields after n s stated t h = absurd t
 -- the record states what is next, or has a fault
 pub admitted : (E : Type 0) (old : RecordReaderView) (fields : List (List ℕ))
     (after : RecordReaderView) (n : ℕ) (s next : Stated) (stated : Result PlanParts PlanFault)
-    → TakesRow {E = E} old (Ok true) fields after → Leads old n s stated → record_said n s fields ≡ Ok next
+    → TakesRow {E = E} old (Ok true) fields after → Leads old n s stated → record_at n s fields ≡ Ok next
     → Leads after (n + 1) next stated
 admitted E old fields after n s next stated t h states =
     let p = took E old fields after n s stated t h in
@@ -87,9 +91,37 @@ pub refused : (E : Type 0) (old : RecordReaderView) (fields : List (List ℕ))
     (after : RecordReaderView) (n : ℕ) (s next : Stated) (error : OrMemory PlanFault)
     (stated : Result PlanParts PlanFault)
     → TakesRow {E = E} old (Ok true) fields after → Leads old n s stated
-    → Gives {A = Unit {0}} (λ _. next) (Err error) (record_said n s fields)
+    → Gives {A = Unit {0}} (λ _. next) (Err error) (record_at n s fields)
     → Gives {A = PlanParts} (λ plan. plan) (Err error) stated
 refused E old fields after n s next OutOfMemory stated t h fails = tt
 refused E old fields after n s next (Fault fault) stated t h fails =
     let p = took E old fields after n s stated t h in
     sym p.1.1 ∙ one fields p.0 n s ∙ ap (λ r. r >>= λ x. plan_from p.0 (n + 1) x) fails
+
+-- the record of a number goes by its shape
+at_shape : (n : ℕ) (s : Stated) (row : List (List ℕ))
+    → record_at n s row ≡ placed plan_grammar n row (said (numbered_shape n (record_shape s (cells_of row))))
+at_shape n s row =
+    ap (λ r. at_row n (if not (nat_le n 10000) then Err TooMany else r)) (record_is s (cells_of row))
+    ∙ ap (at_row n) (by (nat_le n 10000) (record_shape s (cells_of row)))
+    ∙ same (said (numbered_shape n (record_shape s (cells_of row))))
+  where
+    by : (t : Bool) (shape : Shape PlanFaultKind Stated) → (if not t then Err TooMany else said shape)
+        ≡ unless (if t then failing shape.first else Some TooMany) (read shape.kinds shape.form shape.texts >>= λ values.
+        unless (failing (shape.last values)) (Ok (shape.next values)))
+    by true shape = refl
+    by false shape = refl
+
+    same : (r : Result Stated PlanFaultKind) → at_row n r ≡ placed plan_grammar n row r
+    same (Ok next) = refl
+    same (Err kind) = refl
+
+all_by_shapes : (n : ℕ) (s : Stated) (rows : List (List (List ℕ))) → records_from n s rows ≡ read_all plan_grammar n s rows
+all_by_shapes n s [] = refl
+all_by_shapes n s (row ∷ rows) =
+    (λ i. record_at n s row >>= λ next. all_by_shapes (suc n) next rows i)
+    ∙ ap (λ r. r >>= λ next. read_all plan_grammar (suc n) next rows) (at_shape n s row)
+
+-- and so does a plan
+pub plan_is : (text : List ℕ) → planned text ≡ planned_by_shapes text
+plan_is text = ap (λ r. r >>= λ s. at_row (length (records_of text) + 1) (finished s)) (all_by_shapes 1 nothing_stated (records_of text))

@@ -1,6 +1,5 @@
--- The formulas of a plan: of each its key, the form of its cells, what is asked of what they state,
--- and the formula.
-use Rattle.std.specs.Prelude.{ℕ, zero, suc, ◌-◌, ◌/◌, ◌^◌, nat_le, List, [], ◌∷◌, ◌++◌, length, drop, unsigned_abs, Option, Some, None, codes, if◌then◌else◌}
+-- The formulas of a plan: of each the form of its cells, what is asked of what they state, and the formula.
+use Rattle.std.specs.Prelude.{ℕ, zero, suc, ◌-◌, ◌/◌, ◌^◌, nat_le, List, [], ◌∷◌, ◌++◌, length, drop, unsigned_abs}
 use Rattle.forms.specs.Words.{Field, Value, millionths, whole_at, Check, check}
 use Rattle.pit_parts.specs.formulas.BandsKept.{starts_rise}
 use Rattle.pit_model.specs.PlanCells.{a_cost, a_name, a_price, a_recovery, a_start}
@@ -12,15 +11,6 @@ use Rattle.pit_parts.specs.declared.formulas.formula.Formula.TheVariants as form
 use Rattle.pit_model.specs.declared.plan_fault.PlanFaultKind.{PlanFaultKind}
 use Rattle.pit_model.specs.declared.plan_fault.PlanFaultKind.TheVariants.{Order, TooMany}
 use Rattle.pit_parts.specs.declared.ranges.TheConstants.{MAX_BANDS}
-use Rattle.records.specs.Cells.{is_word}
-
--- the formula whose key a cell is, its letters in any case
-abbrev pub formula_key_of : List ℕ → Option FormulaKey
-formula_key_of cell =
-    if is_word cell (codes "mill") then Some key.Mill
-    else (if is_word cell (codes "leach") then Some key.Leach
-    else (if is_word cell (codes "dump") then Some key.Dump
-    else None))
 
 -- a start and a recovery for each of so many bands
 abbrev pub bands_form : ℕ → List Field

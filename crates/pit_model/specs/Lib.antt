@@ -1,7 +1,11 @@
 pub mod FaultText
 pub mod FormulaShapes
 pub mod PlanCells
+pub mod PlanKeys
+pub mod PlanRecords
 pub mod PlanShapes
 pub mod Planned
+pub mod SpelledPlan
 pub mod Stated
+pub mod StatedCells
 pub mod inner

@@ -1,12 +1,11 @@
 -- The table of keys: for each the form of the cells behind it, what is asked of what they state, in order, and what is then stated.
 use Rattle.std.specs.Prelude.{ℕ, suc, ◌+◌, ◌-◌, ◌/◌, ◌==◌, ◌||◌, Bool, true, false, not, List, [], ◌∷◌, ◌++◌, length, drop, map, replicate, pos, unsigned_abs, int_div, Option, Some, None, is_some, unwrap_or, codes, if◌then◌else◌}
 use Rattle.std.specs.List.{list_any}
-use Rattle.std.specs.Option.{option_map}
 use Rattle.std.specs.Str.{bytes_eq}
 use Rattle.forms.specs.Words.{Field, Word, Value, below, number_at, whole_at, word_at, word_of, Check, Shape, check}
-use Rattle.records.specs.Cells.{is_word}
 use Rattle.records.specs.RecordCells.{cell_at}
-use Rattle.pit_model.specs.FormulaShapes.{formula_key_of, formula_shape}
+use Rattle.pit_model.specs.FormulaShapes.{formula_shape}
+use Rattle.pit_model.specs.PlanKeys.{key_of}
 use Rattle.pit_parts.specs.PlanKept.{has_repeat, is_turned}
 use Rattle.pit_model.specs.PlanCells.{plan_kind, a_leg, a_name, a_period_count, a_rate, a_size, an_origin, benches, a_bound}
 use Rattle.pit_model.specs.Stated.{Stated, destination_named, resource_named, with_destination, with_zone, with_resource, is_same_place, with_limit}
@@ -174,18 +173,6 @@ key_shape s (Some key.Periods) cells = periods_shape s cells
 key_shape s (Some key.Rate) cells = rate_shape s cells
 key_shape s (Some key.Resource) cells = resource_shape s cells
 key_shape s (Some key.Limit) cells = limit_shape s cells
-
--- the key that a cell is, its letters in any case
-abbrev pub key_of : List ℕ → Option PlanKey
-key_of cell =
-    if is_word cell (codes "name") then Some key.Name
-    else (if is_word cell (codes "grid") then Some key.Grid
-    else (if is_word cell (codes "zone") then Some key.Zone
-    else (if is_word cell (codes "periods") then Some key.Periods
-    else (if is_word cell (codes "rate") then Some key.Rate
-    else (if is_word cell (codes "resource") then Some key.Resource
-    else (if is_word cell (codes "limit") then Some key.Limit
-    else option_map key.Destination (formula_key_of cell)))))))
 
 -- a record of these cells; one without cells states nothing
 abbrev pub record_shape : Stated → List (List ℕ) → Shape PlanFaultKind Stated

@@ -5,9 +5,9 @@ ghost use Rattle.csv.specs.Records.{fields_of};
 ghost use Rattle.pit_units.specs.OrMemory.{Gives};
 ghost use Rattle.records.specs.RecordCells.{cells_of};
 ghost use Rattle.pit_parts.specs.PlanKept.{AreTonnes};
-ghost use Rattle.forms.specs.Words.{said};
 ghost use Rattle.pit_model.specs.inner.ByPlace.{covered, key_in, limit_in, limited, resource_in, said_by_place};
-ghost use Rattle.pit_model.specs.PlanShapes.{grid_shape, name_shape, periods_shape, rate_shape, record_shape};
+ghost use Rattle.pit_model.specs.PlanShapes.{grid_shape, name_shape, periods_shape, rate_shape};
+ghost use Rattle.pit_model.specs.PlanRecords.{record_of};
 ghost use Rattle.pit_model.specs.Planned.{finished};
 ghost use Rattle.pit_model.specs.Stated.{nothing_stated};
 
@@ -81,10 +81,10 @@ impl Draft {
     }
 
     /// Adds what the next record says. Where it has a fault, or memory is refused, the draft is of no use.
-    #[tactic(auto, using(crate::proofs::CellsByPlace::recorded))]
+    #[tactic(auto, using(crate::proofs::RecordFacts::recorded))]
     pub fn admit(&mut self, row: &ByteRecord) -> Result<(), OrMemory<PlanFaultKind>>
         ensures { Gives (λ _. self.new) result
-            (said (record_shape self.old (cells_of (fields_of row.now)))) }
+            (record_of self.old (cells_of (fields_of row.now))) }
     {
         let cells = Cells::of(row);
         if cells.len() == 0 {

@@ -2,12 +2,15 @@
 
 ghost use Rattle.std.specs.Prelude.{◌≡◌, ◌↔◌, ◌⊎◌, ℕ, List, ◌∷◌, Ok, Err};
 ghost use Rattle.std.specs.List.Sorted.{IsPermutation};
-ghost use Rattle.forms.specs.Words.{IsFirstFault};
+ghost use Rattle.forms.specs.Words.{IsFirstFault, said};
 ghost use Rattle.pit_parts.specs.Plan.{PlanParts};
 ghost use Rattle.pit_parts.specs.PlanKept.{IsPlan};
-ghost use Rattle.pit_model.specs.Planned.{IsLacking, SpellPlan, plan_grammar, planned};
+ghost use Rattle.pit_model.specs.PlanRecords.{record_of};
+ghost use Rattle.pit_model.specs.PlanShapes.{record_shape};
+ghost use Rattle.pit_model.specs.Planned.{planned};
+ghost use Rattle.pit_model.specs.SpelledPlan.{IsLacking, SpellPlan, plan_grammar, planned_by_shapes};
 ghost use Rattle.records.specs.Records.{records_of};
-ghost use Rattle.pit_model.specs.Stated.{nothing_stated, with_limit};
+ghost use Rattle.pit_model.specs.Stated.{Stated, nothing_stated, with_limit};
 ghost use Rattle.pit_parts.specs.declared.limit.Limit.{Limit};
 ghost use Rattle.pit_model.specs.declared.plan_fault.PlanFault.{PlanFault};
 
@@ -39,4 +42,11 @@ pub fn limits_are_kept()
 /// A plan that records spell keeps what every plan keeps.
 pub fn spelled_is_plan()
     ensures { (rows : List (List (List ℕ))) (p : PlanParts) → SpellPlan rows p → IsPlan p }
+{}
+
+/// A plan and its records, which are said outright, go by the shapes of the records' keys.
+#[tactic(auto, using(crate::proofs::RecordFacts::record_is, crate::proofs::PlanSteps::plan_is))]
+pub fn plans_go_by_forms()
+    ensures records { (s : Stated) (cells : List (List ℕ)) → record_of s cells ≡ said (record_shape s cells) }
+    ensures plans { (text : List ℕ) → planned text ≡ planned_by_shapes text }
 {}

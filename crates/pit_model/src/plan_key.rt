@@ -1,7 +1,7 @@
 //! The keys of a plan's records.
 
 ghost use Rattle.std.specs.Prelude.{◌≡◌};
-ghost use Rattle.pit_model.specs.PlanShapes.{key_of};
+ghost use Rattle.pit_model.specs.PlanKeys.{key_of};
 
 use crate::draft::{FormulaKey, formula_key_of};
 use records::cells::is_word;

@@ -3,8 +3,8 @@
 ghost use Rattle.std.specs.Prelude.{◌≡◌, ◌≤◌, IfOk, MatchResult, OnOk};
 ghost use Rattle.csv.specs.Records.{fields_of};
 ghost use Rattle.pit_units.specs.OrMemory.{Gives};
-ghost use Rattle.pit_model.specs.inner.ByPlace.{record_said};
-ghost use Rattle.pit_model.specs.Planned.{SpellPlan, finished, finished_at, planned};
+ghost use Rattle.pit_model.specs.Planned.{at_row, finished, planned, record_at};
+ghost use Rattle.pit_model.specs.SpelledPlan.{SpellPlan};
 ghost use Rattle.pit_parts.specs.Plan.{PlanParts};
 ghost use Rattle.pit_units.specs.declared.or_memory.OrMemory.TheVariants.{OutOfMemory};
 ghost use Rattle.records.specs.Records.{records_of};
@@ -61,7 +61,7 @@ fn plan_stated(alloc: Global, text: &[u8]) -> Result<Plan, OrMemory<PlanFault>>
 #[tactic(auto, using(crate::proofs::PlanSteps::numbered, crate::proofs::PlanSteps::too_many))]
 fn admit(draft: &mut Draft, row: &ByteRecord, number: u32) -> Result<(), OrMemory<PlanFault>>
     ensures admits { Gives (λ _. draft.new) result
-        (record_said number draft.old (fields_of row.now)) }
+        (record_at number draft.old (fields_of row.now)) }
     ensures few { OnOk result (number ≤ MAX_PLAN_RECORDS) }
 {
     if number > MAX_PLAN_RECORDS {
@@ -76,7 +76,7 @@ fn admit(draft: &mut Draft, row: &ByteRecord, number: u32) -> Result<(), OrMemor
 
 // The plan, one past whose last record this number is.
 fn finish(draft: Draft, number: u32) -> Result<Plan, OrMemory<PlanFault>>
-    ensures { Gives (λ plan. plan) result (finished_at number (finished draft)) }
+    ensures { Gives (λ plan. plan) result (at_row number (finished draft)) }
 {
     match draft.finish() {
         Ok(plan) => Ok(plan),

@@ -1,11 +1,10 @@
 -- Cells read one after the other, each at its place, as code reads them.
 use Rattle.std.specs.Prelude.{◌≡◌, ℕ, suc, ◌+◌, ◌-◌, ◌/◌, ◌%◌, ◌==◌, ◌||◌, Bool, not, nat_lt, List, [], ◌∷◌, ◌++◌, length, replicate, Option, Some, None, unwrap_or, Result, Ok, Err, if◌then◌else◌}
-use Rattle.forms.specs.Words.{Field, Value, below, whole_stated, word_of, read_field, placed, Check, Shape, failing, said, unless, ◌>>=◌}
-use Rattle.records.specs.RecordCells.{cell_at, cells_of}
+use Rattle.forms.specs.Words.{Field, Value, below, whole_stated, word_of, read_field, Check, Shape, failing, unless, ◌>>=◌}
+use Rattle.records.specs.RecordCells.{cell_at}
 use Rattle.pit_model.specs.PlanCells.{a_cost, a_name, a_price, a_recovery, a_start, plan_kind}
 use Rattle.pit_model.specs.FormulaShapes.{band_at, bands_asked, bands_form, bands_of}
-use Rattle.pit_model.specs.PlanShapes.{a_destination, a_resource, bound_form, bound_of, cone_of, covers_of, destination_shape, is_interval, key_shape, limit_asked, limit_form, limit_on, new_destination, record_shape, resource_asked, room_for_destination, room_for_zone, zone_form}
-use Rattle.pit_model.specs.Planned.{numbered_shape, plan_grammar}
+use Rattle.pit_model.specs.PlanShapes.{a_destination, a_resource, bound_form, bound_of, cone_of, covers_of, destination_shape, is_interval, key_shape, limit_asked, limit_form, limit_on, new_destination, resource_asked, room_for_destination, room_for_zone, zone_form}
 use Rattle.pit_model.specs.Stated.{Stated, with_destination, with_limit, with_resource, with_zone}
 use Rattle.pit_parts.specs.declared.formulas.band.Band.{Band}
 use Rattle.pit_model.specs.declared.draft.formulas.FormulaKey.{FormulaKey}
@@ -15,7 +14,6 @@ use Rattle.pit_parts.specs.declared.formulas.formula.Formula.TheVariants.{Leach}
 use Rattle.pit_parts.specs.declared.formulas.formula.NamedFormula.{NamedFormula}
 use Rattle.pit_parts.specs.declared.limit.Bound.{Bound}
 use Rattle.pit_parts.specs.declared.limit.Limit.{Limit}
-use Rattle.pit_model.specs.declared.plan_fault.PlanFault.{PlanFault}
 use Rattle.pit_model.specs.declared.plan_fault.PlanFaultKind.{PlanFaultKind}
 use Rattle.pit_model.specs.declared.plan_fault.PlanFaultKind.TheVariants.{Name, Width}
 use Rattle.pit_model.specs.declared.plan_key.PlanKey.{PlanKey}
@@ -117,7 +115,3 @@ key_in s (key.Destination k) cells = destination_in s k cells
 key_in s key.Resource cells = resource_in s cells
 key_in s key.Limit cells = limit_in s cells
 key_in s k cells = said_by_place cells (key_shape s (Some k) cells)
-
--- the record of this number, behind what was stated before it
-abbrev pub record_said : ℕ → Stated → List (List ℕ) → Result Stated PlanFault
-record_said number s row = placed plan_grammar number row (said (numbered_shape number (record_shape s (cells_of row))))

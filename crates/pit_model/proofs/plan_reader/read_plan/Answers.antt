@@ -1,5 +1,5 @@
 use Rattle.pit_units.proofs.BothWays.{found_of, only_of}
-use Rattle.pit_model.specs.Planned.{SpellPlan}
+use Rattle.pit_model.specs.SpelledPlan.{SpellPlan}
 use Rattle.records.specs.Records.{records_of}
 use Rattle.pit_model.proofs.plan_reader.read_plan.Goals as goal
 

@@ -1,0 +1,198 @@
+-- What a record of a plan states behind those before it, cell by cell, or its first fault.
+use Rattle.std.specs.Prelude.{ℕ, ◌%◌, ◌==◌, ◌||◌, not, nat_le, nat_lt, Bool, List, [], ◌∷◌, length, drop, pos, unsigned_abs, Option, Some, None, is_some, unwrap_or, codes, Result, Ok, Err, if◌then◌else◌}
+use Rattle.std.specs.List.{list_any}
+use Rattle.std.specs.Str.{bytes_eq}
+use Rattle.forms.specs.Words.{◌>>=◌}
+use Rattle.records.specs.RecordCells.{cell_at}
+use Rattle.pit_parts.specs.PlanKept.{has_repeat, is_turned}
+use Rattle.pit_parts.specs.formulas.BandsKept.{starts_rise}
+use Rattle.pit_model.specs.PlanKeys.{key_of}
+use Rattle.pit_model.specs.StatedCells.{below_in, name_in, number_in, number_of, origin_in, size_in, tonnes_in, whole_in}
+use Rattle.pit_model.specs.Stated.{Stated, destination_named, resource_named, with_destination, with_zone, with_resource, is_same_place, with_limit}
+use Rattle.pit_parts.specs.declared.cone.Slope.{Slope}
+use Rattle.pit_parts.specs.declared.formulas.band.Band.{Band}
+use Rattle.pit_model.specs.declared.draft.formulas.FormulaKey.{FormulaKey}
+use Rattle.pit_model.specs.declared.draft.formulas.FormulaKey.TheVariants as formula_key
+use Rattle.pit_parts.specs.declared.formulas.formula.Formula.{Formula}
+use Rattle.pit_parts.specs.declared.formulas.formula.Formula.TheVariants as formula
+use Rattle.pit_parts.specs.declared.formulas.formula.NamedFormula.{NamedFormula}
+use Rattle.pit_parts.specs.declared.grid.Axis.{Axis}
+use Rattle.pit_parts.specs.declared.limit.Bound.{Bound}
+use Rattle.pit_parts.specs.declared.limit.Bound.TheVariants.{AtMost, AtLeast, Between}
+use Rattle.pit_parts.specs.declared.limit.Limit.{Limit}
+use Rattle.pit_model.specs.declared.plan_fault.PlanFaultKind.{PlanFaultKind}
+use Rattle.pit_model.specs.declared.plan_fault.PlanFaultKind.TheVariants.{Key, Width, Name, Twice, Order, TooMany}
+use Rattle.pit_model.specs.declared.plan_key.PlanKey.{PlanKey}
+use Rattle.pit_model.specs.declared.plan_key.PlanKey.TheVariants as key
+use Rattle.pit_parts.specs.declared.ranges.TheConstants.{MAX_BANDS, MAX_BENCHES, MAX_COST, MAX_DESTINATIONS, MAX_GRADE, MAX_PERIODS, MAX_PRICE, MAX_RATE, MAX_RECOVERY, MAX_RESOURCES, MAX_SLOPE, MAX_ZONES}
+
+-- `name, NAME`
+abbrev pub name_record : Stated → List (List ℕ) → Result Stated PlanFaultKind
+name_record s cells =
+    if not (length cells == 2) then Err Width else do
+      name ← name_in (cell_at cells 1)
+      if is_some s.name then Err Twice else Ok (record s { name = Some name })
+
+-- `grid`, the origin's three coordinates, the three sizes
+abbrev pub grid_once : Stated → Axis → Axis → Axis → Result Stated PlanFaultKind
+grid_once s x y z = if is_some s.grid then Err Twice else Ok (record s { grid = Some (record { x = x; y = y; z = z }) })
+
+abbrev pub grid_record : Stated → List (List ℕ) → Result Stated PlanFaultKind
+grid_record s cells =
+    if not (length cells == 7) then Err Width else do
+      x ← origin_in (cell_at cells 1)
+      y ← origin_in (cell_at cells 2)
+      z ← origin_in (cell_at cells 3)
+      along_x ← size_in (cell_at cells 4)
+      along_y ← size_in (cell_at cells 5)
+      along_z ← size_in (cell_at cells 6)
+      grid_once s (record { origin = x; size = along_x }) (record { origin = y; size = along_y }) (record { origin = z; size = along_z })
+
+-- `zone, p, q, K`, one slope for all four sides; or p and q of +x, of -x, of +y and of -y, and K; of at most 64 zones
+abbrev pub slope_in : List ℕ → List ℕ → Result Slope PlanFaultKind
+slope_in rise run = do
+  p ← whole_in 1 MAX_SLOPE rise
+  q ← whole_in 1 MAX_SLOPE run
+  Ok (record { p = p; q = q })
+
+abbrev pub zone_more : Stated → Slope → Slope → Slope → Slope → ℕ → Result Stated PlanFaultKind
+zone_more s east west north south k =
+    if length s.cones == MAX_ZONES then Err TooMany
+    else Ok (with_zone s (record { east = east; west = west; north = north; south = south; k = k }))
+
+abbrev pub zone_record : Stated → List (List ℕ) → Result Stated PlanFaultKind
+zone_record s cells =
+    if length cells == 4 then (do
+      slope ← slope_in (cell_at cells 1) (cell_at cells 2)
+      k ← whole_in 1 MAX_BENCHES (cell_at cells 3)
+      zone_more s slope slope slope slope k)
+    else (if length cells == 10 then (do
+      east ← slope_in (cell_at cells 1) (cell_at cells 2)
+      west ← slope_in (cell_at cells 3) (cell_at cells 4)
+      north ← slope_in (cell_at cells 5) (cell_at cells 6)
+      south ← slope_in (cell_at cells 7) (cell_at cells 8)
+      k ← whole_in 1 MAX_BENCHES (cell_at cells 9)
+      zone_more s east west north south k)
+    else Err Width)
+
+-- of a destination, of at most 8 with NAMEs of their own: a recovery, a price and a cost
+abbrev pub is_taken : Stated → List ℕ → Bool
+is_taken s name = is_some (destination_named s.formulas name)
+
+abbrev pub destination_more : Stated → List ℕ → Formula → Result Stated PlanFaultKind
+destination_more s name formula = if length s.formulas == MAX_DESTINATIONS then Err TooMany else Ok (with_destination s name formula)
+
+abbrev pub recovery_in : List ℕ → Result ℕ PlanFaultKind
+recovery_in cell = whole_in 0 MAX_RECOVERY cell
+
+abbrev pub price_in : List ℕ → Result ℕ PlanFaultKind
+price_in cell = whole_in 0 MAX_PRICE cell
+
+abbrev pub cost_in : List ℕ → Result ℕ PlanFaultKind
+cost_in cell = whole_in 0 MAX_COST cell
+
+-- the bands of a leach, each a start in g/t with six decimals and a recovery; the width of the record leaves no lone cell
+abbrev pub bands_in : List (List ℕ) → Result (List Band) PlanFaultKind
+bands_in (start ∷ recovery ∷ cells) = do
+  from ← number_in 6 (pos 0) (pos MAX_GRADE) start
+  part ← recovery_in recovery
+  bands ← bands_in cells
+  Ok (record { start = unsigned_abs from; recovery = part } ∷ bands)
+bands_in cells = Ok []
+
+-- `mill, NAME, recovery, price, cost`; `leach, NAME, price, cost`, and 1 to 16 bands that rise; `dump, NAME, cost`
+abbrev pub destination_record : FormulaKey → Stated → List (List ℕ) → Result Stated PlanFaultKind
+destination_record formula_key.Mill s cells =
+    if not (length cells == 5) then Err Width else do
+      name ← name_in (cell_at cells 1)
+      recovery ← recovery_in (cell_at cells 2)
+      price ← price_in (cell_at cells 3)
+      cost ← cost_in (cell_at cells 4)
+      if is_taken s name then Err Twice else destination_more s name (formula.Mill recovery price cost)
+destination_record formula_key.Leach s cells =
+    if nat_lt (length cells) 6 || not (length cells % 2 == 0) then Err Width else do
+      name ← name_in (cell_at cells 1)
+      price ← price_in (cell_at cells 2)
+      cost ← cost_in (cell_at cells 3)
+      bands ← bands_in (drop 4 cells)
+      if is_taken s name then Err Twice
+          else (if not (starts_rise bands) then Err Order
+          else (if not (nat_le (length bands) MAX_BANDS) then Err TooMany
+          else destination_more s name (formula.Leach bands price cost)))
+destination_record formula_key.Dump s cells =
+    if not (length cells == 3) then Err Width else do
+      name ← name_in (cell_at cells 1)
+      cost ← cost_in (cell_at cells 2)
+      if is_taken s name then Err Twice else destination_more s name (formula.Dump cost)
+
+-- `periods, number`
+abbrev pub periods_record : Stated → List (List ℕ) → Result Stated PlanFaultKind
+periods_record s cells =
+    if not (length cells == 2) then Err Width else do
+      periods ← whole_in 1 MAX_PERIODS (cell_at cells 1)
+      if is_some s.periods then Err Twice else Ok (record s { periods = Some periods })
+
+-- `rate, number`, with six decimals
+abbrev pub rate_record : Stated → List (List ℕ) → Result Stated PlanFaultKind
+rate_record s cells =
+    if not (length cells == 2) then Err Width else do
+      rate ← number_in 6 (pos 0) MAX_RATE (cell_at cells 1)
+      if is_some s.rate then Err Twice else Ok (record s { rate = Some rate })
+
+-- `resource, NAME`, and the NAMEs of one or more earlier destinations, none twice; of at most 8
+abbrev pub covers_in : List NamedFormula → List (List ℕ) → Result (List ℕ) PlanFaultKind
+covers_in formulas [] = Ok []
+covers_in formulas (cell ∷ cells) = do
+  number ← number_of (destination_named formulas cell)
+  numbers ← covers_in formulas cells
+  Ok (number ∷ numbers)
+
+abbrev pub resource_record : Stated → List (List ℕ) → Result Stated PlanFaultKind
+resource_record s cells =
+    if nat_lt (length cells) 3 then Err Width else do
+      name ← name_in (cell_at cells 1)
+      covers ← covers_in s.formulas (drop 2 cells)
+      if is_some (resource_named s.resources name) || has_repeat covers then Err Twice
+          else (if length s.resources == MAX_RESOURCES then Err TooMany else Ok (with_resource s name covers))
+
+-- `limit, NAME of an earlier resource, period, letter, v`, and w where the letter is I; the letters as capitals alone
+abbrev pub is_letter : List (List ℕ) → List ℕ → Bool
+is_letter cells letter = bytes_eq (cell_at cells 3) letter
+
+abbrev pub bound_in : List (List ℕ) → Result Bound PlanFaultKind
+bound_in cells =
+    if is_letter cells (codes "I") then (tonnes_in (cell_at cells 4) >>= λ v. tonnes_in (cell_at cells 5) >>= λ w. Ok (Between v w))
+    else (if is_letter cells (codes "L") then (tonnes_in (cell_at cells 4) >>= λ v. Ok (AtMost v))
+    else (if is_letter cells (codes "G") then (tonnes_in (cell_at cells 4) >>= λ v. Ok (AtLeast v))
+    else Err Name))
+
+-- one limit of its resource and period, its ends in order
+abbrev pub limit_more : Stated → Limit → Result Stated PlanFaultKind
+limit_more s l =
+    if list_any (λ m. is_same_place l m) s.limits then Err Twice
+    else (if is_turned l.bound then Err Order else Ok (record s { limits = with_limit l s.limits }))
+
+-- before the record `periods` no period is in range
+abbrev pub limit_record : Stated → List (List ℕ) → Result Stated PlanFaultKind
+limit_record s cells =
+    if not (length cells == (if is_letter cells (codes "I") then 6 else 5)) then Err Width else do
+      resource ← number_of (resource_named s.resources (cell_at cells 1))
+      period ← below_in (unwrap_or s.periods 0) (cell_at cells 2)
+      bound ← bound_in cells
+      limit_more s (record { resource = resource; period = period; bound = bound })
+
+-- by its key
+abbrev pub key_record : Option PlanKey → Stated → List (List ℕ) → Result Stated PlanFaultKind
+key_record None s cells = Err Key
+key_record (Some key.Name) s cells = name_record s cells
+key_record (Some key.Grid) s cells = grid_record s cells
+key_record (Some key.Zone) s cells = zone_record s cells
+key_record (Some (key.Destination k)) s cells = destination_record k s cells
+key_record (Some key.Periods) s cells = periods_record s cells
+key_record (Some key.Rate) s cells = rate_record s cells
+key_record (Some key.Resource) s cells = resource_record s cells
+key_record (Some key.Limit) s cells = limit_record s cells
+
+-- a record of these cells; one without cells states nothing
+abbrev pub record_of : Stated → List (List ℕ) → Result Stated PlanFaultKind
+record_of s cells = if length cells == 0 then Ok s else key_record (key_of (cell_at cells 0)) s cells
