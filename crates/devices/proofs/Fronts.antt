@@ -1,8 +1,8 @@
 -- What writing on does to a sink and a buffer, and what a sink holds that was cut short.
 use Rattle.std.proofs.Common.{◌≡◌, ℕ, ◌+◌, List, [], ◌++◌, Option, Some, None, refl, sym, ◌∙◌, ap, append_assoc, inl, inr, arith}
 use Rattle.devices.specs.Device.{added, holding}
-use Rattle.devices.specs.sinks.SinkState.{SinkState, IsCutOff}
-use Rattle.devices.specs.sinks.SinkSteps.{IsBegunAsBefore, IsAppended, IsAppendCut}
+use Rattle.devices.specs.sinks.SinkState.{SinkState, IsCutOff, IsBegunAsBefore}
+use Rattle.devices.specs.sinks.SinkSteps.{IsAppended, IsAppendCut}
 
 -- added in two steps
 pub added-added : (a b : List ℕ) (t : Option (List ℕ)) → added b (added a t) ≡ added (a ++ b) t

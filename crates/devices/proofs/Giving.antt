@@ -4,7 +4,8 @@ use Rattle.std.proofs.lemmas.List.{length-take-le, take-append-le}
 use Rattle.std.proofs.Math.Seq.{take-append-add}
 use borrow.Rule.Slice.PartMut.{put_mid, post_of}
 use Rattle.std.specs.Io.KnownBytes.{IsAtEnd}
-use Rattle.devices.specs.feeds.Feed.{GaveBehind, put_back}
+use Rattle.devices.specs.feeds.Feed.{put_back}
+use Rattle.devices.specs.feeds.FeedSteps.{GaveBehind}
 use Rattle.devices.specs.declared.feeds.feed.FeedFault.{FeedFault}
 
 -- bytes put back in two steps

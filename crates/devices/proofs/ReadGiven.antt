@@ -3,7 +3,8 @@ use Rattle.std.proofs.Common.{◌≡◌, ℕ, ◌+◌, ◌≤◌, List, ◌++◌
 use Rattle.std.proofs.Math.Seq.{drop-append_seam}
 use Rattle.std.proofs.lemmas.List.{drop-drop, length-take-le}
 use Rattle.std.specs.Io.KnownBytes.{Consumes, IsAtEnd}
-use Rattle.devices.specs.feeds.Feed.{left_after, put_back}
+use Rattle.devices.specs.feeds.Feed.{put_back}
+use Rattle.devices.specs.feeds.FeedSteps.{left_after}
 use Rattle.devices.specs.declared.feeds.feed.FeedFault.{FeedFault}
 use Rattle.devices.specs.inner.ReadFeedFields.{HasGiven}
 

@@ -7,7 +7,8 @@ use Rattle.pit_parts.specs.Plan.{PlanParts}
 use Rattle.pit_parts.specs.PlanKept.{IsCone}
 use Rattle.pit_parts.specs.declared.block.Block.{Block}
 use Rattle.pit_parts.specs.declared.cone.Cone.{Cone}
-use Rattle.precedence.specs.Cone.{above, is_above, places_where, preds, HasZones}
+use Rattle.precedence.specs.Cone.{above, is_above, places_where, preds}
+use Rattle.precedence.specs.Zones.{HasZones}
 use Rattle.precedence.specs.IdRuns.{is_in}
 use Rattle.precedence.proofs.PlacesWhere.{told_nowhere, told_where}
 use Rattle.fewer_arcs.specs.Least.{AreClosed}

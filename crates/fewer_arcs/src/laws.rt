@@ -1,7 +1,8 @@
 //! What holds of what is left, whatever the lists: each contract is a law, and a call of it does nothing.
 
 ghost use Rattle.std.specs.Prelude.{◌≡◌, ◌↔◌, ℕ, ◌<◌, Bool, List, [], All, length, slice_index_or};
-ghost use Rattle.precedence.specs.Cone.{preds, HasZones};
+ghost use Rattle.precedence.specs.Cone.{preds};
+ghost use Rattle.precedence.specs.Zones.{HasZones};
 ghost use Rattle.precedence.specs.Numbering.{IsNumbering, NumberingView};
 ghost use Rattle.pit_parts.specs.Plan.{PlanParts};
 ghost use Rattle.pit_parts.specs.PlanKept.{IsCone};

@@ -1,7 +1,7 @@
 -- The values that a form has room for, and forms whose numbers have no more decimals than millionths have.
 use Rattle.std.specs.Prelude.{◌≡◌, ℕ, ◌%◌, ◌-◌, ◌^◌, nat_le, Bool, true, List, [], ◌∷◌, ℤ, ◌≤ℤ◌, unsigned_abs}
 use Rattle.std.specs.List.{list_all}
-use Rattle.pit_units.specs.Decimal.{IsInDecimalRange}
+use Rattle.pit_units.specs.DecimalRange.{IsInDecimalRange}
 use Rattle.forms.specs.Field.{Field, Decimal, Stepped, Word, Value, Millionths, Bytes, is_on_step}
 
 -- a number in the range of a decimal, and no finer

@@ -16,7 +16,7 @@ use Rattle.pit_parts.specs.Plan.{PlanParts}
 use Rattle.pit_parts.specs.formulas.Formula.{IsRuled}
 use Rattle.pit_parts.specs.PlanKept.{IsPlan}
 use Rattle.pit_parts.specs.formulas.Worth.{worth}
-use Rattle.pit_parts.specs.formulas.Worth.{IsWorth}
+use Rattle.pit_parts.specs.formulas.WorthRange.{IsWorth}
 use Rattle.pit_parts.specs.declared.block.Block.{Block}
 use Rattle.pit_parts.specs.declared.formulas.formula.Formula.{Formula}
 use Rattle.pit_parts.specs.declared.formulas.formula.NamedFormula.{NamedFormula}

@@ -6,7 +6,7 @@ use Rattle.std.proofs.lemmas.Bool.{cases_Bool, not-false}
 use Rattle.std.proofs.lemmas.Int.{ints}
 use Rattle.std.proofs.lemmas.List.{length-replicate}
 use Rattle.std.proofs.lemmas.List.Elements.{All-replicate}
-use Rattle.pit_units.specs.Decimal.{IsInDecimalRange}
+use Rattle.pit_units.specs.DecimalRange.{IsInDecimalRange}
 use Rattle.minelib_lines.specs.HeaderTable.{has_key, header_keys, key_value, type_text}
 use Rattle.minelib_lines.specs.Lines.{line_of}
 use Rattle.minelib_lines.specs.WrittenLines.{key_line, value_fields}

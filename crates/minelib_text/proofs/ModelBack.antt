@@ -5,7 +5,7 @@ use Rattle.std.specs.Str.{bytes_eq}
 use Rattle.std.proofs.lemmas.List.Elements.{All-append, All-cons}
 use Rattle.pit_parts.specs.PlanKept.{is_turned}
 use Rattle.mine_instance.specs.declared.coefs.coef.Coef.{Coef}
-use Rattle.pit_units.specs.Decimal.{IsInDecimalRange}
+use Rattle.pit_units.specs.DecimalRange.{IsInDecimalRange}
 use Rattle.mine_instance.specs.Kept.{HasDecimals}
 use Rattle.minelib_lines.specs.HeaderTable.{key_value, keys_of, type_text}
 use Rattle.minelib_lines.specs.Lines.{text_of, line_of, lines_from}

@@ -6,7 +6,7 @@ use Rattle.mine_instance.specs.Instance.{Instance}
 use Rattle.minelib_reading.specs.Denotes.{Denotes, DenotesCpit}
 use Rattle.minelib_reading.specs.StatedModel.{model_of, alone, model_of_cpit}
 use Rattle.minelib_reading.proofs.spelled.SpelledDenotes.{spelled_denoted, spelled_cpit}
-use Rattle.pit_units.specs.Decimal.{IsInDecimalRange}
+use Rattle.pit_units.specs.DecimalRange.{IsInDecimalRange}
 use Rattle.mine_instance.specs.Kept.{IsKept, IsKeptCpit}
 use Rattle.minelib_lines.specs.declared.problem.Problem.TheVariants.{Pcpsp, Cpit}
 use Rattle.minelib_writing.specs.Written.{section_lines}

@@ -1,7 +1,8 @@
 //! The text of values that stand in cents.
 
 ghost use Rattle.std.specs.Prelude.{◌≡◌, ◌+◌, ◌*◌, ◌/◌, ◌%◌, ◌<◌, ◌≤◌, ◌∷◌, ◌++◌, ◌==◌, if◌then◌else◌, length, drop, slice_range, OnOk};
-ghost use Rattle.pit_units.specs.Decimal.{IsInDecimalRange, fraction_text, shortest};
+ghost use Rattle.pit_units.specs.Decimal.{fraction_text, shortest};
+ghost use Rattle.pit_units.specs.DecimalRange.{IsInDecimalRange};
 ghost use Rattle.mine_instance.specs.OfModel.{in_hundreds};
 
 use itoa::write_digits;

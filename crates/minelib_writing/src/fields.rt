@@ -1,7 +1,8 @@
 //! Fields of a line, and what stands between them.
 
 ghost use Rattle.std.specs.Prelude.{◌≡◌, ◌+◌, ◌≤◌, ◌++◌, ◌∷◌, [], OnOk, decimal, drop, length};
-ghost use Rattle.pit_units.specs.Decimal.{IsInDecimalRange, shortest};
+ghost use Rattle.pit_units.specs.Decimal.{shortest};
+ghost use Rattle.pit_units.specs.DecimalRange.{IsInDecimalRange};
 
 use itoa::write_digits;
 use pit_units::{Dec, append_front, put_dec};

@@ -1,6 +1,6 @@
 -- Why a check tells no counts, in other words, and how that ends it.
 use Rattle.std.proofs.Common.{◌≡◌, ◌⊎◌, ◌-◌, ◌++◌, ◌∷◌, ℕ, List, [], Option, Result, Some, None, inl, inr, refl, ap, ◌∙◌, sym, subst, Ok, IfSome, arith}
-use Rattle.devices.specs.feeds.Feed.{left_after}
+use Rattle.devices.specs.feeds.FeedSteps.{left_after}
 use Rattle.devices.specs.files.Opening.{Opening, Opened, Unopened}
 use Rattle.devices.specs.declared.feeds.slurp.TheConstants.{GREATEST_LIMIT}
 use Rattle.text_lines.specs.Fed.{FailsAsFed}

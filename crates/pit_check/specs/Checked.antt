@@ -1,6 +1,6 @@
 -- What a check tells of the files of BASE, and why it tells no counts.
 use Rattle.std.specs.Prelude.{◌≡◌, ◌≢◌, ℕ, ◌≤◌, ◌⊎◌, List, [], ◌∷◌, ◌++◌, Option, Some, None, Err, IfSome, length}
-use Rattle.devices.specs.feeds.Feed.{left_after}
+use Rattle.devices.specs.feeds.FeedSteps.{left_after}
 use Rattle.devices.specs.files.Opening.{Opening, Opened, Unopened}
 use Rattle.devices.specs.declared.feeds.slurp.TheConstants.{GREATEST_LIMIT}
 use Rattle.text_lines.specs.FaultText.{file_ending}

@@ -1,7 +1,7 @@
 //! The counts of the texts of an instance, one file after the other.
 
 ghost use Rattle.std.specs.Prelude.{◌≡◌, ◌-◌, ◌≤◌, [], IfOk, IfErr, IfSome, OnOk};
-ghost use Rattle.devices.specs.feeds.Feed.{left_after};
+ghost use Rattle.devices.specs.feeds.FeedSteps.{left_after};
 ghost use Rattle.devices.specs.declared.feeds.slurp.TheConstants.{GREATEST_LIMIT};
 ghost use Rattle.minelib_reading.specs.FedCounts.{IsFedAnswer};
 ghost use Rattle.pit_check.specs.inner.CountSteps.{counted_in, counted_on};

@@ -10,7 +10,8 @@ use Rattle.pit_parts.specs.formulas.Bands.{recovery_at}
 use Rattle.pit_parts.specs.formulas.BandsKept.{IsBand}
 use Rattle.pit_parts.specs.PartLaws.{Earns}
 use Rattle.pit_parts.specs.formulas.Formula.{IsRuled}
-use Rattle.pit_parts.specs.formulas.Worth.{floor, IsFloor, worth, IsWorth}
+use Rattle.pit_parts.specs.formulas.Worth.{floor, worth}
+use Rattle.pit_parts.specs.formulas.WorthRange.{IsFloor, IsWorth}
 use Rattle.pit_parts.specs.declared.formulas.band.Band.{Band}
 use Rattle.pit_parts.specs.declared.block.Block.{Block}
 use Rattle.pit_parts.specs.declared.formulas.formula.Formula.{Formula}

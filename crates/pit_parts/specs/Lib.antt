@@ -2,6 +2,7 @@ pub mod Block
 pub mod BlockParts
 pub mod Destinations
 pub mod Name
+pub mod OfPlan
 pub mod PartLaws
 pub mod Plan
 pub mod PlanFormulas

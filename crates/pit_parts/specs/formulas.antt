@@ -3,3 +3,4 @@ pub mod BandsKept
 pub mod Formula
 pub mod FormulaCopy
 pub mod Worth
+pub mod WorthRange

@@ -1,5 +1,5 @@
 -- Which number a decimal text states, and how a number is written. Numbers are counted in millionths.
-use Rattle.std.specs.Prelude.{ℕ, suc, ◌+◌, ◌*◌, ◌/◌, ◌%◌, ◌-◌, ◌^◌, ◌≤◌, Bool, not, ◌&&◌, List, [], ◌∷◌, ◌++◌, length, map, take, drop, replicate, ℤ, pos, negsuc, neg_ℤ, int_le, unsigned_abs, if◌then◌else◌, nat_lt, ◌==◌, Ok, Err, Result}
+use Rattle.std.specs.Prelude.{ℕ, suc, ◌+◌, ◌*◌, ◌/◌, ◌%◌, ◌-◌, ◌^◌, Bool, not, ◌&&◌, List, [], ◌∷◌, ◌++◌, length, map, take, drop, replicate, ℤ, pos, negsuc, neg_ℤ, int_le, if◌then◌else◌, nat_lt, ◌==◌, Ok, Err, Result}
 use Rattle.std.specs.Char.{is_ascii_digit}
 use Rattle.std.specs.Fmt.{decimal}
 use Rattle.std.specs.List.{list_all, before_first, after_first, suffix_len}
@@ -7,10 +7,6 @@ use Rattle.std.specs.Str.Parse.{digits_value, starts_with_minus, without_leading
 use Rattle.pit_units.specs.declared.decimal.TheConstants.{MAX_MILLIONTHS}
 use Rattle.pit_units.specs.declared.fault.DecFault.{DecFault}
 use Rattle.pit_units.specs.declared.fault.DecFault.TheVariants.{Number, TooFine, Range}
-
--- a decimal: at most 10^24 millionths either side of zero
-abbrev pub IsInDecimalRange : ℤ → Type 0
-IsInDecimalRange z = unsigned_abs z ≤ MAX_MILLIONTHS
 
 -- decimal digits alone, or nothing
 abbrev pub all_digits : List ℕ → Bool

@@ -1,7 +1,8 @@
 -- What a decimal text is, and which number it stands for, as relations.
 use Rattle.std.specs.Prelude.{◌≡◌, ℕ, ◌+◌, ◌*◌, ◌^◌, ◌<◌, ◌⊎◌, List, [], ◌∷◌, ◌++◌, length, drop, ℤ, unsigned_abs, IsTrue}
 use Rattle.std.specs.Str.Parse.{digits_value, starts_with_minus}
-use Rattle.pit_units.specs.Decimal.{IsInDecimalRange, all_digits, all_zeros, signed}
+use Rattle.pit_units.specs.Decimal.{all_digits, all_zeros, signed}
+use Rattle.pit_units.specs.DecimalRange.{IsInDecimalRange}
 
 -- a text is an optional sign, digits, and optionally a point with digits after it; there is a digit
 pub record IsSpelled (text sign whole tail fraction : List ℕ) : Type 0 where

@@ -1,7 +1,7 @@
 //! A decimal number.
 
 ghost use Rattle.std.specs.Prelude.{◌≡◌, ◌/◌, ◌^◌, ◌↔◌, IsSome, IfSome, unsigned_abs};
-ghost use Rattle.pit_units.specs.Decimal.{IsInDecimalRange};
+ghost use Rattle.pit_units.specs.DecimalRange.{IsInDecimalRange};
 
 use std::fmt;
 use std::marker::Model;

@@ -3,7 +3,8 @@ ghost use Rattle.std.specs.Prelude.{◌≡◌, ◌↔◌, ℕ, [], ◌++◌, ◌
 ghost use Rattle.std.specs.Fmt.{decimal};
 ghost use Rattle.std.specs.Str.Parse.{digits_value};
 ghost use Rattle.pit_units.specs.declared.fault.DecFault.TheVariants as DecFault;
-ghost use Rattle.pit_units.specs.Decimal.{IsInDecimalRange, all_zeros, decimal_of, shortest, size_text};
+ghost use Rattle.pit_units.specs.Decimal.{all_zeros, decimal_of, shortest, size_text};
+ghost use Rattle.pit_units.specs.DecimalRange.{IsInDecimalRange};
 ghost use Rattle.pit_units.specs.Front.{digits_ahead, past_point, IsUsual};
 ghost use Rattle.pit_units.specs.StandsFor.{IsSpelled, StandsFor};
 ghost use Rattle.pit_units.specs.Shortest.{IsPlain, IsShortest, longest};

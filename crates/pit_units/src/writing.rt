@@ -2,7 +2,8 @@
 
 ghost use Rattle.std.specs.Prelude.{◌≡◌, ◌+◌, ◌/◌, ◌%◌, ◌^◌, ◌<◌, ◌≤◌, ◌==◌, ◌∷◌, ◌++◌, if◌then◌else◌, length, drop, take, slice_range, unsigned_abs, OnOk, OnErr};
 ghost use Rattle.std.specs.Fmt.{sign_text};
-ghost use Rattle.pit_units.specs.Decimal.{IsInDecimalRange, fraction_text, shortest};
+ghost use Rattle.pit_units.specs.Decimal.{fraction_text, shortest};
+ghost use Rattle.pit_units.specs.DecimalRange.{IsInDecimalRange};
 ghost use Rattle.pit_units.specs.declared.decimal.TheConstants.{MAX_MILLIONTHS};
 
 use crate::decimal::Dec;

@@ -1,5 +1,5 @@
 -- The predecessors of a block: the blocks of the cone that opens above it.
-use Rattle.std.specs.Prelude.{ℕ, ◌+◌, ◌-◌, ◌*◌, ◌<◌, ◌&&◌, Bool, List, [], ◌∷◌, Option, Some, None, All, map, length, nat_lt, nat_le, slice_get, if◌then◌else◌}
+use Rattle.std.specs.Prelude.{ℕ, ◌+◌, ◌-◌, ◌*◌, ◌&&◌, Bool, List, [], ◌∷◌, Option, Some, None, map, nat_lt, nat_le, slice_get, if◌then◌else◌}
 use Rattle.std.specs.Int.{abs_diff}
 use Rattle.pit_parts.specs.Plan.{PlanParts}
 use Rattle.pit_parts.specs.declared.block.Block.{Block}
@@ -44,7 +44,3 @@ above grid None blocks low = []
 -- the predecessors of each block by identifier, by the cone of its own zone
 abbrev pub preds : PlanParts → List Block → List (List ℕ)
 preds plan blocks = map (λ low. above plan.grid (slice_get plan.cones low.zone) blocks low) blocks
-
--- the plan has each block's zone
-abbrev pub HasZones : PlanParts → List Block → Type 0
-HasZones plan blocks = All (λ b. b.zone < length plan.cones) blocks

@@ -6,4 +6,5 @@ pub mod IdRuns
 pub mod Identifier
 pub mod Numbering
 pub mod SameBlock
+pub mod Zones
 pub mod inner

@@ -2,7 +2,7 @@
 
 ghost use Rattle.std.specs.Prelude.{◌≡◌, ◌+◌, ◌≤◌, length, map, vec_len, IfErr, IfOk, IsFalse};
 ghost use Rattle.lane.specs.Whole.{IsWhole};
-ghost use Rattle.pit_parts.specs.Destinations.{AreOfPlan};
+ghost use Rattle.pit_parts.specs.OfPlan.{AreOfPlan};
 ghost use Rattle.pit_parts.specs.PlanFormulas.{formulas_of_plan};
 ghost use Rattle.run_threads.specs.inner.HandingOver.{IsHandedOver};
 ghost use Rattle.run_threads.specs.Reading.{AreRead};

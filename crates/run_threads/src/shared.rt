@@ -1,7 +1,7 @@
 //! What the threads of a run share.
 
 ghost use Rattle.std.specs.Prelude.{◌≤◌, length};
-ghost use Rattle.pit_parts.specs.Destinations.{AreOfPlan};
+ghost use Rattle.pit_parts.specs.OfPlan.{AreOfPlan};
 ghost use Rattle.pit_parts.specs.declared.ranges.TheConstants.{MAX_DESTINATIONS};
 
 use pit_parts::formulas::destination::Destination;

@@ -3,7 +3,8 @@ use Rattle.std.proofs.Common.{◌≡◌, ℕ, ◌+◌, ◌-◌, ◌≤◌, List,
 use Rattle.std.proofs.Math.Seq.{drop-append_seam}
 use Rattle.std.proofs.lemmas.List.{drop-drop, length-append}
 use Rattle.devices.specs.declared.feeds.slurp.SlurpFault.{SlurpFault}
-use Rattle.devices.specs.feeds.Feed.{left_after, put_back}
+use Rattle.devices.specs.feeds.Feed.{put_back}
+use Rattle.devices.specs.feeds.FeedSteps.{left_after}
 use Rattle.devices.proofs.Giving.{put_back-append}
 use Rattle.text_lines.specs.inner.Waiting.{Gave, Held, WaitingView}
 

@@ -1,7 +1,7 @@
 //! Reading the lines of a text while a feed gives it.
 
 ghost use Rattle.std.specs.Prelude.{◌≡◌, ◌≢◌, ◌+◌, ◌-◌, ◌≤◌, Err, [], length, IfOk, IfErr, OnOk, IfSome, IsTrue};
-ghost use Rattle.devices.specs.feeds.Feed.{left_after};
+ghost use Rattle.devices.specs.feeds.FeedSteps.{left_after};
 ghost use Rattle.devices.specs.declared.feeds.slurp.SlurpFault.TheVariants as SlurpFault;
 ghost use Rattle.devices.specs.declared.feeds.slurp.TheConstants.{GREATEST_LIMIT};
 ghost use Rattle.text_lines.specs.Fed.{FailsAsFed, IsFedReading};

@@ -2,7 +2,7 @@
 
 ghost use Rattle.std.specs.Prelude.{◌≡◌, ◌<◌, ◌≤◌, ◌∷◌, ◌*◌, ◌^◌, ◌==◌, [], not, pos, length, nat_lt, position, IfOk, IfSome, MatchOption};
 ghost use Rattle.std.specs.List.{position_or_len};
-ghost use Rattle.pit_units.specs.Decimal.{IsInDecimalRange};
+ghost use Rattle.pit_units.specs.DecimalRange.{IsInDecimalRange};
 ghost use Rattle.records.specs.Cells.{is_blank};
 ghost use Rattle.text_lines.specs.FieldValues.{Takes, decimal_in, first_by, size_in, whole_in};
 ghost use Rattle.text_lines.specs.TextLines.{fields_of, is_ended};

@@ -1,7 +1,7 @@
 //! The bytes of a feed of which no line was taken yet.
 
 ghost use Rattle.std.specs.Prelude.{◌≡◌, ◌≢◌, ◌+◌, ◌-◌, ◌<◌, ◌≤◌, ◌^◌, Err, [], length, take, IfOk, IfErr, OnOk, OnErr, IfSome, IsErrOf, IsTrue, drop, true};
-ghost use Rattle.devices.specs.feeds.Feed.{left_after};
+ghost use Rattle.devices.specs.feeds.FeedSteps.{left_after};
 ghost use Rattle.devices.specs.declared.feeds.slurp.SlurpFault.TheVariants as SlurpFault;
 ghost use Rattle.devices.specs.declared.feeds.slurp.TheConstants.{GREATEST_LIMIT};
 ghost use Rattle.text_lines.specs.Reading.{Leaves, read_lines};

@@ -3,7 +3,7 @@ use Rattle.std.specs.Prelude.{ℕ, List, [], ◌∷◌, ℤ}
 use Rattle.std.specs.List.{All, AllZip}
 use Rattle.std.specs.declared.alloc.Global.{Global}
 use Rattle.std.specs.declared.dyn_box.DynBox.{DynBox}
-use Rattle.pit_parts.specs.Destinations.{valuer_of}
+use Rattle.pit_parts.specs.OfPlan.{valuer_of}
 use Rattle.pit_parts.specs.declared.block.Block.{Block}
 use Rattle.pit_parts.specs.declared.formulas.destination.Destination.{Destination}
 use Rattle.pit_parts.specs.declared.formulas.formula.Formula.{Formula}

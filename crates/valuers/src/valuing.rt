@@ -2,7 +2,7 @@
 
 ghost use Rattle.std.specs.Prelude.{◌≡◌, ◌≤◌, length, All};
 ghost use Rattle.pit_parts.specs.Destinations.{formulas_of};
-ghost use Rattle.pit_parts.specs.formulas.Worth.{IsWorth};
+ghost use Rattle.pit_parts.specs.formulas.WorthRange.{IsWorth};
 ghost use Rattle.pit_parts.specs.declared.ranges.TheConstants.{MAX_DESTINATIONS};
 ghost use Rattle.rows.specs.Valued.{worths_by};
 ghost use Rattle.valuers.specs.Valuing.{AreAnswered};

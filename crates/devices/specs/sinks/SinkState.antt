@@ -34,3 +34,8 @@ pub record IsCutOff (more : ℕ) (text : List ℕ) (old new : SinkState) : Type 
   pub stands : IsUntouched old new ⊎ HoldsFront text old new
   pub before : new.before ≡ old.before
   pub fails : new.failures ≡ old.failures + more
+
+-- as much begun as it was, behind the same bytes
+pub record IsBegunAsBefore (old new : SinkState) : Type 0 where
+  pub begun : new.begun ≡ old.begun
+  pub before : new.before ≡ old.before

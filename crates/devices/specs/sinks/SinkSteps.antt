@@ -4,12 +4,7 @@ use Rattle.devices.specs.Device.{added, IsFront}
 use Rattle.devices.specs.declared.sinks.sink.SinkFault.{SinkFault}
 use Rattle.pit_units.specs.declared.or_memory.OrMemory.{OrMemory}
 use Rattle.pit_units.specs.declared.or_memory.OrMemory.TheVariants.{Fault, OutOfMemory}
-use Rattle.devices.specs.sinks.SinkState.{SinkState}
-
--- as much begun as it was, behind the same bytes
-pub record IsBegunAsBefore (old new : SinkState) : Type 0 where
-  pub begun : new.begun ≡ old.begun
-  pub before : new.before ≡ old.before
+use Rattle.devices.specs.sinks.SinkState.{SinkState, IsBegunAsBefore}
 
 -- the text was written on: what was taken and what the buffer holds go on with it, and the sink refused no call
 pub record IsAppended (text before after : List ℕ) (old new : SinkState) : Type 0 where

@@ -22,7 +22,7 @@ pub struct FileFeed<F: Read + AtPath> {
 
 impl<F: Read + AtPath> Model for FileFeed<F> {
     ghost use Rattle.std.specs.Prelude.{◌≡◌, ◌+◌};
-    ghost use Rattle.devices.specs.feeds.Feed.{left_after};
+    ghost use Rattle.devices.specs.feeds.FeedSteps.{left_after};
     ghost use Rattle.devices.specs.feeds.FileFeedView.{FileFeedView};
 
     ghost Value = { FileFeedView };

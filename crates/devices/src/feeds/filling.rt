@@ -1,7 +1,7 @@
 //! A buffer that a feed fills.
 
 ghost use Rattle.std.specs.Prelude.{◌≡◌, ◌+◌, ◌<◌, ◌≤◌, ◌^◌, [], length, take, vec_len, IsTrue, IsOk, IfOk, OnOk, OnErr, IfSome};
-ghost use Rattle.devices.specs.feeds.Feed.{GaveBehind};
+ghost use Rattle.devices.specs.feeds.FeedSteps.{GaveBehind};
 
 use crate::feeds::feed::{Feed, FeedFault};
 use std::alloc::AllocError;

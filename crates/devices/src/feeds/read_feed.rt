@@ -24,7 +24,7 @@ pub struct ReadFeed<R: Read> {
 
 impl<R: Read> Model for ReadFeed<R> {
     ghost use Rattle.devices.specs.Count.{count_of};
-    ghost use Rattle.devices.specs.feeds.Feed.{left_after};
+    ghost use Rattle.devices.specs.feeds.FeedSteps.{left_after};
     ghost use Rattle.devices.specs.feeds.ReadFeedView.{ReadFeedView};
     ghost use Rattle.devices.specs.inner.ReadFeedFields.{HasGiven};
 

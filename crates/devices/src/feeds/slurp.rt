@@ -1,7 +1,7 @@
 //! A feed read whole.
 
 ghost use Rattle.std.specs.Prelude.{◌≡◌, ◌≢◌, ◌+◌, ◌-◌, ◌<◌, ◌≤◌, [], length, vec_len, IsTrue, IfOk, OnOk, IfSome, IsErrOf};
-ghost use Rattle.devices.specs.feeds.Feed.{left_after};
+ghost use Rattle.devices.specs.feeds.FeedSteps.{left_after};
 ghost use Rattle.devices.specs.declared.feeds.slurp.SlurpFault.TheVariants.{FeedFailed, OutOfMemory};
 
 use crate::feeds::feed::{Feed, FeedFault};

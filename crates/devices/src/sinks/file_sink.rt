@@ -5,8 +5,7 @@ ghost use Rattle.std.specs.Io.KnownBytes.{WriteAppends};
 ghost use Rattle.devices.specs.Device.{added};
 ghost use Rattle.devices.specs.files.Told.{told_empty, told_held};
 ghost use Rattle.devices.specs.sinks.FileSinkView.{file_told as told, unbegun};
-ghost use Rattle.devices.specs.sinks.SinkState.{IsCutOff, IsWritten};
-ghost use Rattle.devices.specs.sinks.SinkSteps.{IsBegunAsBefore};
+ghost use Rattle.devices.specs.sinks.SinkState.{IsCutOff, IsWritten, IsBegunAsBefore};
 
 use crate::count::{Count, raised};
 use crate::files::file_access::FileAccess;

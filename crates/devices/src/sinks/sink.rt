@@ -2,8 +2,7 @@
 
 ghost use Rattle.std.specs.Prelude.{◌≡◌, ◌+◌, ◌<◌, ◌≤◌, [], length, take, IfOk, OnOk, OnErr};
 ghost use Rattle.devices.specs.Device.{added};
-ghost use Rattle.devices.specs.sinks.SinkState.{SinkState, IsWritten, IsCutOff};
-ghost use Rattle.devices.specs.sinks.SinkSteps.{IsBegunAsBefore};
+ghost use Rattle.devices.specs.sinks.SinkState.{SinkState, IsWritten, IsCutOff, IsBegunAsBefore};
 
 use pit_units::OrMemory;
 use std::io;

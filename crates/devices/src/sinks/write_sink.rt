@@ -4,8 +4,7 @@ ghost use Rattle.std.specs.Io.KnownBytes.{WriteAppends};
 ghost use Rattle.std.specs.Prelude.{◌≡◌, ◌+◌, ◌<◌, ◌≤◌, [], length, take, IfOk, IsErr, OnOk, OnErr};
 ghost use Rattle.devices.specs.Device.{added};
 ghost use Rattle.devices.specs.sinks.WriteSinkView.{told_as, write_told as told};
-ghost use Rattle.devices.specs.sinks.SinkState.{IsCutOff};
-ghost use Rattle.devices.specs.sinks.SinkSteps.{IsBegunAsBefore};
+ghost use Rattle.devices.specs.sinks.SinkState.{IsCutOff, IsBegunAsBefore};
 
 use crate::count::{Count, raised};
 use crate::sinks::single_write::write_some;

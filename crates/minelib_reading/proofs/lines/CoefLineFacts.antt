@@ -5,7 +5,7 @@ use Rattle.forms.proofs.FormFacts.{counted_later, fault_later}
 use Rattle.forms.proofs.NumberFields.{quotient, whole_fits}
 use Rattle.forms.specs.Words.{Value, Millionths, below, whole, Fit, is_fine, ◌>>=◌}
 use Rattle.mine_instance.specs.declared.coefs.coef.Coef.{Coef}
-use Rattle.pit_units.specs.Decimal.{IsInDecimalRange}
+use Rattle.pit_units.specs.DecimalRange.{IsInDecimalRange}
 use Rattle.text_lines.specs.FieldValues.{decimal_in, first_by, whole_in}
 use Rattle.text_lines.specs.LineKinds.{kind_by, text_kinds}
 use Rattle.minelib_reading.specs.inner.UncountedItems.{destination_in}

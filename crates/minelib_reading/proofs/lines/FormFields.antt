@@ -5,7 +5,7 @@ use Rattle.std.proofs.Common.{refl, ap, arith}
 use Rattle.std.proofs.lemmas.Int.{ints}
 use Rattle.pit_units.proofs.Standing.{read_stands}
 use Rattle.pit_units.specs.Decimal.{decimal_of, decimal_within, kept_within}
-use Rattle.pit_units.specs.Decimal.{IsInDecimalRange}
+use Rattle.pit_units.specs.DecimalRange.{IsInDecimalRange}
 use Rattle.pit_units.specs.declared.fault.DecFault.{DecFault}
 use Rattle.forms.proofs.FormFacts.{true_le}
 use Rattle.forms.specs.Words.{Field, Decimal, Stepped, Word, Value, Millionths, Bytes, below, millionths, whole, whole_stated, word_of, FitsField, Fit, number_or_kind, Spell, ◌>>=◌}

@@ -7,7 +7,7 @@ use Rattle.std.proofs.lemmas.List.Elements.{All-head, All-tail}
 use Rattle.forms.proofs.FormFacts.{counted}
 use Rattle.forms.proofs.NumberFields.{quotient, whole_fits}
 use Rattle.forms.specs.Words.{Value, Millionths, Bytes, below, millionths, whole, whole_at, Fit, is_fine, ◌>>=◌}
-use Rattle.pit_units.specs.Decimal.{IsInDecimalRange}
+use Rattle.pit_units.specs.DecimalRange.{IsInDecimalRange}
 use Rattle.pit_units.specs.declared.or_memory.OrMemory.{OrMemory}
 use Rattle.pit_units.specs.declared.or_memory.OrMemory.TheVariants.{Fault, OutOfMemory}
 use Rattle.text_lines.specs.FieldValues.{all_by, decimal_in, first_by, whole_in}

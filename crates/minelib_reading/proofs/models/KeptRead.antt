@@ -9,7 +9,7 @@ use Rattle.forms.specs.Words.{Millionths, Fit}
 use Rattle.pit_parts.specs.declared.limit.Bound.{Bound}
 use Rattle.pit_parts.specs.declared.limit.Bound.TheVariants.{AtMost, AtLeast, Between}
 use Rattle.pit_parts.specs.declared.limit.Limit.{Limit}
-use Rattle.pit_units.specs.Decimal.{IsInDecimalRange}
+use Rattle.pit_units.specs.DecimalRange.{IsInDecimalRange}
 use Rattle.mine_instance.specs.Instance.{Instance}
 use Rattle.mine_instance.specs.Kept.{HasDecimals, IsKept, IsKeptCpit}
 use Rattle.mine_instance.specs.cpit.Cpit.{CpitParts}

@@ -1,7 +1,8 @@
 //! The lines of blocks and limits, and of a CPIT's values.
 
 ghost use Rattle.std.specs.Prelude.{◌≡◌, ◌++◌, ◌∷◌, [], ◌*◌, pos, OnOk, decimal, ⊤};
-ghost use Rattle.pit_units.specs.Decimal.{IsInDecimalRange, shortest};
+ghost use Rattle.pit_units.specs.Decimal.{shortest};
+ghost use Rattle.pit_units.specs.DecimalRange.{IsInDecimalRange};
 ghost use Rattle.mine_instance.specs.Kept.{HasDecimals};
 ghost use Rattle.minelib_lines.specs.Lines.{line_of};
 ghost use Rattle.minelib_writing.specs.Written.{block_line, bound_fields, limit_line, one_value_line};

@@ -2,7 +2,8 @@
 
 ghost use Rattle.std.specs.Prelude.{◌≡◌, ◌<◌, ◌++◌, ◌∷◌, [], length, map, All, HoldsAt, OnOk, decimal};
 ghost use Rattle.std.specs.List.{flat_map};
-ghost use Rattle.pit_units.specs.Decimal.{IsInDecimalRange, shortest};
+ghost use Rattle.pit_units.specs.Decimal.{shortest};
+ghost use Rattle.pit_units.specs.DecimalRange.{IsInDecimalRange};
 ghost use Rattle.mine_instance.specs.BlockValues.{values_in};
 ghost use Rattle.mine_instance.specs.Greatest.{greatest};
 ghost use Rattle.mine_instance.specs.OfModel.{in_hundreds};

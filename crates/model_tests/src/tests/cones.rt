@@ -1,7 +1,7 @@
 //! The predecessors of blocks: those of worked examples, and on random models those that the test of all pairs finds.
 
 ghost use Rattle.std.specs.Prelude.{IsTrue};
-ghost use Rattle.precedence.specs.Cone.{HasZones};
+ghost use Rattle.precedence.specs.Zones.{HasZones};
 
 use pit_model::plan::Plan;
 use pit_model::read_plan;

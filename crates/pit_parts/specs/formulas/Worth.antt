@@ -1,5 +1,5 @@
 -- The worth of a block, in cents, at a mill, a heap leach or a dump.
-use Rattle.std.specs.Prelude.{ℕ, ◌*◌, ◌/◌, ◌^◌, ◌≤◌, List, ℤ, pos, negsuc, ◌+ℤ◌, ◌-ℤ◌, ◌*ℤ◌, neg_ℤ, ◌≤ℤ◌, ◌<ℤ◌, unsigned_abs}
+use Rattle.std.specs.Prelude.{ℕ, ◌*◌, ◌/◌, ◌^◌, List, ℤ, pos, negsuc, ◌-ℤ◌, neg_ℤ}
 use Rattle.pit_parts.specs.formulas.Bands.{recovery_at}
 use Rattle.pit_parts.specs.declared.formulas.band.Band.{Band}
 use Rattle.pit_parts.specs.declared.block.Block.{Block}
@@ -10,10 +10,6 @@ use Rattle.pit_parts.specs.declared.formulas.formula.Formula.TheVariants as form
 abbrev pub floor : ℤ → ℕ → ℤ
 floor (pos a) n = pos (a / n)
 floor (negsuc a) n = negsuc (a / n)
-
--- q is the whole number that a by n is rounded down to
-abbrev pub IsFloor : ℤ → ℤ → ℕ → Type 0
-IsFloor q a n = ((q *ℤ pos n) ≤ℤ a) × (a <ℤ ((q *ℤ pos n) +ℤ pos n))
 
 -- what the recovered metal sells for, less what milling costs: kilograms, millionths of a gram per tonne, per mille and cents
 -- multiply to 10^15 parts of a cent, kilograms and cents per tonne to a thousand of them, each of which is 10^12 of those
@@ -33,7 +29,3 @@ abbrev pub worth : Formula → Block → ℤ
 worth (formula.Mill recovery price cost) b = mill b recovery price cost
 worth (formula.Leach bands price cost) b = leach b bands price cost
 worth (formula.Dump cost) b = dump b cost
-
--- within 10^17 cents of zero
-abbrev pub IsWorth : ℤ → Type 0
-IsWorth cents = unsigned_abs cents ≤ 10 ^ 17

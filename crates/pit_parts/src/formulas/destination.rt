@@ -3,7 +3,8 @@
 ghost use Rattle.std.specs.Prelude.{◌≡◌, ℤ};
 ghost use Rattle.pit_parts.specs.formulas.Formula.{IsRuled};
 ghost use Rattle.pit_parts.specs.inner.RuledOnce.{IsRuled-prop};
-ghost use Rattle.pit_parts.specs.formulas.Worth.{worth, IsWorth};
+ghost use Rattle.pit_parts.specs.formulas.Worth.{worth};
+ghost use Rattle.pit_parts.specs.formulas.WorthRange.{IsWorth};
 ghost use Rattle.pit_parts.specs.declared.block.Block.{Block as ABlock};
 
 use crate::block::Block;
@@ -24,7 +25,8 @@ pub struct Destination {
 }
 
 impl Destination {
-    ghost use Rattle.pit_parts.specs.Destinations.{formula_of, valuer_of};
+    ghost use Rattle.pit_parts.specs.Destinations.{formula_of};
+    ghost use Rattle.pit_parts.specs.OfPlan.{valuer_of};
 
     /// A destination with this formula and this closure, which may be called on every block and answers the formula's
     /// worth. It takes no memory.

@@ -3,7 +3,8 @@
 ghost use Rattle.std.specs.Prelude.{◌≡◌, IfOk, OnErr};
 ghost use Rattle.pit_parts.specs.formulas.Formula.{IsRuled};
 ghost use Rattle.pit_parts.specs.formulas.FormulaCopy.{HasBands};
-ghost use Rattle.pit_parts.specs.formulas.Worth.{worth, IsWorth};
+ghost use Rattle.pit_parts.specs.formulas.Worth.{worth};
+ghost use Rattle.pit_parts.specs.formulas.WorthRange.{IsWorth};
 
 use crate::block::Block;
 use crate::formulas::band::Bands;

@@ -1,7 +1,8 @@
 //! What a block is worth, in cents.
 
 ghost use Rattle.std.specs.Prelude.{◌≡◌, ◌≤◌, ◌*◌, ◌^◌};
-ghost use Rattle.pit_parts.specs.formulas.Worth.{mill, leach, dump, floor, IsWorth};
+ghost use Rattle.pit_parts.specs.formulas.Worth.{mill, leach, dump, floor};
+ghost use Rattle.pit_parts.specs.formulas.WorthRange.{IsWorth};
 ghost use Rattle.pit_parts.specs.declared.ranges.TheConstants.{MAX_COST, MAX_PRICE, MAX_RECOVERY};
 
 use crate::block::Block;

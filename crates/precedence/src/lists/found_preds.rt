@@ -1,7 +1,8 @@
 //! Predecessors that are found when they are asked for.
 
 ghost use Rattle.std.specs.Prelude.{◌≡◌, ℕ, ◌+◌, ◌<◌, ◌≤◌, ◌++◌, [], true, false, IfOk, IsTrue, OnOk, All, length, map};
-ghost use Rattle.precedence.specs.Cone.{preds, HasZones};
+ghost use Rattle.precedence.specs.Cone.{preds};
+ghost use Rattle.precedence.specs.Zones.{HasZones};
 ghost use Rattle.precedence.specs.IdRuns.{ids_of, is_in};
 ghost use Rattle.precedence.specs.inner.Cut.{AreCut, HasWalked};
 ghost use Rattle.precedence.specs.inner.Lists.{in_cone};

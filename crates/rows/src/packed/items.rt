@@ -2,7 +2,7 @@
 
 ghost use Rattle.std.specs.Prelude.{◌≡◌, ◌+◌, ◌<◌, ◌≤◌, ◌++◌, [], All, Some, length, slice_get, vec_len, vec_capacity};
 ghost use Rattle.std.specs.Option.{option_map};
-ghost use Rattle.pit_parts.specs.formulas.Worth.{IsWorth};
+ghost use Rattle.pit_parts.specs.formulas.WorthRange.{IsWorth};
 ghost use Rattle.pit_parts.specs.declared.ranges.TheConstants.{MAX_DESTINATIONS};
 ghost use Rattle.rows.specs.Packed.{mark_of, row_of, IsOfWidth};
 ghost use Rattle.rows.specs.ItemsView.{IsFullFor};

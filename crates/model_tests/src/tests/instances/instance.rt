@@ -3,7 +3,7 @@
 ghost use Rattle.std.specs.Prelude.{◌≡◌, ◌≤◌, All, length, IfOk, IfSome, IsTrue};
 ghost use Rattle.pit_parts.specs.PlanFormulas.{formulas_of_plan};
 ghost use Rattle.mine_instance.specs.Valid.{IsValid};
-ghost use Rattle.precedence.specs.Cone.{HasZones};
+ghost use Rattle.precedence.specs.Zones.{HasZones};
 ghost use Rattle.rows.specs.Valued.{worths_by};
 
 use crate::tests::are_millionths;

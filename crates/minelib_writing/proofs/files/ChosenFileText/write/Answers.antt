@@ -4,7 +4,7 @@ use Rattle.std.proofs.lemmas.List.Elements.{All-filter, All-map}
 use Rattle.mine_instance.specs.Greatest.{greatest}
 use Rattle.mine_instance.specs.Instance.{Instance}
 use Rattle.mine_instance.specs.cpit.OfCpit.{is_chosen, without_destination}
-use Rattle.pit_units.specs.Decimal.{IsInDecimalRange}
+use Rattle.pit_units.specs.DecimalRange.{IsInDecimalRange}
 use Rattle.mine_instance.specs.Kept.{HasDecimals}
 use Rattle.minelib_writing.specs.Written.{greatest_line, limit_line}
 use Rattle.minelib_writing.proofs.ChosenFacts.{chosen_keys, chosen_sections, chosen_text}

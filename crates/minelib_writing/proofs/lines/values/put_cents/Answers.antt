@@ -1,6 +1,7 @@
 use Rattle.std.proofs.Common.{◌≡◌, ◌<◌, ◌++◌, ◌∷◌, ℤ, pos, length, get_or, arith, refl, rules, subst}
 use Rattle.std.proofs.lemmas.List.{get_or_default}
-use Rattle.pit_units.specs.Decimal.{IsInDecimalRange, shortest}
+use Rattle.pit_units.specs.Decimal.{shortest}
+use Rattle.pit_units.specs.DecimalRange.{IsInDecimalRange}
 use Rattle.mine_instance.specs.OfModel.{in_hundreds}
 use Rattle.minelib_writing.proofs.CoefFacts.{next_line}
 use Rattle.minelib_writing.proofs.KeptFacts.{All-more, all_seen}

@@ -2,7 +2,8 @@ use Rattle.std.proofs.Common.{◌++◌, ◌∷◌, ◌∙◌, ap, sym}
 use Rattle.std.proofs.lemmas.List.Elements.{All-map}
 use Rattle.std.proofs.lemmas.List.Folds.{flat_map-map}
 use Rattle.std.proofs.lemmas.Result.{on_ok_weaker}
-use Rattle.pit_units.specs.Decimal.{IsInDecimalRange, shortest}
+use Rattle.pit_units.specs.Decimal.{shortest}
+use Rattle.pit_units.specs.DecimalRange.{IsInDecimalRange}
 use Rattle.mine_instance.specs.OfModel.{in_hundreds}
 use Rattle.minelib_writing.proofs.lines.values.put_decimals.Goals as goal
 

@@ -1,5 +1,6 @@
 use Rattle.std.proofs.Common.{◌∷◌, arith, refl, subst}
-use Rattle.pit_units.specs.Decimal.{IsInDecimalRange, shortest}
+use Rattle.pit_units.specs.Decimal.{shortest}
+use Rattle.pit_units.specs.DecimalRange.{IsInDecimalRange}
 use Rattle.minelib_writing.proofs.CoefFacts.{next_line}
 use Rattle.minelib_writing.proofs.KeptFacts.{All-more, all_seen}
 use Rattle.minelib_writing.proofs.lines.values.put_hundreds.Goals as goal

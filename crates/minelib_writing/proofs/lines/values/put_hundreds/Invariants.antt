@@ -1,6 +1,7 @@
 use Rattle.std.proofs.Common.{◌≡◌, ◌++◌, ◌∷◌, All, take}
 use Rattle.std.specs.List.{flat_map}
-use Rattle.pit_units.specs.Decimal.{IsInDecimalRange, shortest}
+use Rattle.pit_units.specs.Decimal.{shortest}
+use Rattle.pit_units.specs.DecimalRange.{IsInDecimalRange}
 use Rattle.minelib_writing.proofs.lines.values.put_hundreds.Given as goal
 
 abbrev pub invariant-loop-value : goal.invariant-loop-value

@@ -1,5 +1,5 @@
 use Rattle.std.proofs.Common.{◌≡◌, ◌+◌, ◌-◌, ◌≤◌, IsTrue}
-use Rattle.devices.specs.feeds.Feed.{left_after}
+use Rattle.devices.specs.feeds.FeedSteps.{left_after}
 use Rattle.text_lines.specs.inner.Waiting.{Gave}
 use Rattle.text_lines.proofs.waiting.Waiting.pass.Given as goal
 

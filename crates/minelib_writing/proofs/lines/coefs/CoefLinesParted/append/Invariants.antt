@@ -1,7 +1,8 @@
 use Rattle.std.proofs.Common.{◌≡◌, ◌+◌, ◌-◌, ◌≤◌, ◌++◌, ◌∷◌, [], length, map, take, drop}
 use Rattle.std.specs.Prelude.{HoldsAt}
 use Rattle.std.specs.List.{concat}
-use Rattle.pit_units.specs.Decimal.{IsInDecimalRange, shortest}
+use Rattle.pit_units.specs.Decimal.{shortest}
+use Rattle.pit_units.specs.DecimalRange.{IsInDecimalRange}
 use Rattle.minelib_writing.specs.inner.CoefParts.{coef_part}
 use Rattle.minelib_writing.specs.inner.KeptParts.{HoldsFrom}
 use Rattle.minelib_writing.proofs.lines.coefs.CoefLinesParted.append.Given as goal

@@ -3,7 +3,7 @@ use Rattle.std.specs.Prelude.{HoldsAt}
 use Rattle.std.proofs.lemmas.List.{get_or_default}
 use Rattle.mine_instance.specs.BlockValues.{values_in}
 use Rattle.mine_instance.specs.Greatest.{greatest}
-use Rattle.pit_units.specs.Decimal.{IsInDecimalRange}
+use Rattle.pit_units.specs.DecimalRange.{IsInDecimalRange}
 use Rattle.minelib_writing.specs.Written.{greatest_line}
 use Rattle.minelib_writing.proofs.KeptFacts.{holds_one, kept_at}
 use Rattle.minelib_writing.proofs.LineFacts.{length-line_parts, line_part}

@@ -3,7 +3,8 @@ use Rattle.std.proofs.lemmas.List.{length-map}
 use Rattle.std.proofs.lemmas.List.Elements.{All-map}
 use Rattle.pit_parts.specs.declared.block.Block.{Block}
 use Rattle.precedence.specs.Codes.{place_code}
-use Rattle.precedence.specs.Cone.{preds, HasZones}
+use Rattle.precedence.specs.Cone.{preds}
+use Rattle.precedence.specs.Zones.{HasZones}
 use Rattle.precedence.specs.inner.Lists.{in_cones}
 use Rattle.precedence.proofs.AllLists.{preds_are, tables_in_order}
 use Rattle.precedence.proofs.lists.found_preds.FoundPreds.new.Goals as goal
