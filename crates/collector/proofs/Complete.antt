@@ -17,7 +17,7 @@ use Rattle.collector.specs.Lists.{IsFull, IsMissing, IsOpen}
 use Rattle.collector.proofs.Slots.{eqb-other}
 
 -- one item more counts once, if it passes
-counted : (p : Item → Bool) (item : Item) (items : List Item) → count_by p (item ∷ items) ≡ cond (p item) 1 0 + count_by p items
+pub counted : (p : Item → Bool) (item : Item) (items : List Item) → count_by p (item ∷ items) ≡ cond (p item) 1 0 + count_by p items
 counted p item items = sum_by-cons (λ x. cond (p x) 1 0) item items
 
 pub counted-yes : (p : Item → Bool) (item : Item) (items : List Item) → p item ≡ true → count_by p (item ∷ items) ≡ 1 + count_by p items
