@@ -1,86 +1,73 @@
 -- One band more of a leach's record, and one destination more of a resource's.
-use Rattle.std.proofs.Common.{◌≡◌, ◌<◌, ◌+◌, ◌-◌, ◌*◌, ◌++◌, ℕ, suc, List, [], ◌∷◌, Some, None, Result, Ok, Err, refl, sym, ◌∙◌, ap, arith, add-one, append_assoc, append-nil}
-use Rattle.std.specs.Prelude.{replicate, ◌/◌}
-use Rattle.forms.specs.Words.{Value, Bytes, read_field, ◌>>=◌}
-use Rattle.pit_model.specs.inner.ByPlace.{band_by, bands_in, covers_in, read_from}
+use Rattle.std.proofs.Common.{◌≡◌, ◌<◌, ◌≤◌, ◌+◌, ◌*◌, ◌++◌, ℕ, suc, List, [], ◌∷◌, Result, Ok, Err, refl, sym, ◌∙◌, ap, arith, append_assoc, append-nil, drop-cons, length, length-drop}
+use Rattle.std.specs.Prelude.{◌/◌, drop}
+use Rattle.forms.specs.Words.{◌>>=◌}
 use Rattle.records.specs.RecordCells.{cell_at}
-use Rattle.pit_model.specs.PlanCells.{a_recovery, a_start, plan_kind}
-use Rattle.pit_model.specs.FormulaShapes.{band_at, bands_form, bands_of}
-use Rattle.pit_model.specs.PlanShapes.{a_destination, covers_of}
-use Rattle.pit_model.specs.Stated.{destination_named}
+use Rattle.pit_model.specs.DestinationRecords.{band_in, bands_in}
+use Rattle.pit_model.specs.PlanRecords.{covers_in}
 use Rattle.pit_parts.specs.declared.formulas.band.Band.{Band}
 use Rattle.pit_parts.specs.declared.formulas.formula.NamedFormula.{NamedFormula}
 use Rattle.pit_model.specs.declared.plan_fault.PlanFaultKind.{PlanFaultKind}
-use Rattle.pit_model.specs.declared.plan_fault.PlanFaultKind.TheVariants.{Name}
 
--- no band more
-pub bands_end : (place : ℕ) (cells : List (List ℕ)) (done : List Band) → bands_in place 0 cells done ≡ Ok done
-bands_end place cells done = ap Ok (append-nil done)
+-- some things, and those that are stated behind them
+abbrev pub behind : {A : Type 0} → List A → Result (List A) PlanFaultKind → Result (List A) PlanFaultKind
+behind done stated = stated >>= λ more. Ok (done ++ more)
 
--- a pair of cells, and those behind it
-bands_step : (place n : ℕ) (cells : List (List ℕ)) (done : List Band)
-    → bands_in place (suc n) cells done ≡ (band_by place cells >>= λ band. bands_in (suc (suc place)) n cells (done ++ band ∷ []))
-bands_step place n cells done =
-    rw add-one (by (read_field plan_kind a_start (cell_at cells place)) (read_field plan_kind a_recovery (cell_at cells (suc place)))
-    (read_from (suc (suc place)) (bands_form n) cells))
+behind_none : {A : Type 0} (stated : Result (List A) PlanFaultKind) → behind [] stated ≡ stated
+behind_none (Ok more) = refl
+behind_none (Err kind) = refl
+
+behind_one : {A : Type 0} (done : List A) (one : Result A PlanFaultKind) (stated : Result (List A) PlanFaultKind)
+    → behind done (one >>= λ x. stated >>= λ more. Ok (x ∷ more)) ≡ (one >>= λ x. behind (done ++ x ∷ []) stated)
+behind_one done (Ok x) (Ok more) = ap Ok (sym (append_assoc done (x ∷ []) more))
+behind_one done (Ok x) (Err kind) = refl
+behind_one done (Err kind) stated = refl
+
+none_left : {A : Type 0} (xs : List A) (n : ℕ) → length xs ≤ n → drop n xs ≡ []
+none_left {A} xs n past = by (drop n xs) (omega (arith, past, length-drop n xs))
   where
-    by : (r1 r2 : Result Value PlanFaultKind) (r3 : Result (List Value) PlanFaultKind)
-        → ((r1 >>= λ a. (r2 >>= λ b. r3 >>= λ cs. Ok (b ∷ cs)) >>= λ bs. Ok (a ∷ bs)) >>= λ values. Ok (done ++ bands_of values))
-        ≡ ((r1 >>= λ from. r2 >>= λ part. Ok (band_at from part)) >>= λ band. r3 >>= λ values. Ok ((done ++ band ∷ []) ++ bands_of values))
-    by (Err kind) r2 r3 = refl
-    by (Ok a) (Err kind) r3 = refl
-    by (Ok a) (Ok b) (Err kind) = refl
-    by (Ok a) (Ok b) (Ok cs) = ap Ok (sym (append_assoc done (band_at a b ∷ []) (bands_of cs)))
+    by : (rest : List A) → length rest ≡ 0 → rest ≡ []
+    by [] none = refl
+    by (x ∷ rest) none = absurd (omega (arith, none))
 
-pair_step : (cells : List (List ℕ)) (count pair : ℕ) (done : List Band) → pair < count / 2
-    → bands_in (2 * pair) (count / 2 - pair) cells done
-    ≡ (band_by (2 * pair) cells >>= λ band. bands_in (2 * (pair + 1)) (count / 2 - (pair + 1)) cells (done ++ band ∷ []))
-pair_step cells count pair done within =
-    let n = count / 2 - (pair + 1) in
-    let more : count / 2 - pair ≡ suc n = omega (arith, within) in
+-- the bands that were read, and those of the cells from a place on
+abbrev pub bands_from : ℕ → List (List ℕ) → List Band → Result (List Band) PlanFaultKind
+bands_from place cells done = behind done (bands_in (drop place cells))
+
+pub bands_start : (cells : List (List ℕ)) → bands_from 4 cells [] ≡ bands_in (drop 4 cells)
+bands_start cells = behind_none (bands_in (drop 4 cells))
+
+pub bands_end : (place : ℕ) (cells : List (List ℕ)) (done : List Band) → length cells ≤ place → bands_from place cells done ≡ Ok done
+bands_end place cells done past = ap (λ rest. behind done (bands_in rest)) (none_left cells place past) ∙ ap Ok (append-nil done)
+
+pair_step : (cells : List (List ℕ)) (pair : ℕ) (done : List Band) → pair < length cells / 2
+    → bands_from (2 * pair) cells done
+    ≡ (band_in (cell_at cells (2 * pair)) (cell_at cells (2 * pair + 1)) >>= λ band. bands_from (2 * (pair + 1)) cells (done ++ band ∷ []))
+pair_step cells pair done within =
+    let next : suc (2 * pair) ≡ 2 * pair + 1 = omega arith in
     let after : suc (suc (2 * pair)) ≡ 2 * (pair + 1) = omega arith in
-    ap (λ k. bands_in (2 * pair) k cells done) more ∙ bands_step (2 * pair) n cells done
-    ∙ ap (λ i. band_by (2 * pair) cells >>= λ band. bands_in i n cells (done ++ band ∷ [])) after
+    let two : drop (2 * pair) cells ≡ cell_at cells (2 * pair) ∷ cell_at cells (2 * pair + 1) ∷ drop (2 * (pair + 1)) cells =
+    drop-cons cells (2 * pair) [] (omega (arith, within))
+    ∙ ap (λ rest. cell_at cells (2 * pair) ∷ rest) (drop-cons cells (suc (2 * pair)) [] (omega (arith, within)))
+    ∙ (λ i. cell_at cells (2 * pair) ∷ cell_at cells (next i) ∷ drop (after i) cells) in
+    ap (λ rest. behind done (bands_in rest)) two
+    ∙ behind_one done (band_in (cell_at cells (2 * pair)) (cell_at cells (2 * pair + 1))) (bands_in (drop (2 * (pair + 1)) cells))
 
--- where a pair of cells states a band, and where it states none
-pub bands_more : (cells : List (List ℕ)) (count pair : ℕ) (done : List Band) (band : Band) → pair < count / 2
-    → band_by (2 * pair) cells ≡ Ok band
-    → bands_in (2 * (pair + 1)) (count / 2 - (pair + 1)) cells (done ++ band ∷ []) ≡ bands_in (2 * pair) (count / 2 - pair) cells done
-bands_more cells count pair done band within said =
-    sym (pair_step cells count pair done within
-    ∙ ap (λ r. r >>= λ b. bands_in (2 * (pair + 1)) (count / 2 - (pair + 1)) cells (done ++ b ∷ [])) said)
+-- where a pair of cells states a band
+pub bands_more : (cells : List (List ℕ)) (pair : ℕ) (done : List Band) (band : Band) → pair < length cells / 2
+    → band_in (cell_at cells (2 * pair)) (cell_at cells (2 * pair + 1)) ≡ Ok band
+    → bands_from (2 * (pair + 1)) cells (done ++ band ∷ []) ≡ bands_from (2 * pair) cells done
+bands_more cells pair done band within said =
+    sym (pair_step cells pair done within ∙ ap (λ r. r >>= λ b. bands_from (2 * (pair + 1)) cells (done ++ b ∷ [])) said)
 
-pub bands_fail : (cells : List (List ℕ)) (count pair : ℕ) (done : List Band) (kind : PlanFaultKind) → pair < count / 2
-    → band_by (2 * pair) cells ≡ Err kind → bands_in (2 * pair) (count / 2 - pair) cells done ≡ Err kind
-bands_fail cells count pair done kind within said =
-    pair_step cells count pair done within
-    ∙ ap (λ r. r >>= λ b. bands_in (2 * (pair + 1)) (count / 2 - (pair + 1)) cells (done ++ b ∷ [])) said
+-- the destinations that were named, and those of the cells from a place on
+abbrev pub covers_from : ℕ → List (List ℕ) → List NamedFormula → List ℕ → Result (List ℕ) PlanFaultKind
+covers_from place cells formulas done = behind done (covers_in formulas (drop place cells))
 
--- no destination more
-pub covers_end : (place : ℕ) (cells : List (List ℕ)) (formulas : List NamedFormula) (done : List ℕ)
-    → covers_in place 0 cells formulas done ≡ Ok done
-covers_end place cells formulas done = ap Ok (append-nil done)
+pub covers_start : (cells : List (List ℕ)) (formulas : List NamedFormula) → covers_from 2 cells formulas [] ≡ covers_in formulas (drop 2 cells)
+covers_start cells formulas = behind_none (covers_in formulas (drop 2 cells))
 
--- where a cell names a destination, and where it names none
-pub covers_more : (cells : List (List ℕ)) (count place : ℕ) (formulas : List NamedFormula) (done : List ℕ) (number : ℕ) → place < count
-    → destination_named formulas (cell_at cells place) ≡ Some number
-    → covers_in (place + 1) (count - (place + 1)) cells formulas (done ++ number ∷ []) ≡ covers_in place (count - place) cells formulas done
-covers_more cells count place formulas done number within named =
-    let n = count - (place + 1) in
-    let more : count - place ≡ suc n = omega (arith, within) in
-    let next : place + 1 ≡ suc place = omega arith in
-    ap (λ i. covers_in i n cells formulas (done ++ number ∷ [])) next
-    ∙ sym (rw named (by (read_from (suc place) (replicate n (a_destination formulas)) cells)))
-    ∙ sym (ap (λ k. covers_in place k cells formulas done) more)
-  where
-    by : (r : Result (List Value) PlanFaultKind)
-        → ((r >>= λ values. Ok (Bytes (cell_at cells place) ∷ values)) >>= λ values. Ok (done ++ covers_of formulas values))
-        ≡ (r >>= λ values. Ok ((done ++ number ∷ []) ++ covers_of formulas values))
-    by (Err kind) = refl
-    by (Ok values) = rw named (ap Ok (sym (append_assoc done (number ∷ []) (covers_of formulas values))))
-
-pub covers_fail : (cells : List (List ℕ)) (count place : ℕ) (formulas : List NamedFormula) (done : List ℕ) → place < count
-    → destination_named formulas (cell_at cells place) ≡ None → covers_in place (count - place) cells formulas done ≡ Err Name
-covers_fail cells count place formulas done within named =
-    let more : count - place ≡ suc (count - (place + 1)) = omega (arith, within) in
-    ap (λ k. covers_in place k cells formulas done) more ∙ rw named refl
+pub covers_end : (place : ℕ) (cells : List (List ℕ)) (formulas : List NamedFormula) (done : List ℕ) → length cells ≤ place
+    → covers_from place cells formulas done ≡ Ok done
+covers_end place cells formulas done past =
+    ap (λ rest. behind done (covers_in formulas rest)) (none_left cells place past) ∙ ap Ok (append-nil done)

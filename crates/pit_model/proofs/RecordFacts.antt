@@ -1,46 +1,45 @@
 -- A record, which is said outright, goes by the shape of its key.
 use Rattle.std.specs.Prelude.{◌≡◌, ℕ, zero, suc, ◌+◌, ◌-◌, ◌*◌, ◌/◌, ◌%◌, ◌^◌, ◌==◌, ◌||◌, nat_le, nat_lt, not, Bool, true, false, List, [], ◌∷◌, length, drop, replicate, ℤ, pos, int_div, unsigned_abs, Option, Some, None, is_some, unwrap_or, Result, Ok, Err, if◌then◌else◌, codes}
 use Rattle.std.proofs.Common.{refl, sym, ◌∙◌, ap, arith, length-drop}
-use Rattle.std.proofs.lemmas.Bool.{eqb-false, ne_eqb}
+use Rattle.std.proofs.lemmas.Bool.{eqb-false}
 use Rattle.std.proofs.lemmas.Bool.Decides.{nat_tests}
 use Rattle.std.proofs.lemmas.List.{length-replicate}
 use Rattle.std.specs.List.{list_any}
 use Rattle.pit_units.specs.Decimal.{decimal_within}
 use Rattle.pit_units.specs.declared.fault.DecFault.{DecFault}
 use Rattle.pit_units.specs.declared.fault.DecFault.TheVariants as dec
-use Rattle.forms.specs.Words.{Decimal, Value, Bytes, Millionths, Word, below, millionths, number_at, number_or_kind, read_field, read_fields, said, unless, whole_stated, word_of, ◌>>=◌}
+use Rattle.forms.specs.Words.{Decimal, Field, Value, Bytes, Millionths, Shape, Word, failing, millionths, number_at, number_or_kind, read_field, read_fields, said, unless, whole_stated, word_of, ◌>>=◌}
 use Rattle.pit_parts.specs.Name.{is_name}
 use Rattle.pit_parts.specs.PlanKept.{has_repeat, is_turned}
 use Rattle.pit_parts.specs.formulas.BandsKept.{starts_rise}
 use Rattle.records.specs.RecordCells.{cell_at}
-use Rattle.pit_model.specs.FormulaShapes.{band_at, bands_asked, bands_form, bands_of}
-use Rattle.pit_model.specs.PlanCells.{a_bound, a_cost, a_leg, a_name, a_price, a_recovery, a_start, plan_kind}
+use Rattle.pit_model.specs.DestinationRecords.{band_in, bands_in, cost_in, destination_record, fresh_leach, price_in, recovery_in}
+use Rattle.pit_model.specs.FormulaShapes.{band_at, bands_form, bands_of}
+use Rattle.pit_model.specs.PlanCells.{a_bound, a_leg, a_name, a_recovery, a_start, plan_kind}
 use Rattle.pit_model.specs.PlanKeys.{key_of}
-use Rattle.pit_model.specs.PlanRecords.{bands_in, bound_in, covers_in, cost_in, destination_more, destination_record, grid_record, is_letter, is_taken, key_record, limit_more, limit_record, name_record, periods_record, price_in, rate_record, record_of, recovery_in, resource_record, slope_in, zone_more, zone_record}
-use Rattle.pit_model.specs.PlanShapes.{a_destination, a_resource, blank_shape, bound_form, bound_of, covers_of, grid_shape, is_interval, key_shape, limit_on, name_shape, periods_shape, rate_shape, record_shape, zone_form, zone_shape}
-use Rattle.pit_model.specs.Stated.{Stated, destination_named, is_same_place, resource_named, with_destination, with_resource}
+use Rattle.pit_model.specs.PlanRecords.{bound_in, covers_in, equal_zone, grid_record, is_letter, key_record, limit_record, name_record, periods_record, rate_record, record_of, resource_more, resource_record, sided_zone, slope_in, zone_record}
+use Rattle.pit_model.specs.PlanShapes.{a_destination, blank_shape, bound_form, bound_of, cone_of, covers_of, destination_shape, grid_shape, is_interval, key_shape, limit_form, limit_of, limit_shape, name_shape, periods_shape, rate_shape, record_shape, resource_form, resource_shape, room_for_zone, zone_form, zone_shape}
+use Rattle.pit_model.specs.Stated.{Stated, destination_named, is_same_place, resource_named, with_destination, with_resource, with_zone}
 use Rattle.pit_model.specs.StatedCells.{name_in, number_in, number_of, number_said, tonnes_in, whole_in}
-use Rattle.pit_model.specs.inner.ByPlace.{covered, destination_in, destined, key_in, limit_in, limited, part_from, resource_in, said_by_place, zone_by}
-use Rattle.pit_model.specs.inner.ByPlace.{bands_in as placed_bands_in, bound_in as placed_bound_in, covers_in as placed_covers_in}
 use Rattle.pit_parts.specs.declared.cone.Slope.{Slope}
+use Rattle.pit_parts.specs.declared.formulas.band.Band.{Band}
 use Rattle.pit_model.specs.declared.draft.formulas.FormulaKey.{FormulaKey}
 use Rattle.pit_model.specs.declared.draft.formulas.FormulaKey.TheVariants as formula_key
-use Rattle.pit_parts.specs.declared.formulas.formula.Formula.TheVariants as formula
+use Rattle.pit_parts.specs.declared.formulas.formula.Formula.TheVariants.{Leach}
 use Rattle.pit_parts.specs.declared.formulas.formula.NamedFormula.{NamedFormula}
 use Rattle.pit_parts.specs.declared.limit.Bound.{Bound}
 use Rattle.pit_parts.specs.declared.limit.Bound.TheVariants.{AtMost, AtLeast, Between}
-use Rattle.pit_parts.specs.declared.limit.Limit.{Limit}
 use Rattle.pit_model.specs.declared.plan_fault.PlanFaultKind.{PlanFaultKind}
 use Rattle.pit_model.specs.declared.plan_fault.PlanFaultKind.TheVariants.{Name, Order, TooMany, Twice, Width}
 use Rattle.pit_model.specs.declared.plan_key.PlanKey.{PlanKey}
 use Rattle.pit_model.specs.declared.plan_key.PlanKey.TheVariants as key
-use Rattle.pit_parts.specs.declared.ranges.TheConstants.{MAX_BANDS, MAX_BENCHES, MAX_DESTINATIONS, MAX_GRADE, MAX_RESOURCES, MAX_SLOPE, MAX_ZONES}
-use Rattle.pit_model.proofs.CellsByPlace.{bands_long, from_front, key_placed}
+use Rattle.pit_parts.specs.declared.ranges.TheConstants.{MAX_BANDS, MAX_DESTINATIONS, MAX_GRADE, MAX_RESOURCES, MAX_SLOPE, MAX_ZONES}
+use Rattle.pit_model.proofs.CellsByPlace.{by_place, from_front, read_from, read_then, said_by_place, then_read}
 
--- a step from a cell, where what its field states is what the cell states
-step : {A B : Type 0} (part : Value → A) (read : Result Value PlanFaultKind) (stated : Result A PlanFaultKind)
-    (next : Value → Result B PlanFaultKind) (rest : A → Result B PlanFaultKind)
-    → (read >>= λ value. Ok (part value)) ≡ stated → ((value : Value) → next value ≡ rest (part value))
+-- a step from a cell or from several, where what their fields state is what they state
+step : {V A B : Type 0} (part : V → A) (read : Result V PlanFaultKind) (stated : Result A PlanFaultKind)
+    (next : V → Result B PlanFaultKind) (rest : A → Result B PlanFaultKind)
+    → (read >>= λ value. Ok (part value)) ≡ stated → ((value : V) → next value ≡ rest (part value))
     → (read >>= next) ≡ (stated >>= rest)
 step part (Ok value) stated next rest is same = same value ∙ ap (λ r. r >>= rest) is
 step part (Err kind) stated next rest is same = ap (λ r. r >>= rest) is
@@ -78,6 +77,10 @@ tested : {S : Type 0} (t : Bool) (kind : PlanFaultKind) (answer : Result S PlanF
     → unless (if not t then None else Some kind) answer ≡ (if t then Err kind else answer)
 tested true kind answer = refl
 tested false kind answer = refl
+
+-- what a shape states of its values
+abbrev ending : Shape PlanFaultKind Stated → List Value → Result Stated PlanFaultKind
+ending shape values = unless (failing (shape.last values)) (Ok (shape.next values))
 
 -- behind the width
 wide : {S : Type 0} (t : Bool) (one other : Result S PlanFaultKind) → one ≡ other
@@ -130,32 +133,25 @@ slope_is rise run next rest same =
 zone_stated : (s : Stated) (cells : List (List ℕ)) → said_by_place cells (zone_shape s cells) ≡ zone_record s cells
 zone_stated s cells = by (length cells == 4) refl
   where
-    one : zone_by true s cells ≡ (slope_in (cell_at cells 1) (cell_at cells 2) >>= λ slope.
-        whole_in 1 MAX_BENCHES (cell_at cells 3) >>= λ k. zone_more s slope slope slope slope k)
+    one : read_then 1 (zone_form true) cells (λ values. unless (failing (room_for_zone s)) (Ok (with_zone s (cone_of true values)))) ≡ equal_zone s cells
     one = slope_is (cell_at cells 1) (cell_at cells 2) _ _ (λ p q.
         step whole_stated _ _ _ _ (whole_is _ _ (cell_at cells 3)) (λ k. tested (length s.cones == MAX_ZONES) _ _))
 
-    four : zone_by false s cells ≡ (slope_in (cell_at cells 1) (cell_at cells 2) >>= λ east. slope_in (cell_at cells 3) (cell_at cells 4) >>= λ west.
-        slope_in (cell_at cells 5) (cell_at cells 6) >>= λ north. slope_in (cell_at cells 7) (cell_at cells 8) >>= λ south.
-        whole_in 1 MAX_BENCHES (cell_at cells 9) >>= λ k. zone_more s east west north south k)
+    four : read_then 1 (zone_form false) cells (λ values. unless (failing (room_for_zone s)) (Ok (with_zone s (cone_of false values)))) ≡ sided_zone s cells
     four =
         slope_is (cell_at cells 1) (cell_at cells 2) _ _ (λ a b. slope_is (cell_at cells 3) (cell_at cells 4) _ _ (λ c d.
         slope_is (cell_at cells 5) (cell_at cells 6) _ _ (λ e f. slope_is (cell_at cells 7) (cell_at cells 8) _ _ (λ g h.
         step whole_stated _ _ _ _ (whole_is _ _ (cell_at cells 9)) (λ k. tested (length s.cones == MAX_ZONES) _ _)))))
 
-    either : (t : Bool) → (if not t then Err Width else zone_by false s cells)
-        ≡ (if t then (slope_in (cell_at cells 1) (cell_at cells 2) >>= λ east. slope_in (cell_at cells 3) (cell_at cells 4) >>= λ west.
-        slope_in (cell_at cells 5) (cell_at cells 6) >>= λ north. slope_in (cell_at cells 7) (cell_at cells 8) >>= λ south.
-        whole_in 1 MAX_BENCHES (cell_at cells 9) >>= λ k. zone_more s east west north south k) else Err Width)
+    either : (t : Bool) → (if not t then Err Width
+        else read_then 1 (zone_form false) cells (λ values. unless (failing (room_for_zone s)) (Ok (with_zone s (cone_of false values)))))
+        ≡ (if t then sided_zone s cells else Err Width)
     either true = four
     either false = refl
 
-    by : (t : Bool) → t ≡ (length cells == 4) → (if not (length cells == suc (length (zone_form t))) then Err Width else zone_by t s cells)
-        ≡ (if t then (slope_in (cell_at cells 1) (cell_at cells 2) >>= λ slope.
-        whole_in 1 MAX_BENCHES (cell_at cells 3) >>= λ k. zone_more s slope slope slope slope k)
-        else (if length cells == 10 then (slope_in (cell_at cells 1) (cell_at cells 2) >>= λ east. slope_in (cell_at cells 3) (cell_at cells 4) >>= λ west.
-        slope_in (cell_at cells 5) (cell_at cells 6) >>= λ north. slope_in (cell_at cells 7) (cell_at cells 8) >>= λ south.
-        whole_in 1 MAX_BENCHES (cell_at cells 9) >>= λ k. zone_more s east west north south k) else Err Width))
+    by : (t : Bool) → t ≡ (length cells == 4) → (if not (length cells == suc (length (zone_form t))) then Err Width
+        else read_then 1 (zone_form t) cells (λ values. unless (failing (room_for_zone s)) (Ok (with_zone s (cone_of t values)))))
+        ≡ (if t then equal_zone s cells else (if length cells == 10 then sided_zone s cells else Err Width))
     by true is = rw (sym is) one
     by false is = either (length cells == 10)
 
@@ -167,7 +163,23 @@ both_tested true two first second answer = refl
 both_tested false true first second answer = refl
 both_tested false false first second answer = refl
 
--- the bands of cells, of which there are two for each
+-- a band, and the bands of cells, of which there are two for each
+band_is : {S : Type 0} (start recovery : List ℕ) (next : Value → Value → Result S PlanFaultKind) (rest : Band → Result S PlanFaultKind)
+    → ((from part : Value) → next from part ≡ rest (band_at from part))
+    → (read_field plan_kind a_start start >>= λ from. read_field plan_kind a_recovery recovery >>= λ part. next from part)
+    ≡ (band_in start recovery >>= rest)
+band_is start recovery next rest same =
+    step millionths _ _ _ (λ from. recovery_in recovery >>= λ part. rest (record { start = unsigned_abs from; recovery = part }))
+    (plain_number 6 _ _ start) (λ from. step whole_stated _ _ _ _ (whole_is _ _ recovery) (λ part. same from part))
+    ∙ by (number_in 6 (pos 0) (pos MAX_GRADE) start) (recovery_in recovery)
+  where
+    by : (r1 : Result ℤ PlanFaultKind) (r2 : Result ℕ PlanFaultKind)
+        → (r1 >>= λ from. r2 >>= λ part. rest (record { start = unsigned_abs from; recovery = part }))
+        ≡ ((r1 >>= λ from. r2 >>= λ part. Ok (record { start = unsigned_abs from; recovery = part })) >>= rest)
+    by (Ok from) (Ok part) = refl
+    by (Ok from) (Err kind) = refl
+    by (Err kind) r2 = refl
+
 bands_are : (n : ℕ) (cells : List (List ℕ)) → length cells ≡ 2 * n
     → (read_fields (λ place. plan_kind) (bands_form n) cells >>= λ values. Ok (bands_of values)) ≡ bands_in cells
 bands_are zero [] long = refl
@@ -176,10 +188,8 @@ bands_are (suc n) [] long = absurd (omega (arith, long))
 bands_are (suc n) (cell ∷ []) long = absurd (omega (arith, long))
 bands_are (suc n) (start ∷ recovery ∷ cells) long =
     by (read_field plan_kind a_start start) (read_field plan_kind a_recovery recovery) (read_fields (λ place. plan_kind) (bands_form n) cells)
-    ∙ step (λ v. unsigned_abs (millionths v)) _ _ _ _ (number_is (λ m. unsigned_abs m) 6 _ _ start) (λ from.
-    step whole_stated _ _ _ _ (whole_is _ _ recovery) (λ part.
-    ap (λ r. r >>= λ bands. Ok (band_at from part ∷ bands)) (bands_are n cells (omega (arith, long)))))
-    ∙ split (number_in 6 (pos 0) (pos MAX_GRADE) start)
+    ∙ band_is start recovery _ (λ band. bands_in cells >>= λ bands. Ok (band ∷ bands)) (λ from part.
+    ap (λ r. r >>= λ bands. Ok (band_at from part ∷ bands)) (bands_are n cells (omega (arith, long))))
   where
     by : (r1 r2 : Result Value PlanFaultKind) (r3 : Result (List Value) PlanFaultKind)
         → ((r1 >>= λ a. (r2 >>= λ b. r3 >>= λ cs. Ok (b ∷ cs)) >>= λ bs. Ok (a ∷ bs)) >>= λ values. Ok (bands_of values))
@@ -189,13 +199,9 @@ bands_are (suc n) (start ∷ recovery ∷ cells) long =
     by (Ok a) (Ok b) (Err kind) = refl
     by (Ok a) (Ok b) (Ok cs) = refl
 
-    split : (r : Result ℤ PlanFaultKind)
-        → ((r >>= λ m. Ok (unsigned_abs m)) >>= λ from. recovery_in recovery >>= λ part. bands_in cells >>= λ bands.
-        Ok (record { start = from; recovery = part } ∷ bands))
-        ≡ (r >>= λ from. recovery_in recovery >>= λ part. bands_in cells >>= λ bands.
-        Ok (record { start = unsigned_abs from; recovery = part } ∷ bands))
-    split (Ok m) = refl
-    split (Err kind) = refl
+bands_long : (n : ℕ) → length (bands_form n) ≡ 2 * n
+bands_long zero = refl
+bands_long (suc n) = omega (arith, bands_long n)
 
 -- the numbers of what cells name
 number_named : (o : Option ℕ) (cell : List ℕ)
@@ -229,55 +235,73 @@ named_is find cell = by (find cell) refl
     by (Some n) is = rw is refl
     by None is = refl
 
-destination_stated : (s : Stated) (k : FormulaKey) (cells : List (List ℕ)) → destination_in s k cells ≡ destination_record k s cells
+-- the form of a leach's bands
+abbrev leach_bands : List (List ℕ) → List Field
+leach_bands cells = bands_form (suc ((length cells - 6) / 2))
+
+destination_stated : (s : Stated) (k : FormulaKey) (cells : List (List ℕ))
+    → said_by_place cells (destination_shape s k cells) ≡ destination_record k s cells
 destination_stated s formula_key.Mill cells =
     wide _ _ _ (step word_of _ _ _ _ (name_is (cell_at cells 1)) (λ name.
     step whole_stated _ _ _ _ (whole_is _ _ (cell_at cells 2)) (λ recovery.
     step whole_stated _ _ _ _ (whole_is _ _ (cell_at cells 3)) (λ price.
     step whole_stated _ _ _ _ (whole_is _ _ (cell_at cells 4)) (λ cost.
-    both_tested (is_taken s (word_of name)) (length s.formulas == MAX_DESTINATIONS) _ _ _)))))
-destination_stated s formula_key.Leach cells = by (nat_lt (length cells) 6 || not (length cells % 2 == 0)) refl
+    both_tested (is_some (destination_named s.formulas (word_of name))) (length s.formulas == MAX_DESTINATIONS) _ _ _)))))
+destination_stated s formula_key.Leach cells =
+    ap (λ t. if t then Err Width else read_then 1 (destination_shape s formula_key.Leach cells).form cells (ending (destination_shape s formula_key.Leach cells))) width
+    ∙ by (nat_lt (length cells) 6 || not (length cells % 2 == 0)) refl
   where
-    asked : (taken rise few full : Bool) (answer : Result Stated PlanFaultKind)
-        → unless (if not taken then (if rise then (if few then (if not full then None else Some TooMany) else Some TooMany) else Some Order) else Some Twice) answer
-        ≡ (if taken then Err Twice else (if not rise then Err Order else (if not few then Err TooMany else (if full then Err TooMany else answer))))
-    asked true rise few full answer = refl
-    asked false false few full answer = refl
-    asked false true false full answer = refl
-    asked false true true true answer = refl
-    asked false true true false answer = refl
+    width : not (length cells == suc (length (destination_shape s formula_key.Leach cells).form))
+        ≡ (nat_lt (length cells) 6 || not (length cells % 2 == 0))
+    width = grind (arith, nat_tests, bands_long ((length cells - 6) / 2))
 
-    bands : length cells ≡ 4 + length (bands_form (suc ((length cells - 6) / 2))) → placed_bands_in 4 (suc ((length cells - 6) / 2)) cells [] ≡ bands_in (drop 4 cells)
-    bands long =
-        ap (λ r. r >>= λ values. Ok (bands_of values)) (from_front 4 (bands_form (suc ((length cells - 6) / 2))) cells long)
-        ∙ bands_are (suc ((length cells - 6) / 2)) (drop 4 cells) (omega (arith, long, bands_long (suc ((length cells - 6) / 2)), length-drop 4 cells))
+    asked : (taken rise few full : Bool) (bands : List Band) (answer : List Band → Result Stated PlanFaultKind)
+        → unless (if not taken then (if rise then (if few then (if not full then None else Some TooMany) else Some TooMany) else Some Order) else Some Twice)
+        (answer bands)
+        ≡ (if taken then Err Twice else ((if not rise then Err Order else (if not few then Err TooMany else Ok bands))
+        >>= λ bands. if full then Err TooMany else answer bands))
+    asked true rise few full bands answer = refl
+    asked false false few full bands answer = refl
+    asked false true false full bands answer = refl
+    asked false true true true bands answer = refl
+    asked false true true false bands answer = refl
 
     by : (t : Bool) → (nat_lt (length cells) 6 || not (length cells % 2 == 0)) ≡ t
-        → (if t then Err Width else (read_field plan_kind a_name (cell_at cells 1) >>= λ name. read_field plan_kind a_price (cell_at cells 2) >>= λ price.
-        read_field plan_kind a_cost (cell_at cells 3) >>= λ cost. placed_bands_in 4 (suc ((length cells - 6) / 2)) cells [] >>= λ bands.
-        destined s (word_of name) (bands_asked bands) (formula.Leach bands (whole_stated price) (whole_stated cost))))
+        → (if t then Err Width else read_then 1 (destination_shape s formula_key.Leach cells).form cells (ending (destination_shape s formula_key.Leach cells)))
         ≡ (if t then Err Width else (name_in (cell_at cells 1) >>= λ name. price_in (cell_at cells 2) >>= λ price.
-        cost_in (cell_at cells 3) >>= λ cost. bands_in (drop 4 cells) >>= λ bands.
-        if is_taken s name then Err Twice else (if not (starts_rise bands) then Err Order else (if not (nat_le (length bands) MAX_BANDS) then Err TooMany
-        else destination_more s name (formula.Leach bands price cost)))))
+        cost_in (cell_at cells 3) >>= λ cost. bands_in (drop 4 cells) >>= λ bands. fresh_leach s name bands price cost))
     by true e = refl
     by false e =
-        let long : length cells ≡ 4 + length (bands_form (suc ((length cells - 6) / 2))) = grind (arith, nat_tests, e, bands_long (suc ((length cells - 6) / 2))) in
+        let long : length cells ≡ 4 + length (leach_bands cells) = grind (arith, nat_tests, e, bands_long (suc ((length cells - 6) / 2))) in
+        let bands : (read_from 4 (leach_bands cells) cells >>= λ values. Ok (bands_of values)) ≡ bands_in (drop 4 cells) =
+        ap (λ r. r >>= λ values. Ok (bands_of values)) (from_front 4 (leach_bands cells) cells long)
+        ∙ bands_are (suc ((length cells - 6) / 2)) (drop 4 cells)
+        (omega (arith, long, bands_long (suc ((length cells - 6) / 2)), length-drop 4 cells)) in
         step word_of _ _ _ _ (name_is (cell_at cells 1)) (λ name.
         step whole_stated _ _ _ _ (whole_is _ _ (cell_at cells 2)) (λ price.
         step whole_stated _ _ _ _ (whole_is _ _ (cell_at cells 3)) (λ cost.
-        ap (λ r. r >>= λ bands. destined s (word_of name) (bands_asked bands) (formula.Leach bands (whole_stated price) (whole_stated cost))) (bands long)
-        ∙ (λ i. bands_in (drop 4 cells) >>= λ bands.
-        asked (is_taken s (word_of name)) (starts_rise bands) (nat_le (length bands) MAX_BANDS) (length s.formulas == MAX_DESTINATIONS)
-        (Ok (with_destination s (word_of name) (formula.Leach bands (whole_stated price) (whole_stated cost)))) i))))
+        then_read 4 (leach_bands cells) cells (λ values. ending (destination_shape s formula_key.Leach cells) (name ∷ price ∷ cost ∷ values))
+        ∙ step bands_of _ _ _ _ bands (λ values.
+        asked (is_some (destination_named s.formulas (word_of name))) (starts_rise (bands_of values)) (nat_le (length (bands_of values)) MAX_BANDS)
+        (length s.formulas == MAX_DESTINATIONS) (bands_of values)
+        (λ bands. Ok (with_destination s (word_of name) (Leach bands (whole_stated price) (whole_stated cost))))))))
 destination_stated s formula_key.Dump cells =
     wide _ _ _ (step word_of _ _ _ _ (name_is (cell_at cells 1)) (λ name.
     step whole_stated _ _ _ _ (whole_is _ _ (cell_at cells 2)) (λ cost.
-    both_tested (is_taken s (word_of name)) (length s.formulas == MAX_DESTINATIONS) _ _ _)))
+    both_tested (is_some (destination_named s.formulas (word_of name))) (length s.formulas == MAX_DESTINATIONS) _ _ _)))
 
-resource_stated : (s : Stated) (cells : List (List ℕ)) → resource_in s cells ≡ resource_record s cells
-resource_stated s cells = by (nat_lt (length cells) 3) refl
+-- the form of the NAMEs of a resource's destinations
+abbrev covers_form : Stated → List (List ℕ) → List Field
+covers_form s cells = replicate (suc (length cells - 3)) (a_destination s.formulas)
+
+resource_stated : (s : Stated) (cells : List (List ℕ)) → said_by_place cells (resource_shape s cells) ≡ resource_record s cells
+resource_stated s cells =
+    ap (λ t. if t then Err Width else read_then 1 (resource_shape s cells).form cells (ending (resource_shape s cells))) width
+    ∙ by (nat_lt (length cells) 3) refl
   where
+    width : not (length cells == suc (length (resource_form s cells))) ≡ nat_lt (length cells) 3
+    width = grind (arith, nat_tests, length-replicate (length cells - 3) (a_destination s.formulas))
+
     asked : (taken repeats full : Bool) (answer : Result Stated PlanFaultKind)
         → unless (if not taken then (if not repeats then (if not full then None else Some TooMany) else Some Twice) else Some Twice) answer
         ≡ (if taken || repeats then Err Twice else (if full then Err TooMany else answer))
@@ -286,33 +310,28 @@ resource_stated s cells = by (nat_lt (length cells) 3) refl
     asked false false true answer = refl
     asked false false false answer = refl
 
-    covers : length cells ≡ 2 + suc (length cells - 3)
-        → placed_covers_in 2 (suc (length cells - 3)) cells s.formulas [] ≡ covers_in s.formulas (drop 2 cells)
-    covers long =
-        let many : suc (length cells - 3) ≡ length (drop 2 cells) = omega (arith, long, length-drop 2 cells) in
-        ap (λ r. r >>= λ values. Ok (covers_of s.formulas values))
-        (from_front 2 (replicate (suc (length cells - 3)) (a_destination s.formulas)) cells
-        (omega (arith, long, length-replicate (length cells - 3) (a_destination s.formulas))))
-        ∙ ap (λ n. read_fields (λ place. plan_kind) (replicate n (a_destination s.formulas)) (drop 2 cells)
-        >>= λ values. Ok (covers_of s.formulas values)) many
-        ∙ covers_are s.formulas (drop 2 cells)
-
     by : (t : Bool) → nat_lt (length cells) 3 ≡ t
-        → (if t then Err Width else (read_field plan_kind a_name (cell_at cells 1) >>= λ name.
-        placed_covers_in 2 (suc (length cells - 3)) cells s.formulas [] >>= λ covers. covered s (word_of name) covers))
+        → (if t then Err Width else read_then 1 (resource_shape s cells).form cells (ending (resource_shape s cells)))
         ≡ (if t then Err Width else (name_in (cell_at cells 1) >>= λ name. covers_in s.formulas (drop 2 cells) >>= λ covers.
-        if is_some (resource_named s.resources name) || has_repeat covers then Err Twice
-        else (if length s.resources == MAX_RESOURCES then Err TooMany else Ok (with_resource s name covers))))
+        resource_more s name covers))
     by true e = refl
     by false e =
         let long : length cells ≡ 2 + suc (length cells - 3) = grind (arith, nat_tests, e) in
+        let many : suc (length cells - 3) ≡ length (drop 2 cells) = omega (arith, long, length-drop 2 cells) in
+        let covers : (read_from 2 (covers_form s cells) cells >>= λ values. Ok (covers_of s.formulas values)) ≡ covers_in s.formulas (drop 2 cells) =
+        ap (λ r. r >>= λ values. Ok (covers_of s.formulas values))
+        (from_front 2 (covers_form s cells) cells (omega (arith, long, length-replicate (length cells - 3) (a_destination s.formulas))))
+        ∙ ap (λ n. read_fields (λ place. plan_kind) (replicate n (a_destination s.formulas)) (drop 2 cells)
+        >>= λ values. Ok (covers_of s.formulas values)) many
+        ∙ covers_are s.formulas (drop 2 cells) in
         step word_of _ _ _ _ (name_is (cell_at cells 1)) (λ name.
-        ap (λ r. r >>= λ covers. covered s (word_of name) covers) (covers long)
-        ∙ (λ i. covers_in s.formulas (drop 2 cells) >>= λ covers.
-        asked (is_some (resource_named s.resources (word_of name))) (has_repeat covers) (length s.resources == MAX_RESOURCES)
-        (Ok (with_resource s (word_of name) covers)) i))
+        then_read 2 (covers_form s cells) cells (λ values. ending (resource_shape s cells) (name ∷ values))
+        ∙ step (covers_of s.formulas) _ _ _ _ covers (λ values.
+        asked (is_some (resource_named s.resources (word_of name))) (has_repeat (covers_of s.formulas values)) (length s.resources == MAX_RESOURCES)
+        (Ok (with_resource s (word_of name) (covers_of s.formulas values)))))
 
-bound_stated : (cells : List (List ℕ)) → placed_bound_in cells ≡ bound_in cells
+bound_stated : (cells : List (List ℕ))
+    → (read_from 3 (bound_form (is_interval cells)) cells >>= λ values. Ok (bound_of (is_interval cells) values)) ≡ bound_in cells
 bound_stated cells = by (is_interval cells) (is_letter cells (codes "L")) (is_letter cells (codes "G")) refl refl refl
   where
     two : (r1 r2 : Result Value PlanFaultKind)
@@ -334,7 +353,7 @@ bound_stated cells = by (is_interval cells) (is_letter cells (codes "L")) (is_le
     tonnes place = plain_number 6 _ _ (cell_at cells place)
 
     by : (i l g : Bool) → is_interval cells ≡ i → is_letter cells (codes "L") ≡ l → is_letter cells (codes "G") ≡ g
-        → part_from 3 (bound_form i) (bound_of i) cells
+        → (read_from 3 (bound_form i) cells >>= λ values. Ok (bound_of i values))
         ≡ (if i then (tonnes_in (cell_at cells 4) >>= λ v. tonnes_in (cell_at cells 5) >>= λ w. Ok (Between v w))
         else (if l then (tonnes_in (cell_at cells 4) >>= λ v. Ok (AtMost v))
         else (if g then (tonnes_in (cell_at cells 4) >>= λ v. Ok (AtLeast v)) else Err Name)))
@@ -349,50 +368,40 @@ bound_stated cells = by (is_interval cells) (is_letter cells (codes "L")) (is_le
         rw (is_l, is_g) (one AtLeast of_letter (read_field plan_kind a_bound (cell_at cells 4)) ∙ ap (λ r. r >>= λ v. Ok (AtLeast v)) (tonnes 4))
     by false false false is_i is_l is_g = rw (is_l, is_g) refl
 
-limit_stated : (s : Stated) (cells : List (List ℕ)) → limit_in s cells ≡ limit_record s cells
+limit_stated : (s : Stated) (cells : List (List ℕ)) → said_by_place cells (limit_shape s cells) ≡ limit_record s cells
 limit_stated s cells =
-    ap (λ n. if not (length cells == n) then Err Width else (
-    read_field plan_kind (a_resource s.resources) (cell_at cells 1) >>= λ resource.
-    read_field plan_kind (below (unwrap_or s.periods 0)) (cell_at cells 2) >>= λ period.
-    placed_bound_in cells >>= λ bound. limited s (limit_on s (word_of resource) (whole_stated period) bound))) (width (is_interval cells))
+    ap (λ n. if not (length cells == n) then Err Width
+    else read_then 1 (limit_form s cells) cells (ending (limit_shape s cells))) (width (is_interval cells))
     ∙ wide _ _ _ (
     step (λ value. unwrap_or (resource_named s.resources (word_of value)) 0) _ _ _ _ (named_is (resource_named s.resources) (cell_at cells 1)) (λ resource.
     step whole_stated _ _ _ _ (whole_is _ _ (cell_at cells 2)) (λ period.
-    ap (λ r. r >>= λ bound. limited s (limit_on s (word_of resource) (whole_stated period) bound)) (bound_stated cells)
-    ∙ (λ i. bound_in cells >>= λ bound. more (limit_on s (word_of resource) (whole_stated period) bound) i))))
+    then_read 3 (bound_form (is_interval cells)) cells
+    (λ values. ending (limit_shape s cells) (resource ∷ period ∷ values))
+    ∙ step (bound_of (is_interval cells)) _ _ _ _ (bound_stated cells) (λ values.
+    both_tested (list_any (λ m. is_same_place (limit_of s cells (resource ∷ period ∷ values)) m) s.limits)
+    (is_turned (bound_of (is_interval cells) values)) _ _ _))))
   where
     width : (i : Bool) → suc (suc (suc (length (bound_form i)))) ≡ (if i then 6 else 5)
     width true = refl
     width false = refl
 
-    more : (l : Limit) → limited s l ≡ limit_more s l
-    more l = both_tested (list_any (λ m. is_same_place l m) s.limits) (is_turned l.bound) _ _ _
-
-key_stated : (s : Stated) (k : PlanKey) (cells : List (List ℕ)) → key_in s k cells ≡ key_record (Some k) s cells
-key_stated s key.Name cells = name_stated s cells
-key_stated s key.Grid cells = grid_stated s cells
-key_stated s key.Zone cells = zone_stated s cells
-key_stated s (key.Destination k) cells = destination_stated s k cells
-key_stated s key.Periods cells = periods_stated s cells
-key_stated s key.Rate cells = rate_stated s cells
-key_stated s key.Resource cells = resource_stated s cells
-key_stated s key.Limit cells = limit_stated s cells
-
--- a record by its key
-pub recorded : (s : Stated) (k : PlanKey) (cells : List (List ℕ)) → ¬ (length cells ≡ 0) → key_of (cell_at cells 0) ≡ Some k
-    → record_of s cells ≡ key_in s k cells
-recorded s k cells some is =
-    let test : (length cells == 0) ≡ false = ne_eqb _ _ some in rw (test, is) (sym (key_stated s k cells))
+-- the record of a key
+key_is : (s : Stated) (k : Option PlanKey) (cells : List (List ℕ)) → ¬ (length cells ≡ 0) → said (key_shape s k cells) ≡ key_record k s cells
+key_is s None cells some = refl
+key_is s (Some key.Name) cells some = by_place cells (name_shape s cells) some ∙ name_stated s cells
+key_is s (Some key.Grid) cells some = by_place cells (grid_shape s cells) some ∙ grid_stated s cells
+key_is s (Some key.Zone) cells some = by_place cells (zone_shape s cells) some ∙ zone_stated s cells
+key_is s (Some (key.Destination k)) cells some = by_place cells (destination_shape s k cells) some ∙ destination_stated s k cells
+key_is s (Some key.Periods) cells some = by_place cells (periods_shape s cells) some ∙ periods_stated s cells
+key_is s (Some key.Rate) cells some = by_place cells (rate_shape s cells) some ∙ rate_stated s cells
+key_is s (Some key.Resource) cells some = by_place cells (resource_shape s cells) some ∙ resource_stated s cells
+key_is s (Some key.Limit) cells some = by_place cells (limit_shape s cells) some ∙ limit_stated s cells
 
 -- the record goes by its shape
 pub record_is : (s : Stated) (cells : List (List ℕ)) → record_of s cells ≡ said (record_shape s cells)
 record_is s cells = by (length cells == 0) refl
   where
-    keyed : (k : Option PlanKey) → ¬ (length cells ≡ 0) → key_record k s cells ≡ said (key_shape s k cells)
-    keyed None some = refl
-    keyed (Some k) some = sym (key_placed s k cells some ∙ key_stated s k cells)
-
     by : (t : Bool) → (length cells == 0) ≡ t → (if t then Ok s else key_record (key_of (cell_at cells 0)) s cells)
         ≡ said (if t then blank_shape s else key_shape s (key_of (cell_at cells 0)) cells)
     by true e = refl
-    by false e = keyed (key_of (cell_at cells 0)) (eqb-false (length cells) 0 e)
+    by false e = sym (key_is s (key_of (cell_at cells 0)) cells (eqb-false (length cells) 0 e))

@@ -1,3 +1,4 @@
+pub mod DestinationRecords
 pub mod FaultText
 pub mod FormulaShapes
 pub mod PlanCells

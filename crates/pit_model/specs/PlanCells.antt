@@ -1,5 +1,5 @@
 -- The cells of a plan's records: what a cell of each kind takes, and the kind of fault where it does not.
-use Rattle.std.specs.Prelude.{ℤ, pos, ◌*ℤ◌, ◌≤ℤ◌}
+use Rattle.std.specs.Prelude.{ℤ, pos, ◌*ℤ◌}
 use Rattle.forms.specs.Words.{FieldFault, Field, Decimal, Word, between, up_to}
 use Rattle.forms.specs.FieldFault as fault
 use Rattle.pit_parts.specs.Name.{is_name}
@@ -19,10 +19,6 @@ plan_kind fault.Word = Name
 -- metres with three decimals, from the lowest to the highest millimetres
 abbrev pub metres : ℤ → ℤ → Field
 metres low high = Decimal 3 (low *ℤ pos 1000) (high *ℤ pos 1000)
-
--- such metres, in millionths
-abbrev pub AreMetres : ℤ → ℤ → ℤ → Type 0
-AreMetres low high m = ((low *ℤ pos 1000) ≤ℤ m) × (m ≤ℤ (high *ℤ pos 1000))
 
 -- a NAME
 abbrev pub a_name : Field

@@ -1,22 +1,18 @@
 -- What a record of a plan states behind those before it, cell by cell, or its first fault.
-use Rattle.std.specs.Prelude.{ℕ, ◌%◌, ◌==◌, ◌||◌, not, nat_le, nat_lt, Bool, List, [], ◌∷◌, length, drop, pos, unsigned_abs, Option, Some, None, is_some, unwrap_or, codes, Result, Ok, Err, if◌then◌else◌}
+use Rattle.std.specs.Prelude.{ℕ, ◌==◌, ◌||◌, not, nat_lt, Bool, List, [], ◌∷◌, length, drop, ℤ, pos, Option, Some, None, is_some, unwrap_or, codes, Result, Ok, Err, if◌then◌else◌}
 use Rattle.std.specs.List.{list_any}
 use Rattle.std.specs.Str.{bytes_eq}
 use Rattle.forms.specs.Words.{◌>>=◌}
 use Rattle.records.specs.RecordCells.{cell_at}
 use Rattle.pit_parts.specs.PlanKept.{has_repeat, is_turned}
-use Rattle.pit_parts.specs.formulas.BandsKept.{starts_rise}
+use Rattle.pit_model.specs.DestinationRecords.{destination_record}
 use Rattle.pit_model.specs.PlanKeys.{key_of}
+use Rattle.pit_model.specs.Stated.{Stated, destination_named, resource_named, with_zone, with_resource, is_same_place, with_limit}
 use Rattle.pit_model.specs.StatedCells.{below_in, name_in, number_in, number_of, origin_in, size_in, tonnes_in, whole_in}
-use Rattle.pit_model.specs.Stated.{Stated, destination_named, resource_named, with_destination, with_zone, with_resource, is_same_place, with_limit}
+use Rattle.pit_parts.specs.declared.cone.Cone.{Cone}
 use Rattle.pit_parts.specs.declared.cone.Slope.{Slope}
-use Rattle.pit_parts.specs.declared.formulas.band.Band.{Band}
-use Rattle.pit_model.specs.declared.draft.formulas.FormulaKey.{FormulaKey}
-use Rattle.pit_model.specs.declared.draft.formulas.FormulaKey.TheVariants as formula_key
-use Rattle.pit_parts.specs.declared.formulas.formula.Formula.{Formula}
-use Rattle.pit_parts.specs.declared.formulas.formula.Formula.TheVariants as formula
 use Rattle.pit_parts.specs.declared.formulas.formula.NamedFormula.{NamedFormula}
-use Rattle.pit_parts.specs.declared.grid.Axis.{Axis}
+use Rattle.pit_parts.specs.declared.grid.Grid.{Grid}
 use Rattle.pit_parts.specs.declared.limit.Bound.{Bound}
 use Rattle.pit_parts.specs.declared.limit.Bound.TheVariants.{AtMost, AtLeast, Between}
 use Rattle.pit_parts.specs.declared.limit.Limit.{Limit}
@@ -24,7 +20,7 @@ use Rattle.pit_model.specs.declared.plan_fault.PlanFaultKind.{PlanFaultKind}
 use Rattle.pit_model.specs.declared.plan_fault.PlanFaultKind.TheVariants.{Key, Width, Name, Twice, Order, TooMany}
 use Rattle.pit_model.specs.declared.plan_key.PlanKey.{PlanKey}
 use Rattle.pit_model.specs.declared.plan_key.PlanKey.TheVariants as key
-use Rattle.pit_parts.specs.declared.ranges.TheConstants.{MAX_BANDS, MAX_BENCHES, MAX_COST, MAX_DESTINATIONS, MAX_GRADE, MAX_PERIODS, MAX_PRICE, MAX_RATE, MAX_RECOVERY, MAX_RESOURCES, MAX_SLOPE, MAX_ZONES}
+use Rattle.pit_parts.specs.declared.ranges.TheConstants.{MAX_BENCHES, MAX_PERIODS, MAX_RATE, MAX_RESOURCES, MAX_SLOPE, MAX_ZONES}
 
 -- `name, NAME`
 abbrev pub name_record : Stated → List (List ℕ) → Result Stated PlanFaultKind
@@ -33,9 +29,10 @@ name_record s cells =
       name ← name_in (cell_at cells 1)
       if is_some s.name then Err Twice else Ok (record s { name = Some name })
 
--- `grid`, the origin's three coordinates, the three sizes
-abbrev pub grid_once : Stated → Axis → Axis → Axis → Result Stated PlanFaultKind
-grid_once s x y z = if is_some s.grid then Err Twice else Ok (record s { grid = Some (record { x = x; y = y; z = z }) })
+-- `grid`, the origin's three coordinates, the three sizes of a block
+abbrev pub grid_by : ℤ → ℤ → ℤ → ℕ → ℕ → ℕ → Grid
+grid_by x y z along_x along_y along_z =
+    record { x = record { origin = x; size = along_x }; y = record { origin = y; size = along_y }; z = record { origin = z; size = along_z } }
 
 abbrev pub grid_record : Stated → List (List ℕ) → Result Stated PlanFaultKind
 grid_record s cells =
@@ -46,93 +43,46 @@ grid_record s cells =
       along_x ← size_in (cell_at cells 4)
       along_y ← size_in (cell_at cells 5)
       along_z ← size_in (cell_at cells 6)
-      grid_once s (record { origin = x; size = along_x }) (record { origin = y; size = along_y }) (record { origin = z; size = along_z })
+      if is_some s.grid then Err Twice else Ok (record s { grid = Some (grid_by x y z along_x along_y along_z) })
 
--- `zone, p, q, K`, one slope for all four sides; or p and q of +x, of -x, of +y and of -y, and K; of at most 64 zones
+-- `zone, p, q, K`, one slope for all four sides; or p and q of +x, of -x, of +y and of -y, and K: p and q 1 to 1000, K 1 to 20;
+-- of at most 64 zones
 abbrev pub slope_in : List ℕ → List ℕ → Result Slope PlanFaultKind
 slope_in rise run = do
   p ← whole_in 1 MAX_SLOPE rise
   q ← whole_in 1 MAX_SLOPE run
   Ok (record { p = p; q = q })
 
-abbrev pub zone_more : Stated → Slope → Slope → Slope → Slope → ℕ → Result Stated PlanFaultKind
-zone_more s east west north south k =
-    if length s.cones == MAX_ZONES then Err TooMany
-    else Ok (with_zone s (record { east = east; west = west; north = north; south = south; k = k }))
+abbrev pub zone_more : Stated → Cone → Result Stated PlanFaultKind
+zone_more s cone = if length s.cones == MAX_ZONES then Err TooMany else Ok (with_zone s cone)
+
+abbrev pub equal_zone : Stated → List (List ℕ) → Result Stated PlanFaultKind
+equal_zone s cells = do
+  slope ← slope_in (cell_at cells 1) (cell_at cells 2)
+  k ← whole_in 1 MAX_BENCHES (cell_at cells 3)
+  zone_more s (record { east = slope; west = slope; north = slope; south = slope; k = k })
+
+abbrev pub sided_zone : Stated → List (List ℕ) → Result Stated PlanFaultKind
+sided_zone s cells = do
+  east ← slope_in (cell_at cells 1) (cell_at cells 2)
+  west ← slope_in (cell_at cells 3) (cell_at cells 4)
+  north ← slope_in (cell_at cells 5) (cell_at cells 6)
+  south ← slope_in (cell_at cells 7) (cell_at cells 8)
+  k ← whole_in 1 MAX_BENCHES (cell_at cells 9)
+  zone_more s (record { east = east; west = west; north = north; south = south; k = k })
 
 abbrev pub zone_record : Stated → List (List ℕ) → Result Stated PlanFaultKind
 zone_record s cells =
-    if length cells == 4 then (do
-      slope ← slope_in (cell_at cells 1) (cell_at cells 2)
-      k ← whole_in 1 MAX_BENCHES (cell_at cells 3)
-      zone_more s slope slope slope slope k)
-    else (if length cells == 10 then (do
-      east ← slope_in (cell_at cells 1) (cell_at cells 2)
-      west ← slope_in (cell_at cells 3) (cell_at cells 4)
-      north ← slope_in (cell_at cells 5) (cell_at cells 6)
-      south ← slope_in (cell_at cells 7) (cell_at cells 8)
-      k ← whole_in 1 MAX_BENCHES (cell_at cells 9)
-      zone_more s east west north south k)
-    else Err Width)
+    if length cells == 4 then equal_zone s cells else (if length cells == 10 then sided_zone s cells else Err Width)
 
--- of a destination, of at most 8 with NAMEs of their own: a recovery, a price and a cost
-abbrev pub is_taken : Stated → List ℕ → Bool
-is_taken s name = is_some (destination_named s.formulas name)
-
-abbrev pub destination_more : Stated → List ℕ → Formula → Result Stated PlanFaultKind
-destination_more s name formula = if length s.formulas == MAX_DESTINATIONS then Err TooMany else Ok (with_destination s name formula)
-
-abbrev pub recovery_in : List ℕ → Result ℕ PlanFaultKind
-recovery_in cell = whole_in 0 MAX_RECOVERY cell
-
-abbrev pub price_in : List ℕ → Result ℕ PlanFaultKind
-price_in cell = whole_in 0 MAX_PRICE cell
-
-abbrev pub cost_in : List ℕ → Result ℕ PlanFaultKind
-cost_in cell = whole_in 0 MAX_COST cell
-
--- the bands of a leach, each a start in g/t with six decimals and a recovery; the width of the record leaves no lone cell
-abbrev pub bands_in : List (List ℕ) → Result (List Band) PlanFaultKind
-bands_in (start ∷ recovery ∷ cells) = do
-  from ← number_in 6 (pos 0) (pos MAX_GRADE) start
-  part ← recovery_in recovery
-  bands ← bands_in cells
-  Ok (record { start = unsigned_abs from; recovery = part } ∷ bands)
-bands_in cells = Ok []
-
--- `mill, NAME, recovery, price, cost`; `leach, NAME, price, cost`, and 1 to 16 bands that rise; `dump, NAME, cost`
-abbrev pub destination_record : FormulaKey → Stated → List (List ℕ) → Result Stated PlanFaultKind
-destination_record formula_key.Mill s cells =
-    if not (length cells == 5) then Err Width else do
-      name ← name_in (cell_at cells 1)
-      recovery ← recovery_in (cell_at cells 2)
-      price ← price_in (cell_at cells 3)
-      cost ← cost_in (cell_at cells 4)
-      if is_taken s name then Err Twice else destination_more s name (formula.Mill recovery price cost)
-destination_record formula_key.Leach s cells =
-    if nat_lt (length cells) 6 || not (length cells % 2 == 0) then Err Width else do
-      name ← name_in (cell_at cells 1)
-      price ← price_in (cell_at cells 2)
-      cost ← cost_in (cell_at cells 3)
-      bands ← bands_in (drop 4 cells)
-      if is_taken s name then Err Twice
-          else (if not (starts_rise bands) then Err Order
-          else (if not (nat_le (length bands) MAX_BANDS) then Err TooMany
-          else destination_more s name (formula.Leach bands price cost)))
-destination_record formula_key.Dump s cells =
-    if not (length cells == 3) then Err Width else do
-      name ← name_in (cell_at cells 1)
-      cost ← cost_in (cell_at cells 2)
-      if is_taken s name then Err Twice else destination_more s name (formula.Dump cost)
-
--- `periods, number`
+-- `periods, number`, 1 to 100
 abbrev pub periods_record : Stated → List (List ℕ) → Result Stated PlanFaultKind
 periods_record s cells =
     if not (length cells == 2) then Err Width else do
       periods ← whole_in 1 MAX_PERIODS (cell_at cells 1)
       if is_some s.periods then Err Twice else Ok (record s { periods = Some periods })
 
--- `rate, number`, with six decimals
+-- `rate, number`, 0 to 1 with six decimals
 abbrev pub rate_record : Stated → List (List ℕ) → Result Stated PlanFaultKind
 rate_record s cells =
     if not (length cells == 2) then Err Width else do
@@ -147,13 +97,17 @@ covers_in formulas (cell ∷ cells) = do
   numbers ← covers_in formulas cells
   Ok (number ∷ numbers)
 
+abbrev pub resource_more : Stated → List ℕ → List ℕ → Result Stated PlanFaultKind
+resource_more s name covers =
+    if is_some (resource_named s.resources name) || has_repeat covers then Err Twice
+    else (if length s.resources == MAX_RESOURCES then Err TooMany else Ok (with_resource s name covers))
+
 abbrev pub resource_record : Stated → List (List ℕ) → Result Stated PlanFaultKind
 resource_record s cells =
     if nat_lt (length cells) 3 then Err Width else do
       name ← name_in (cell_at cells 1)
       covers ← covers_in s.formulas (drop 2 cells)
-      if is_some (resource_named s.resources name) || has_repeat covers then Err Twice
-          else (if length s.resources == MAX_RESOURCES then Err TooMany else Ok (with_resource s name covers))
+      resource_more s name covers
 
 -- `limit, NAME of an earlier resource, period, letter, v`, and w where the letter is I; the letters as capitals alone
 abbrev pub is_letter : List (List ℕ) → List ℕ → Bool

@@ -27,14 +27,14 @@ whole_in low high cell = number_in 0 (pos (low * 10 ^ 6)) (pos (high * 10 ^ 6)) 
 abbrev pub below_in : ℕ → List ℕ → Result ℕ PlanFaultKind
 below_in limit cell = number_in 0 (pos 0) (pos (limit * 10 ^ 6) -ℤ pos 1) cell >>= λ m. Ok (unsigned_abs m / 10 ^ 6)
 
--- an origin and the size of a block: metres with three decimals, in millimetres
+-- an origin, -10^12 to 10^12 mm, and the size of a block, 1 to 100,000 mm: metres with three decimals, counted in millimetres
 abbrev pub origin_in : List ℕ → Result ℤ PlanFaultKind
 origin_in cell = number_in 3 (MIN_ORIGIN *ℤ pos 1000) (MAX_ORIGIN *ℤ pos 1000) cell >>= λ m. Ok (int_div m (pos 1000))
 
 abbrev pub size_in : List ℕ → Result ℕ PlanFaultKind
 size_in cell = number_in 3 (pos 1000) (pos (MAX_SIZE * 1000)) cell >>= λ m. Ok (unsigned_abs m / 1000)
 
--- tonnes with six decimals
+-- tonnes, 0 to 10^12 with six decimals
 abbrev pub tonnes_in : List ℕ → Result ℤ PlanFaultKind
 tonnes_in cell = number_in 6 (pos 0) MAX_TONNES cell
 

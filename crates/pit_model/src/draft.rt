@@ -1,18 +1,16 @@
 //! A plan while its records are read.
 
-ghost use Rattle.std.specs.Prelude.{◌≡◌, ◌<◌, ◌≤◌, length, unwrap_or, All};
+ghost use Rattle.std.specs.Prelude.{◌≡◌, ◌<◌, ◌≤◌, length, unwrap_or, All, Some};
 ghost use Rattle.csv.specs.Records.{fields_of};
 ghost use Rattle.pit_units.specs.OrMemory.{Gives};
 ghost use Rattle.records.specs.RecordCells.{cells_of};
 ghost use Rattle.pit_parts.specs.PlanKept.{AreTonnes};
-ghost use Rattle.pit_model.specs.inner.ByPlace.{covered, key_in, limit_in, limited, resource_in, said_by_place};
-ghost use Rattle.pit_model.specs.PlanShapes.{grid_shape, name_shape, periods_shape, rate_shape};
-ghost use Rattle.pit_model.specs.PlanRecords.{record_of};
+ghost use Rattle.pit_model.specs.PlanRecords.{grid_record, key_record, limit_more, limit_record, name_record, periods_record, rate_record, record_of, resource_more, resource_record};
 ghost use Rattle.pit_model.specs.Planned.{finished};
 ghost use Rattle.pit_model.specs.Stated.{nothing_stated};
 
 use crate::cells::Cells;
-use crate::grid_cells::{axis_of, origin_in, size_in};
+use crate::grid_cells::{origin_in, size_in};
 use crate::limit_cells::{bound_in, insert_limit, is_limited, limit_width, period_in};
 use crate::named::{covers_in, has_repeat, has_resource, name_in, resource_number};
 use crate::numbers::{number_in, whole_in};
@@ -21,7 +19,7 @@ use crate::plan_key::{PlanKey, key_of};
 use csv::ByteRecord;
 use pit_parts::cone::Cone;
 use pit_parts::formulas::formula::NamedFormula;
-use pit_parts::grid::Grid;
+use pit_parts::grid::{Axis, Grid};
 use pit_parts::limit::Limit;
 use pit_parts::name::Name;
 use pit_parts::plan::{Horizon, Plan};
@@ -81,7 +79,6 @@ impl Draft {
     }
 
     /// Adds what the next record says. Where it has a fault, or memory is refused, the draft is of no use.
-    #[tactic(auto, using(crate::proofs::RecordFacts::recorded))]
     pub fn admit(&mut self, row: &ByteRecord) -> Result<(), OrMemory<PlanFaultKind>>
         ensures { Gives (λ _. self.new) result
             (record_of self.old (cells_of (fields_of row.now))) }
@@ -98,7 +95,7 @@ impl Draft {
 
     fn admit_key(&mut self, key: PlanKey, cells: &Cells) -> Result<(), OrMemory<PlanFaultKind>>
         ensures { Gives (λ _. self.new) result
-            (key_in self.old key cells.now) }
+            (key_record (Some key) self.old cells.now) }
     {
         match key {
             PlanKey::Name => self.admit_name(cells),
@@ -140,7 +137,7 @@ impl Draft {
 
     fn admit_name(&mut self, cells: &Cells) -> Result<(), OrMemory<PlanFaultKind>>
         ensures { Gives (λ _. self.new) result
-            (said_by_place cells.now (name_shape self.old cells.now)) }
+            (name_record self.old cells.now) }
     {
         if cells.len() != 2 {
             return Err(OrMemory::Fault(PlanFaultKind::Width));
@@ -155,7 +152,7 @@ impl Draft {
 
     fn admit_grid(&mut self, cells: &Cells) -> Result<(), OrMemory<PlanFaultKind>>
         ensures { Gives (λ _. self.new) result
-            (said_by_place cells.now (grid_shape self.old cells.now)) }
+            (grid_record self.old cells.now) }
     {
         if cells.len() != 7 {
             return Err(OrMemory::Fault(PlanFaultKind::Width));
@@ -170,16 +167,25 @@ impl Draft {
             return Err(OrMemory::Fault(PlanFaultKind::Twice));
         }
         self.grid = Some(Grid {
-            x: axis_of(x, along_x),
-            y: axis_of(y, along_y),
-            z: axis_of(z, along_z),
+            x: Axis {
+                origin: x,
+                size: along_x,
+            },
+            y: Axis {
+                origin: y,
+                size: along_y,
+            },
+            z: Axis {
+                origin: z,
+                size: along_z,
+            },
         });
         Ok(())
     }
 
     fn admit_resource(&mut self, cells: &Cells) -> Result<(), OrMemory<PlanFaultKind>>
         ensures { Gives (λ _. self.new) result
-            (resource_in self.old cells.now) }
+            (resource_record self.old cells.now) }
     {
         if cells.len() < 3 {
             return Err(OrMemory::Fault(PlanFaultKind::Width));
@@ -192,7 +198,7 @@ impl Draft {
     fn add_resource(&mut self, resource: Resource) -> Result<(), OrMemory<PlanFaultKind>>
         requires there { All (λ n. n < length self.old.formulas) resource.covers }
         requires some { 1 ≤ length resource.covers }
-        ensures { Gives (λ _. self.new) result (covered self.old resource.name resource.covers) }
+        ensures { Gives (λ _. self.new) result (resource_more self.old resource.name resource.covers) }
     {
         if has_resource(self.resources.as_slice(), resource.name.as_str().as_bytes())
             || has_repeat(resource.covers.as_slice())
@@ -206,9 +212,8 @@ impl Draft {
         Ok(())
     }
 
-    #[tactic(auto, using(crate::proofs::CellsByPlace::limit_said))]
     fn admit_limit(&mut self, cells: &Cells) -> Result<(), OrMemory<PlanFaultKind>>
-        ensures { Gives (λ _. self.new) result (limit_in self.old cells.now) }
+        ensures { Gives (λ _. self.new) result (limit_record self.old cells.now) }
     {
         if cells.len() != limit_width(cells) {
             return Err(OrMemory::Fault(PlanFaultKind::Width));
@@ -227,7 +232,7 @@ impl Draft {
         requires resource { limit.resource < length self.old.resources }
         requires period { limit.period < unwrap_or self.old.periods 0 }
         requires tonnes { AreTonnes limit.bound }
-        ensures { Gives (λ _. self.new) result (limited self.old limit) }
+        ensures { Gives (λ _. self.new) result (limit_more self.old limit) }
     {
         if is_limited(self.limits.as_slice(), &limit) {
             return Err(OrMemory::Fault(PlanFaultKind::Twice));
@@ -239,10 +244,9 @@ impl Draft {
         Ok(())
     }
 
-    #[tactic(auto, using(crate::proofs::CellsByPlace::quotient))]
     fn admit_periods(&mut self, cells: &Cells) -> Result<(), OrMemory<PlanFaultKind>>
         ensures { Gives (λ _. self.new) result
-            (said_by_place cells.now (periods_shape self.old cells.now)) }
+            (periods_record self.old cells.now) }
     {
         if cells.len() != 2 {
             return Err(OrMemory::Fault(PlanFaultKind::Width));
@@ -257,7 +261,7 @@ impl Draft {
 
     fn admit_rate(&mut self, cells: &Cells) -> Result<(), OrMemory<PlanFaultKind>>
         ensures { Gives (λ _. self.new) result
-            (said_by_place cells.now (rate_shape self.old cells.now)) }
+            (rate_record self.old cells.now) }
     {
         if cells.len() != 2 {
             return Err(OrMemory::Fault(PlanFaultKind::Width));

@@ -1,12 +1,10 @@
 //! The cells of a `limit` record, and the limits in order.
 
-ghost use Rattle.std.specs.Prelude.{◌≡◌, ◌+◌, ◌<◌, ◌≤◌, ◌≤ℤ◌, length, pos, bytes_eq, position, IfErr, IfOk, IfSome, OnErr, OnOk};
+ghost use Rattle.std.specs.Prelude.{◌≡◌, ◌<◌, ◌≤◌, ◌≤ℤ◌, length, pos, bytes_eq, codes, if◌then◌else◌, position, IfErr, IfOk, IfSome, OnErr, OnOk};
 ghost use Rattle.std.specs.List.{list_any, position_or_len};
 ghost use Rattle.pit_parts.specs.PlanKept.{AreTonnes, stands_before};
-ghost use Rattle.forms.specs.Words.{Millionths, below, whole, read_field};
-ghost use Rattle.pit_model.specs.inner.ByPlace.{ReadAs, bound_in};
-ghost use Rattle.pit_model.specs.PlanCells.{a_bound, plan_kind};
-ghost use Rattle.pit_model.specs.PlanShapes.{bound_form, is_interval};
+ghost use Rattle.pit_model.specs.PlanRecords.{bound_in, is_letter};
+ghost use Rattle.pit_model.specs.StatedCells.{below_in, tonnes_in};
 ghost use Rattle.pit_model.specs.Stated.{is_same_place, with_limit};
 ghost use Rattle.pit_parts.specs.declared.ranges.TheConstants.{MAX_TONNES};
 
@@ -25,15 +23,14 @@ fn is_letter(cell: &[u8], letter: &[u8]) -> bool
 
 /// How many cells the record has to have: an interval has one more.
 pub fn limit_width(cells: &Cells) -> usize
-    ensures { result ≡ 3 + length (bound_form (is_interval cells.now)) }
+    ensures { result ≡ (if is_letter cells.now (codes "I") then 6 else 5) }
 {
     if is_letter(cells.at(3), b"I") { 6 } else { 5 }
 }
 
 /// The number of a period, of which there are so many.
-#[tactic(auto, using(crate::proofs::CellsByPlace::whole_read))]
 pub fn period_in(periods: u8, cell: &[u8]) -> Result<u8, PlanFaultKind>
-    ensures value { ReadAs whole result (read_field plan_kind (below periods) cell.now) }
+    ensures value { result ≡ below_in periods cell.now }
     ensures there { IfOk result (λ n. n < periods) }
 {
     let number = number_in(cell, 0, 0, periods as i128 * MILLIONTHS - 1)?;
@@ -41,7 +38,7 @@ pub fn period_in(periods: u8, cell: &[u8]) -> Result<u8, PlanFaultKind>
 }
 
 fn tonnes_in(cell: &[u8]) -> Result<Dec, PlanFaultKind>
-    ensures value { ReadAs Millionths result (read_field plan_kind a_bound cell.now) }
+    ensures value { result ≡ tonnes_in cell.now }
     ensures in_range { IfOk result (λ v. (pos 0 ≤ℤ v) × (v ≤ℤ MAX_TONNES)) }
 {
     number_in(cell, 6, 0, MAX_TONNES)

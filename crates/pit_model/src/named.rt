@@ -1,11 +1,10 @@
 //! The NAMEs in a plan's cells.
 
-ghost use Rattle.std.specs.Prelude.{◌≡◌, ◌-◌, ◌<◌, ◌≤◌, suc, [], length, is_some, All, IfOk, IfSome};
+ghost use Rattle.std.specs.Prelude.{◌≡◌, ◌-◌, ◌<◌, ◌≤◌, drop, length, is_some, All, IfOk, IfSome};
 ghost use Rattle.pit_units.specs.OrMemory.{Gives};
-ghost use Rattle.pit_model.specs.inner.ByPlace.{Finds, covers_in};
 ghost use Rattle.pit_parts.specs.PlanKept.{has_repeat};
-ghost use Rattle.forms.specs.Words.{Bytes, read_field};
-ghost use Rattle.pit_model.specs.PlanCells.{a_name, plan_kind};
+ghost use Rattle.pit_model.specs.PlanRecords.{covers_in};
+ghost use Rattle.pit_model.specs.StatedCells.{name_in, number_of};
 ghost use Rattle.pit_model.specs.Stated.{destination_named, resource_named};
 ghost use Rattle.pit_parts.specs.declared.ranges.TheConstants.{MAX_DESTINATIONS, MAX_RESOURCES};
 
@@ -19,7 +18,7 @@ use std::alloc::Global;
 
 /// The NAME that a cell spells.
 pub fn name_in(alloc: Global, cell: &[u8]) -> Result<Name, OrMemory<PlanFaultKind>>
-    ensures { Gives Bytes result (read_field plan_kind a_name cell.now) }
+    ensures { Gives (λ name. name) result (name_in cell.now) }
 {
     match Name::read(alloc, cell)? {
         Some(name) => Ok(name),
@@ -44,7 +43,7 @@ pub fn has_resource(resources: &[Resource], name: &[u8]) -> bool
 /// The number of the destination that a cell names.
 pub fn destination_number(formulas: &[NamedFormula], cell: &[u8]) -> Result<u8, PlanFaultKind>
     requires { length formulas.now ≤ MAX_DESTINATIONS }
-    ensures value { Finds result (destination_named formulas.now cell.now) }
+    ensures value { result ≡ number_of (destination_named formulas.now cell.now) }
     ensures there { IfOk result (λ n. n < length formulas.now) }
 {
     match formula_place(formulas, cell) {
@@ -63,7 +62,7 @@ fn formula_place(formulas: &[NamedFormula], name: &[u8]) -> Option<usize>
 /// The number of the resource that a cell names.
 pub fn resource_number(resources: &[Resource], cell: &[u8]) -> Result<u8, PlanFaultKind>
     requires { length resources.now ≤ MAX_RESOURCES }
-    ensures value { Finds result (resource_named resources.now cell.now) }
+    ensures value { result ≡ number_of (resource_named resources.now cell.now) }
     ensures there { IfOk result (λ n. n < length resources.now) }
 {
     match resource_place(resources, cell) {
@@ -80,7 +79,7 @@ fn resource_place(resources: &[Resource], name: &[u8]) -> Option<usize>
 }
 
 /// The numbers of the destinations that the cells of a `resource` record name, from its third cell on.
-#[tactic(auto, using(crate::proofs::BandSteps::covers_end))]
+#[tactic(auto, using(crate::proofs::BandSteps::covers_start, crate::proofs::BandSteps::covers_end))]
 pub fn covers_in(
     alloc: Global,
     cells: &Cells,
@@ -89,7 +88,7 @@ pub fn covers_in(
     requires some { 3 ≤ length cells.now }
     requires few { length formulas.now ≤ MAX_DESTINATIONS }
     ensures value { Gives (λ covers. covers) result
-        (covers_in 2 (suc (length cells.now - 3)) cells.now formulas.now []) }
+        (covers_in formulas.now (drop 2 cells.now)) }
     ensures there { IfOk result (λ covers. All (λ n. n < length formulas.now) covers) }
     ensures each { IfOk result (λ covers. length covers ≡ length cells.now - 2) }
 {

@@ -1,9 +1,7 @@
 //! The numbers in a plan's cells.
 
-ghost use Rattle.std.specs.Prelude.{◌≤◌, ◌≤ℤ◌, IfOk};
-ghost use Rattle.forms.specs.Words.{Decimal, Millionths, between, whole, read_field};
-ghost use Rattle.pit_model.specs.inner.ByPlace.{ReadAs};
-ghost use Rattle.pit_model.specs.PlanCells.{plan_kind};
+ghost use Rattle.std.specs.Prelude.{◌≡◌, ◌≤◌, ◌≤ℤ◌, IfOk};
+ghost use Rattle.pit_model.specs.StatedCells.{number_in, whole_in};
 
 use crate::plan_fault::PlanFaultKind;
 use pit_units::{Dec, MILLIONTHS, parse_within};
@@ -11,17 +9,15 @@ use pit_units::{Dec, MILLIONTHS, parse_within};
 /// The number that a cell states, with at most so many decimals and from `low` to `high` millionths.
 pub fn number_in(cell: &[u8], decimals: u8, low: i128, high: i128) -> Result<Dec, PlanFaultKind>
     requires { decimals ≤ 6 }
-    ensures value { ReadAs Millionths result
-        (read_field plan_kind (Decimal decimals low high) cell.now) }
+    ensures value { result ≡ number_in decimals low high cell.now }
     ensures in_range { IfOk result (λ m. (low ≤ℤ m) × (m ≤ℤ high)) }
 {
     Ok(parse_within(cell, decimals, low, high)?)
 }
 
 /// The whole number that a cell states, from `low` to `high`.
-#[tactic(auto, using(crate::proofs::CellsByPlace::whole_read))]
 pub fn whole_in(cell: &[u8], low: u32, high: u32) -> Result<u32, PlanFaultKind>
-    ensures value { ReadAs whole result (read_field plan_kind (between low high) cell.now) }
+    ensures value { result ≡ whole_in low high cell.now }
     ensures in_range { IfOk result (λ n. (low ≤ n) × (n ≤ high)) }
 {
     let number = number_in(cell, 0, low as i128 * MILLIONTHS, high as i128 * MILLIONTHS)?;

@@ -59,10 +59,9 @@ impl fmt::Display for PlanFaultKind {
 
 impl From<DecFault> for PlanFaultKind {
     ghost use Rattle.std.specs.Prelude.{◌≡◌, Err};
-    ghost use Rattle.forms.specs.Words.{number_or_kind};
-    ghost use Rattle.pit_model.specs.PlanCells.{plan_kind};
+    ghost use Rattle.pit_model.specs.StatedCells.{number_said};
 
-    ghost from_gives = { λ fault kind. Err kind ≡ number_or_kind plan_kind (Err fault) };
+    ghost from_gives = { λ fault kind. Err kind ≡ number_said (Err fault) };
 
     fn from(fault: DecFault) -> PlanFaultKind {
         match fault {

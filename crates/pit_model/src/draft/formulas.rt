@@ -1,20 +1,15 @@
 //! The records of destinations: for each formula its key, and how its cells are read.
 
-ghost use Rattle.std.specs.Prelude.{◌≡◌, ◌≤◌, [], length, All, Ok};
-ghost use Rattle.forms.specs.Words.{failing, unless};
+ghost use Rattle.std.specs.Prelude.{◌≡◌, ◌≤◌, length, All};
 ghost use Rattle.pit_units.specs.OrMemory.{Gives};
 ghost use Rattle.pit_parts.specs.formulas.BandsKept.{IsBand};
-ghost use Rattle.pit_model.specs.inner.ByPlace.{destination_in, destined};
-ghost use Rattle.pit_model.specs.FormulaShapes.{bands_asked};
-ghost use Rattle.pit_model.specs.PlanKeys.{formula_key_of};
 ghost use Rattle.pit_parts.specs.formulas.Formula.{IsRuled};
-ghost use Rattle.pit_model.specs.PlanShapes.{room_for_destination};
-ghost use Rattle.pit_model.specs.Stated.{with_destination};
+ghost use Rattle.pit_model.specs.DestinationRecords.{destination_more, destination_record, fresh_destination, fresh_leach, rising};
+ghost use Rattle.pit_model.specs.PlanKeys.{formula_key_of};
 ghost use Rattle.pit_model.specs.declared.draft.formulas.FormulaKey.TheVariants as key;
-ghost use Rattle.pit_parts.specs.declared.formulas.formula.Formula.TheVariants.{Leach};
 ghost use Rattle.pit_parts.specs.declared.ranges.TheConstants.{MAX_COST, MAX_PRICE};
 
-use crate::band_cells::read_bands;
+use crate::band_cells::bands_in;
 use crate::cells::Cells;
 use crate::draft::Draft;
 use crate::named::{has_destination, name_in};
@@ -58,7 +53,7 @@ impl Draft {
         cells: &Cells,
     ) -> Result<(), OrMemory<PlanFaultKind>>
         ensures { Gives (λ _. self.new) result
-            (destination_in self.old key cells.now) }
+            (destination_record key self.old cells.now) }
     {
         match key {
             FormulaKey::Mill => self.admit_mill(cells),
@@ -67,10 +62,9 @@ impl Draft {
         }
     }
 
-    #[tactic(auto, using(crate::proofs::CellsByPlace::quotient))]
     fn admit_mill(&mut self, cells: &Cells) -> Result<(), OrMemory<PlanFaultKind>>
         ensures { Gives (λ _. self.new) result
-            (destination_in self.old key.Mill cells.now) }
+            (destination_record key.Mill self.old cells.now) }
     {
         if cells.len() != 5 {
             return Err(OrMemory::Fault(PlanFaultKind::Width));
@@ -89,10 +83,9 @@ impl Draft {
         )
     }
 
-    #[tactic(auto, using(crate::proofs::CellsByPlace::quotient))]
     fn admit_leach(&mut self, cells: &Cells) -> Result<(), OrMemory<PlanFaultKind>>
         ensures { Gives (λ _. self.new) result
-            (destination_in self.old key.Leach cells.now) }
+            (destination_record key.Leach self.old cells.now) }
     {
         if cells.len() < 6 || cells.len() % 2 != 0 {
             return Err(OrMemory::Fault(PlanFaultKind::Width));
@@ -100,8 +93,7 @@ impl Draft {
         let name = name_in(self.alloc, cells.at(1))?;
         let price = whole_in(cells.at(2), 0, MAX_PRICE)?;
         let cost = whole_in(cells.at(3), 0, MAX_COST)?;
-        let mut bands = Vec::new(self.alloc);
-        read_bands(cells, &mut bands)?;
+        let bands = bands_in(self.alloc, cells)?;
         self.add_leach(name, bands, price as u64, cost as u64)
     }
 
@@ -117,7 +109,7 @@ impl Draft {
         requires price { price ≤ MAX_PRICE }
         requires cost { cost ≤ MAX_COST }
         ensures { Gives (λ _. self.new) result
-            (destined self.old name (bands_asked bands.items) (Leach bands.items price cost)) }
+            (fresh_leach self.old name bands.items price cost) }
     {
         if has_destination(self.formulas.as_slice(), name.as_str().as_bytes()) {
             return Err(OrMemory::Fault(PlanFaultKind::Twice));
@@ -126,10 +118,9 @@ impl Draft {
         self.add_formula(name, Formula::Leach { bands, price, cost })
     }
 
-    #[tactic(auto, using(crate::proofs::CellsByPlace::quotient))]
     fn admit_dump(&mut self, cells: &Cells) -> Result<(), OrMemory<PlanFaultKind>>
         ensures { Gives (λ _. self.new) result
-            (destination_in self.old key.Dump cells.now) }
+            (destination_record key.Dump self.old cells.now) }
     {
         if cells.len() != 3 {
             return Err(OrMemory::Fault(PlanFaultKind::Width));
@@ -142,7 +133,7 @@ impl Draft {
     // Where no destination has the NAME yet.
     fn add_new(&mut self, name: Name, formula: Formula) -> Result<(), OrMemory<PlanFaultKind>>
         requires { IsRuled formula }
-        ensures { Gives (λ _. self.new) result (destined self.old name [] formula) }
+        ensures { Gives (λ _. self.new) result (fresh_destination self.old name formula) }
     {
         if has_destination(self.formulas.as_slice(), name.as_str().as_bytes()) {
             return Err(OrMemory::Fault(PlanFaultKind::Twice));
@@ -153,9 +144,7 @@ impl Draft {
     // Where there is room.
     fn add_formula(&mut self, name: Name, formula: Formula) -> Result<(), OrMemory<PlanFaultKind>>
         requires { IsRuled formula }
-        ensures { Gives (λ _. self.new) result
-            (unless (failing (room_for_destination self.old))
-            (Ok (with_destination self.old name formula))) }
+        ensures { Gives (λ _. self.new) result (destination_more self.old name formula) }
     {
         if self.formulas.len() == MAX_DESTINATIONS as usize {
             return Err(OrMemory::Fault(PlanFaultKind::TooMany));
@@ -169,7 +158,7 @@ impl Draft {
 fn rising(bands: Vec<Band>) -> Result<Bands, PlanFaultKind>
     requires some { 1 ≤ length bands.items }
     requires in_range { All IsBand bands.items }
-    ensures { result ≡ unless (failing (bands_asked bands.items)) (Ok bands.items) }
+    ensures { result ≡ rising bands.items }
 {
     if !starts_rise(bands.as_slice()) {
         return Err(PlanFaultKind::Order);

@@ -1,14 +1,9 @@
 //! The records of zones.
 
-ghost use Rattle.std.specs.Prelude.{◌≤◌, true, false, IfOk, Ok};
-ghost use Rattle.forms.specs.Words.{failing, read_field, unless, whole};
+ghost use Rattle.std.specs.Prelude.{◌≡◌, IfOk};
 ghost use Rattle.pit_units.specs.OrMemory.{Gives};
-ghost use Rattle.pit_parts.specs.PlanKept.{IsCone};
-ghost use Rattle.pit_model.specs.inner.ByPlace.{ReadAs, said_by_place, zone_by};
-ghost use Rattle.pit_model.specs.PlanCells.{a_leg, plan_kind};
-ghost use Rattle.pit_model.specs.PlanShapes.{room_for_zone, zone_shape};
-ghost use Rattle.pit_model.specs.Stated.{with_zone};
-ghost use Rattle.pit_parts.specs.declared.ranges.TheConstants.{MAX_SLOPE};
+ghost use Rattle.pit_parts.specs.PlanKept.{IsCone, IsSlope};
+ghost use Rattle.pit_model.specs.PlanRecords.{equal_zone, sided_zone, slope_in, zone_more, zone_record};
 
 use crate::cells::Cells;
 use crate::draft::Draft;
@@ -21,7 +16,7 @@ use pit_units::OrMemory;
 impl Draft {
     /// Adds the zone of a record.
     pub(crate) fn admit_zone(&mut self, cells: &Cells) -> Result<(), OrMemory<PlanFaultKind>>
-        ensures { Gives (λ _. self.new) result (said_by_place cells.now (zone_shape self.old cells.now)) }
+        ensures { Gives (λ _. self.new) result (zone_record self.old cells.now) }
     {
         match cells.len() {
             4 => self.admit_equal_zone(cells),
@@ -31,14 +26,10 @@ impl Draft {
     }
 
     // One slope on all sides.
-    #[tactic(auto, using(crate::proofs::CellsByPlace::quotient))]
     fn admit_equal_zone(&mut self, cells: &Cells) -> Result<(), OrMemory<PlanFaultKind>>
-        ensures { Gives (λ _. self.new) result (zone_by true self.old cells.now) }
+        ensures { Gives (λ _. self.new) result (equal_zone self.old cells.now) }
     {
-        let slope = Slope {
-            p: leg_in(cells.at(1))?,
-            q: leg_in(cells.at(2))?,
-        };
+        let slope = slope_in(cells.at(1), cells.at(2))?;
         let k = whole_in(cells.at(3), 1, MAX_BENCHES)?;
         self.add_zone(Cone {
             east: slope,
@@ -50,26 +41,13 @@ impl Draft {
     }
 
     // A slope for each side.
-    #[tactic(auto, using(crate::proofs::CellsByPlace::quotient))]
     fn admit_sided_zone(&mut self, cells: &Cells) -> Result<(), OrMemory<PlanFaultKind>>
-        ensures { Gives (λ _. self.new) result (zone_by false self.old cells.now) }
+        ensures { Gives (λ _. self.new) result (sided_zone self.old cells.now) }
     {
-        let east = Slope {
-            p: leg_in(cells.at(1))?,
-            q: leg_in(cells.at(2))?,
-        };
-        let west = Slope {
-            p: leg_in(cells.at(3))?,
-            q: leg_in(cells.at(4))?,
-        };
-        let north = Slope {
-            p: leg_in(cells.at(5))?,
-            q: leg_in(cells.at(6))?,
-        };
-        let south = Slope {
-            p: leg_in(cells.at(7))?,
-            q: leg_in(cells.at(8))?,
-        };
+        let east = slope_in(cells.at(1), cells.at(2))?;
+        let west = slope_in(cells.at(3), cells.at(4))?;
+        let north = slope_in(cells.at(5), cells.at(6))?;
+        let south = slope_in(cells.at(7), cells.at(8))?;
         let k = whole_in(cells.at(9), 1, MAX_BENCHES)?;
         self.add_zone(Cone {
             east,
@@ -82,8 +60,7 @@ impl Draft {
 
     fn add_zone(&mut self, cone: Cone) -> Result<(), OrMemory<PlanFaultKind>>
         requires { IsCone cone }
-        ensures { Gives (λ _. self.new) result
-            (unless (failing (room_for_zone self.old)) (Ok (with_zone self.old cone))) }
+        ensures { Gives (λ _. self.new) result (zone_more self.old cone) }
     {
         if self.cones.len() == MAX_ZONES as usize {
             return Err(OrMemory::Fault(PlanFaultKind::TooMany));
@@ -93,11 +70,15 @@ impl Draft {
     }
 }
 
-// The rise or the run of a slope.
-fn leg_in(cell: &[u8]) -> Result<u16, PlanFaultKind>
-    ensures value { ReadAs whole result (read_field plan_kind a_leg cell.now) }
-    ensures in_range { IfOk result (λ n. (1 ≤ n) × (n ≤ MAX_SLOPE)) }
+// The slope of its rise and its run.
+fn slope_in(rise: &[u8], run: &[u8]) -> Result<Slope, PlanFaultKind>
+    ensures value { result ≡ slope_in rise.now run.now }
+    ensures in_range { IfOk result IsSlope }
 {
-    let leg = whole_in(cell, 1, MAX_SLOPE)?;
-    Ok(leg as u16)
+    let p = whole_in(rise, 1, MAX_SLOPE)?;
+    let q = whole_in(run, 1, MAX_SLOPE)?;
+    Ok(Slope {
+        p: p as u16,
+        q: q as u16,
+    })
 }
