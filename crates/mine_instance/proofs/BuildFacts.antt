@@ -17,7 +17,7 @@ use Rattle.precedence.specs.Numbering.{IsNumbering, NumberingView}
 use Rattle.precedence.proofs.PlacesWhere.{numbered_more}
 use Rattle.precedence.proofs.runs.RunsOfRows.{range_more}
 use Rattle.mine_instance.specs.OfModel.{block_of_id, by_identifier}
-use Rattle.mine_instance.specs.CoveredPairs.{covers, pair_with, covering}
+use Rattle.mine_instance.specs.coefs.CoveredPairs.{covers, pair_with, covering}
 
 -- the pairs of one destination more
 pub pairs_next : (resources : List Resource) (d : ℕ)

@@ -6,7 +6,7 @@ use Rattle.std.proofs.lemmas.List.{map-append}
 use Rattle.pit_parts.specs.Plan.{PlanParts}
 use Rattle.pit_parts.specs.declared.block.Block.{Block}
 use Rattle.pit_parts.specs.declared.resource.Resource.{Resource}
-use Rattle.mine_instance.specs.CoveredPairs.{block_coef, block_coefs, coefs_of, covered, covering, covers, pair_with}
+use Rattle.mine_instance.specs.coefs.CoveredPairs.{block_coef, block_coefs, coefs_of, covered, covering, covers, pair_with}
 use Rattle.mine_instance.specs.OfModel.{coef_at, coefs}
 use Rattle.mine_instance.specs.declared.coefs.coef.Coef.{Coef}
 

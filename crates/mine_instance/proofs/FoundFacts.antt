@@ -12,7 +12,7 @@ use Rattle.pit_parts.specs.declared.block.Block.{Block}
 use Rattle.mine_instance.specs.declared.coefs.coef.Coef.{Coef}
 use Rattle.mine_instance.specs.declared.coefs.found.FoundCoefs.TheInside.{Inside}
 use Rattle.mine_instance.specs.declared.coefs.found.HeavyBlock.{HeavyBlock}
-use Rattle.mine_instance.specs.CoveredPairs.{block_coefs, block_coef, coefs_of}
+use Rattle.mine_instance.specs.coefs.CoveredPairs.{block_coefs, block_coef, coefs_of}
 use Rattle.mine_instance.specs.inner.FoundCoefFields.{heavy_one, heavy_of, heavy_coef, heavy_coefs, found_coefs, found_in}
 use Rattle.mine_instance.proofs.BuildFacts.{length-flat}
 

@@ -5,8 +5,8 @@ use Rattle.std.proofs.Math.Seq.{take-add}
 use Rattle.std.proofs.lemmas.List.{get_or-drop, get_or-map, get_or-take, map-append}
 use Rattle.std.proofs.lemmas.List.Elements.{filter-append}
 use Rattle.mine_instance.specs.Greatest.{first_greatest}
-use Rattle.mine_instance.specs.Groups.{coefs_in, pairs_of}
-use Rattle.mine_instance.specs.CoveredPairs.{coef_of}
+use Rattle.mine_instance.specs.coefs.Groups.{coefs_in, pairs_of}
+use Rattle.mine_instance.specs.coefs.CoveredPairs.{coef_of}
 use Rattle.mine_instance.specs.cpit.OfCpit.{is_chosen, without_destination}
 use Rattle.mine_instance.specs.declared.coefs.coef.Coef.{Coef}
 use Rattle.mine_instance.specs.declared.coefs.group.CoefGroup.{CoefGroup}

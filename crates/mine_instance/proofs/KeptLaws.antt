@@ -16,7 +16,7 @@ use Rattle.pit_parts.proofs.WorthFacts.{worth_bound}
 use Rattle.mine_instance.specs.Greatest.{first_greatest, greatest}
 use Rattle.mine_instance.specs.Instance.{Instance}
 use Rattle.mine_instance.specs.OfModel.{by_identifier, in_hundreds, instance, instance_of, values_of}
-use Rattle.mine_instance.specs.CoveredPairs.{block_coefs, block_coef, covered}
+use Rattle.mine_instance.specs.coefs.CoveredPairs.{block_coefs, block_coef, covered}
 use Rattle.mine_instance.specs.cpit.OfCpit.{cpit, is_chosen, without_destination}
 use Rattle.mine_instance.specs.declared.coefs.coef.Coef.{Coef}
 use Rattle.mine_instance.proofs.CoefFacts.{coefs_are}

@@ -26,7 +26,7 @@ use Rattle.mine_instance.proofs.PairFacts.{pairs_append, pairs_map, rising_diffe
 use Rattle.mine_instance.specs.Valid.{AreLimits, AreCoefs, ArePreds, IsValid}
 use Rattle.mine_instance.specs.Instance.{Instance}
 use Rattle.mine_instance.specs.OfModel.{values_of, in_hundreds, instance_of}
-use Rattle.mine_instance.specs.CoveredPairs.{covers, pair_with, covering, covered, block_coef, block_coefs, coefs_of}
+use Rattle.mine_instance.specs.coefs.CoveredPairs.{covers, pair_with, covering, covered, block_coef, block_coefs, coefs_of}
 use Rattle.mine_instance.specs.Order.{coef_before}
 use Rattle.mine_instance.specs.declared.coefs.coef.Coef.{Coef}
 

@@ -1,8 +1,6 @@
 pub mod BlockValues
 pub mod ByBlock
-pub mod CoveredPairs
 pub mod Greatest
-pub mod Groups
 pub mod Hundreds
 pub mod Instance
 pub mod Kept
@@ -11,5 +9,6 @@ pub mod OneSlope
 pub mod Order
 pub mod Valid
 pub mod WorthsOf
+pub mod coefs
 pub mod cpit
 pub mod inner

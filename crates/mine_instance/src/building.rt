@@ -10,7 +10,7 @@ ghost use Rattle.precedence.specs.Numbering.{IsNumbering, NumberingView};
 ghost use Rattle.rows.specs.Valued.{worths_by};
 ghost use Rattle.mine_instance.specs.Kept.{IsKept};
 ghost use Rattle.mine_instance.specs.OfModel.{instance, values_of};
-ghost use Rattle.mine_instance.specs.CoveredPairs.{covering, covered};
+ghost use Rattle.mine_instance.specs.coefs.CoveredPairs.{covering, covered};
 ghost use Rattle.mine_instance.specs.Valid.{IsValid};
 ghost use Rattle.pit_parts.specs.declared.ranges.TheConstants.{MAX_BLOCKS, MAX_DESTINATIONS, MAX_RESOURCES};
 

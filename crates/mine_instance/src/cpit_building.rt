@@ -2,7 +2,7 @@
 
 ghost use Rattle.std.specs.Prelude.{◌≡◌, ◌==◌, ◌<◌, ◌++◌, length, map, filter, All, IfOk, OnOk};
 ghost use Rattle.mine_instance.specs.Greatest.{greatest};
-ghost use Rattle.mine_instance.specs.Groups.{coefs_in};
+ghost use Rattle.mine_instance.specs.coefs.Groups.{coefs_in};
 ghost use Rattle.mine_instance.specs.Kept.{IsKept, IsKeptCpit};
 ghost use Rattle.mine_instance.specs.cpit.OfCpit.{cpit, is_chosen, without_destination};
 ghost use Rattle.mine_instance.specs.Valid.{IsValid};

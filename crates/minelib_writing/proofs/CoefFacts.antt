@@ -11,7 +11,7 @@ use Rattle.std.specs.List.{concat, drop-map, flat_map, take-map}
 use Rattle.std.specs.Prelude.{◌==◌, ◌&&◌, decimal, if◌then◌else◌, IsTrue, nat_lt, slice_index_or, ℤ}
 use Rattle.pit_units.specs.Decimal.{shortest}
 use Rattle.mine_instance.specs.Greatest.{first_greatest}
-use Rattle.mine_instance.specs.CoveredPairs.{coef_of}
+use Rattle.mine_instance.specs.coefs.CoveredPairs.{coef_of}
 use Rattle.mine_instance.specs.declared.coefs.coef.Coef.{Coef}
 use Rattle.minelib_writing.specs.declared.lines.coefs.CoefForm.TheVariants.{OfChosen}
 use Rattle.minelib_writing.specs.inner.CoefParts.{coef_part, coef_text, cpit_coef_text, has_values}

@@ -2,7 +2,7 @@
 use Rattle.std.specs.Prelude.{ℕ, ◌*◌, ◌≤◌, ◌==◌, List, [], ◌∷◌, pos, length, map, if◌then◌else◌}
 use Rattle.std.specs.List.{flat_map, enumerate_from}
 use Rattle.pit_parts.specs.declared.block.Block.{Block}
-use Rattle.mine_instance.specs.CoveredPairs.{coef_of}
+use Rattle.mine_instance.specs.coefs.CoveredPairs.{coef_of}
 use Rattle.mine_instance.specs.declared.coefs.coef.Coef.{Coef}
 use Rattle.mine_instance.specs.declared.coefs.found.FoundCoefs.TheInside.{Inside}
 use Rattle.mine_instance.specs.declared.coefs.found.HeavyBlock.{HeavyBlock}

@@ -1,7 +1,7 @@
 //! Coefficients that are found when they are asked for.
 
 ghost use Rattle.std.specs.Prelude.{◌≡◌, ◌*◌, ◌≤◌, ◌++◌, pos, IfOk, OnOk, length};
-ghost use Rattle.mine_instance.specs.CoveredPairs.{coefs_of};
+ghost use Rattle.mine_instance.specs.coefs.CoveredPairs.{coefs_of};
 ghost use Rattle.mine_instance.specs.inner.FoundCoefFields.{heavy_of, heavy_one};
 ghost use Rattle.pit_parts.specs.declared.ranges.TheConstants.{MAX_BLOCKS, MAX_DESTINATIONS, MAX_RESOURCES};
 

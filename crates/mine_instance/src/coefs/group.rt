@@ -1,7 +1,7 @@
 //! Coefficients that have a block and its tonnes in common.
 
 ghost use Rattle.std.specs.Prelude.{◌≡◌, length};
-ghost use Rattle.mine_instance.specs.Groups.{pairs_of};
+ghost use Rattle.mine_instance.specs.coefs.Groups.{pairs_of};
 
 use pit_units::Dec;
 

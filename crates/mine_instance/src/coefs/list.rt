@@ -1,7 +1,7 @@
 //! Lists of coefficients, whether they are kept or found.
 
 ghost use Rattle.std.specs.Prelude.{◌≡◌, ◌+◌, ◌<◌, ◌≤◌, ◌++◌, List, IfOk, OnOk, length, take, drop};
-ghost use Rattle.mine_instance.specs.Groups.{coefs_in, pairs_of};
+ghost use Rattle.mine_instance.specs.coefs.Groups.{coefs_in, pairs_of};
 
 use crate::coefs::coef::{Coef, Coefs};
 use crate::coefs::group::{CoefGroup, Pairs};

@@ -5,7 +5,7 @@ ghost use Rattle.std.specs.Prelude.{◌≡◌, ◌+◌, ◌<◌, ◌≤◌, ◌=
 ghost use Rattle.std.specs.List.{flat_map};
 ghost use Rattle.pit_units.specs.Decimal.{shortest};
 ghost use Rattle.pit_units.specs.DecimalRange.{IsInDecimalRange};
-ghost use Rattle.mine_instance.specs.Groups.{coefs_in, pairs_of};
+ghost use Rattle.mine_instance.specs.coefs.Groups.{coefs_in, pairs_of};
 ghost use Rattle.minelib_writing.specs.Written.{cpit_coef_line};
 ghost use Rattle.minelib_writing.specs.inner.CoefParts.{coef_lines, coef_part, coef_text, cpit_coef_text, FitsForm};
 

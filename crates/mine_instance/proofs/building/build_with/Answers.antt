@@ -1,7 +1,7 @@
 use Rattle.std.proofs.Common.{◌≡◌, ◌∙◌, true, ap, sym, subst, length}
 use Rattle.pit_parts.specs.Name.{is_name}
 use Rattle.mine_instance.specs.OfModel.{instance_of}
-use Rattle.mine_instance.specs.CoveredPairs.{covered, coefs_of}
+use Rattle.mine_instance.specs.coefs.CoveredPairs.{covered, coefs_of}
 use Rattle.mine_instance.specs.Kept.{IsKept}
 use Rattle.mine_instance.specs.Valid.{IsValid}
 use Rattle.mine_instance.specs.Instance.{Instance}

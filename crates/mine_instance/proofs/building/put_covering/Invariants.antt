@@ -1,5 +1,5 @@
 use Rattle.std.proofs.Common.{◌≡◌, ◌++◌, take}
-use Rattle.mine_instance.specs.CoveredPairs.{covering}
+use Rattle.mine_instance.specs.coefs.CoveredPairs.{covering}
 use Rattle.mine_instance.proofs.building.put_covering.Given as goal
 
 abbrev pub invariant-loop-number : goal.invariant-loop-number

@@ -1,6 +1,6 @@
 use Rattle.std.proofs.Common.{◌≡◌, ◌++◌, ◌∙◌, [], length, map, get_or, ap, sym, arith}
 use Rattle.mine_instance.specs.Greatest.{first_greatest}
-use Rattle.mine_instance.specs.Groups.{coefs_in, pairs_of}
+use Rattle.mine_instance.specs.coefs.Groups.{coefs_in, pairs_of}
 use Rattle.mine_instance.specs.cpit.OfCpit.{without_destination}
 use Rattle.mine_instance.proofs.GroupFacts.{chosen_more, group_there, same_choice}
 use Rattle.mine_instance.proofs.cpit_building.chosen_of.Goals as goal

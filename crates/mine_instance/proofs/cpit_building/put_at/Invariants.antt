@@ -1,6 +1,6 @@
 use Rattle.std.proofs.Common.{◌≡◌, ◌++◌, map, take}
 use Rattle.std.specs.Prelude.{filter, ◌==◌}
-use Rattle.mine_instance.specs.CoveredPairs.{coef_of}
+use Rattle.mine_instance.specs.coefs.CoveredPairs.{coef_of}
 use Rattle.mine_instance.specs.cpit.OfCpit.{without_destination}
 use Rattle.mine_instance.proofs.cpit_building.put_at.Given as goal
 

@@ -1,5 +1,5 @@
 use Rattle.std.proofs.Common.{◌≡◌, ◌++◌, ◌∙◌, length, ap, sym}
-use Rattle.mine_instance.specs.Groups.{coefs_in, pairs_of}
+use Rattle.mine_instance.specs.coefs.Groups.{coefs_in, pairs_of}
 use Rattle.mine_instance.proofs.GroupFacts.{group_more}
 use Rattle.mine_instance.proofs.coefs.list.keep.Goals as goal
 

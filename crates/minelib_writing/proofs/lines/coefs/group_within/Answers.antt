@@ -1,4 +1,4 @@
-use Rattle.mine_instance.specs.Groups.{pairs_of}
+use Rattle.mine_instance.specs.coefs.Groups.{pairs_of}
 use Rattle.minelib_writing.proofs.FrontGroup.{front_part}
 use Rattle.minelib_writing.proofs.lines.coefs.group_within.Goals as goal
 

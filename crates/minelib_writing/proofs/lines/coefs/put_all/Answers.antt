@@ -5,8 +5,8 @@ use Rattle.std.proofs.lemmas.List.{get_or_default, take_all, take_rest}
 use Rattle.std.proofs.lemmas.List.Folds.{flat_map-map}
 use Rattle.std.specs.List.{flat_map}
 use Rattle.pit_units.specs.Decimal.{shortest}
-use Rattle.mine_instance.specs.Groups.{pairs_of}
-use Rattle.mine_instance.specs.CoveredPairs.{coef_of}
+use Rattle.mine_instance.specs.coefs.Groups.{pairs_of}
+use Rattle.mine_instance.specs.coefs.CoveredPairs.{coef_of}
 use Rattle.minelib_writing.specs.inner.CoefParts.{coef_text}
 use Rattle.minelib_writing.proofs.CoefFacts.{coef_text_is, line_in, next_line, of_pair, places_before}
 use Rattle.minelib_writing.proofs.lines.coefs.put_all.Goals as goal

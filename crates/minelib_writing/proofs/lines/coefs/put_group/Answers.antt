@@ -2,7 +2,7 @@ use Rattle.std.proofs.Common.{◌≡◌, ◌++◌, ◌∙◌, [], All, ap, refl,
 use Rattle.std.specs.Prelude.{slice_index_or}
 use Rattle.std.proofs.lemmas.Result.{on_ok_weaker}
 use Rattle.mine_instance.specs.Greatest.{first_greatest}
-use Rattle.mine_instance.specs.Groups.{coefs_in, pairs_of}
+use Rattle.mine_instance.specs.coefs.Groups.{coefs_in, pairs_of}
 use Rattle.minelib_writing.specs.inner.CoefParts.{FitsForm}
 use Rattle.minelib_writing.specs.declared.lines.coefs.CoefForm.TheVariants.{OfChosen}
 use Rattle.minelib_writing.proofs.CoefFacts.{chosen_parts, has_some, of_pair}

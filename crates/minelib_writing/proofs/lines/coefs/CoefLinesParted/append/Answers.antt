@@ -1,6 +1,6 @@
 use Rattle.std.proofs.Common.{◌≡◌, ◌+◌, ◌≤◌, ◌++◌, ◌∙◌, All, length, map, take, drop, ap, sym, subst, arith, append_assoc}
 use Rattle.std.specs.Prelude.{HoldsAt}
-use Rattle.mine_instance.specs.Groups.{coefs_in, pairs_of}
+use Rattle.mine_instance.specs.coefs.Groups.{coefs_in, pairs_of}
 use Rattle.pit_units.specs.DecimalRange.{IsInDecimalRange}
 use Rattle.minelib_writing.specs.inner.CoefParts.{coef_part, FitsForm}
 use Rattle.minelib_writing.specs.inner.KeptParts.{HoldsFrom}

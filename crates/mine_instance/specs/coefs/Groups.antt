@@ -1,6 +1,6 @@
 -- The coefficients of a group: those of one block with the same tonnes.
 use Rattle.std.specs.Prelude.{ℕ, List, map}
-use Rattle.mine_instance.specs.CoveredPairs.{coef_of}
+use Rattle.mine_instance.specs.coefs.CoveredPairs.{coef_of}
 use Rattle.mine_instance.specs.declared.coefs.coef.Coef.{Coef}
 use Rattle.mine_instance.specs.declared.coefs.group.CoefGroup.{CoefGroup}
 use Rattle.mine_instance.specs.declared.coefs.group.Pairs.{Pairs}

@@ -1,0 +1,2 @@
+pub mod CoveredPairs
+pub mod Groups
