@@ -17,8 +17,7 @@ import shared
 # The parts of the text, each with the calls whose contracts stand at its end.
 PARTS: Dict[str, List[Tuple[str, str]]] = {
     "run": [("crates/pit_compile/src/running.rt", "run")],
-    "pipe": [("crates/pit_model/src/plan_reader.rt", "read_plan"),
-             ("crates/pit_commands/src/model.rt", "read_model"),
+    "pipe": [("crates/pit_commands/src/model.rt", "read_model"),
              ("crates/pit_commands/src/pipe_form.rt", "pipe")],
     "check": [("crates/pit_check/src/check.rt", "check")],
 }

@@ -5,8 +5,8 @@ PARTS = {
     "run": "A zone file is a CSV text with the columns x, y, z, tonnes and grade; the file of number i has the blocks of the plan's\n"
            "zone i. For each file a thread, its reader, takes the bytes of a feed and puts the rows into a queue, the lane. Valuers, threads\n"
            "too, take them out, and value each block at each destination. Sinks take the texts, which depend on none of these threads.",
-    "pipe": "One input holds the text of a plan and those of its zone files, cut at lines that are exactly `--`. The texts of the\n"
-            "instance are printed one after the other.",
+    "pipe": "One input holds the text of a plan and those of its zone files, cut at lines that are exactly `--`. A plan is a CSV text:\n"
+            "the first cell of a record is its key. The texts of the instance are printed one after the other.",
     "check": "The files of an instance are read back, and what they have is counted.",
 }
 
