@@ -1,15 +1,19 @@
 //! The texts of an instance: the parts of each, and its writer, which begins the sink and writes the text. Where it is refused, the sink
 //! is as it was, or it was begun and holds the front of the text; after `SinkFailed` it refused one call, and after `OutOfMemory` none.
 
-ghost use Rattle.std.specs.Prelude.{◌<◌, length, All, OnOk, ⊤};
+ghost use Rattle.std.specs.Prelude.{◌<◌, ◌++◌, length, All, OnOk, ⊤};
 ghost use Rattle.devices.specs.sinks.Writes.{Writes};
 ghost use Rattle.mine_instance.specs.cpit.CpitKept.{IsCpit};
 ghost use Rattle.mine_instance.specs.cpit.OfCpit.{cpit as instance_cpit};
 ghost use Rattle.mine_instance.specs.Valid.{IsValid};
 ghost use Rattle.mine_instance.specs.Kept.{IsKept, IsKeptCpit};
+ghost use Rattle.minelib_lines.specs.KeyParts.{value_in};
+ghost use Rattle.minelib_lines.specs.Lines.{text_of};
+ghost use Rattle.minelib_lines.specs.WrittenLines.{key_lines};
 ghost use Rattle.minelib_writing.specs.Texts.{text_named};
 ghost use Rattle.minelib_writing.specs.TextsKept.{kept_named};
-ghost use Rattle.minelib_writing.specs.Written.{text_blocks, text_prec, text_upit, text_pcpsp, text_cpit};
+ghost use Rattle.minelib_writing.specs.Written.{section_lines, text_blocks, text_prec, text_upit, text_pcpsp, text_cpit};
+ghost use Rattle.minelib_writing.specs.inner.KeptParts.{HoldsFrom};
 
 use crate::id_text::IdText;
 use crate::keys::write_keys;
@@ -17,7 +21,7 @@ use crate::lines::Lines;
 use crate::lines::coefs::{CoefForm, CoefLines};
 use crate::lines::preds::write_preds;
 use crate::lines::values::{GreatestLines, ValueLines};
-use crate::parts::{write_parts, write_titled};
+use crate::parts::{Parted, write_parts, write_titled};
 use crate::sections::write_sections;
 use crate::text_name::TextName;
 use devices::sinks::sink::Sink;
@@ -156,16 +160,23 @@ pub fn write_upit<P: PredLists, C: CoefList, V: ValueList, S: Sink>(
     write_text(alloc, &UpitFile { instance }, sink)
 }
 
+// A model file of three sections: what its header says and by which keys, and the lines of each section.
 #[derive(Drop)]
-struct PcpspFile<'a, P: PredLists, C: CoefList, V: ValueList> {
-    instance: &'a Instance<P, C, V>,
-    ghost valid: { IsValid instance.now },
+struct ModelFile<'a, V: Parted, C: Parted, L: Parted> {
+    header: KeyValues<'a>,
+    keys: &'a [HeaderKey],
+    values: V,
+    coefs: C,
+    limits: L,
 }
 
-impl<'a, P: PredLists, C: CoefList, V: ValueList> Text for PcpspFile<'a, P, C, V> {
-    ghost text = { λ t. text_pcpsp t.instance.now };
+impl<'a, V: Parted, C: Parted, L: Parted> Text for ModelFile<'a, V, C, L> {
+    ghost text = { λ t. text_of (key_lines (value_in t.header) t.keys.now
+        ++ section_lines (V.lines t.values) (C.lines t.coefs) (L.lines t.limits)) };
 
-    ghost kept = { λ t. IsKept t.instance.now };
+    ghost kept = { λ t. HoldsFrom (V.kept t.values) 0 (length (V.parts t.values))
+        × HoldsFrom (C.kept t.coefs) 0 (length (C.parts t.coefs))
+        × HoldsFrom (L.kept t.limits) 0 (length (L.parts t.limits)) };
 
     #[tactic(auto, using(crate::proofs::SectionsWritten::nothing_put))]
     fn write<S: Sink>(
@@ -174,31 +185,8 @@ impl<'a, P: PredLists, C: CoefList, V: ValueList> Text for PcpspFile<'a, P, C, V
         sink: &mut S,
         buffer: &mut Vec<u8>,
     ) -> Result<(), WriteFault> {
-        let instance = self.instance;
-        let form: CoefForm<V> = CoefForm::OfAll;
-        let problem = Problem::Pcpsp;
-        write_keys(
-            alloc,
-            sink,
-            buffer,
-            &KeyValues::of_instance(problem.type_text(), instance),
-            problem.keys(),
-        )?;
-        write_sections(
-            alloc,
-            sink,
-            buffer,
-            &ValueLines {
-                values: &instance.values,
-            },
-            &CoefLines {
-                coefs: &instance.coefs,
-                form,
-            },
-            &Lines {
-                items: instance.limits.as_slice(),
-            },
-        )
+        write_keys(alloc, sink, buffer, &self.header, self.keys)?;
+        write_sections(alloc, sink, buffer, &self.values, &self.coefs, &self.limits)
     }
 }
 
@@ -213,50 +201,22 @@ pub fn write_pcpsp<P: PredLists, C: CoefList, V: ValueList, S: Sink>(
     ensures writes { Writes (text_pcpsp instance.now) (S.state sink.old) (S.state sink.new) result }
     ensures kept { OnOk result (IsKept instance.now) }
 {
-    write_text(alloc, &PcpspFile { instance }, sink)
-}
-
-#[derive(Drop)]
-struct CpitFile<'a> {
-    cpit: &'a Cpit,
-}
-
-impl<'a> Text for CpitFile<'a> {
-    ghost text = { λ t. text_cpit t.cpit.now };
-
-    ghost kept = { λ t. IsKeptCpit t.cpit.now × IsCpit t.cpit.now };
-
-    #[tactic(auto, using(crate::proofs::SectionsWritten::nothing_put))]
-    fn write<S: Sink>(
-        &self,
-        alloc: Global,
-        sink: &mut S,
-        buffer: &mut Vec<u8>,
-    ) -> Result<(), WriteFault> {
-        let cpit = self.cpit;
-        let problem = Problem::Cpit;
-        write_keys(
-            alloc,
-            sink,
-            buffer,
-            &KeyValues::of_cpit(problem.type_text(), cpit),
-            problem.keys(),
-        )?;
-        write_sections(
-            alloc,
-            sink,
-            buffer,
-            &Lines {
-                items: cpit.values(),
-            },
-            &Lines {
-                items: cpit.coefs(),
-            },
-            &Lines {
-                items: cpit.limits(),
-            },
-        )
-    }
+    let form: CoefForm<V> = CoefForm::OfAll;
+    let file = ModelFile {
+        header: KeyValues::of_instance(Problem::Pcpsp.type_text(), instance),
+        keys: Problem::Pcpsp.keys(),
+        values: ValueLines {
+            values: &instance.values,
+        },
+        coefs: CoefLines {
+            coefs: &instance.coefs,
+            form,
+        },
+        limits: Lines {
+            items: instance.limits.as_slice(),
+        },
+    };
+    write_text(alloc, &file, sink)
 }
 
 /// Begins the sink and writes the file of the constrained pit limit problem. Of a CPIT that it wrote it says what the types of the
@@ -267,53 +227,20 @@ pub fn write_cpit<S: Sink>(alloc: Global, cpit: &Cpit, sink: &mut S) -> Result<(
     ensures kept { OnOk result (IsKeptCpit cpit.now) }
     ensures is { OnOk result (IsCpit cpit.now) }
 {
-    write_text(alloc, &CpitFile { cpit }, sink)
-}
-
-#[derive(Drop)]
-struct ChosenFile<'a, P: PredLists, C: CoefList, V: ValueList> {
-    instance: &'a Instance<P, C, V>,
-    ghost valid: { IsValid instance.now },
-}
-
-impl<'a, P: PredLists, C: CoefList, V: ValueList> Text for ChosenFile<'a, P, C, V> {
-    ghost text = { λ t. text_cpit (instance_cpit t.instance.now) };
-
-    ghost kept = { λ t. IsKeptCpit (instance_cpit t.instance.now)
-        × IsCpit (instance_cpit t.instance.now) };
-
-    #[tactic(auto, using(crate::proofs::SectionsWritten::nothing_put))]
-    fn write<S: Sink>(
-        &self,
-        alloc: Global,
-        sink: &mut S,
-        buffer: &mut Vec<u8>,
-    ) -> Result<(), WriteFault> {
-        a_valid_instance_has_a_cpit();
-        let instance = self.instance;
-        let values = &instance.values;
-        let problem = Problem::Cpit;
-        write_keys(
-            alloc,
-            sink,
-            buffer,
-            &KeyValues::of_one_destination(problem.type_text(), instance),
-            problem.keys(),
-        )?;
-        write_sections(
-            alloc,
-            sink,
-            buffer,
-            &GreatestLines { values },
-            &CoefLines {
-                coefs: &instance.coefs,
-                form: CoefForm::OfChosen(values),
-            },
-            &Lines {
-                items: instance.limits.as_slice(),
-            },
-        )
-    }
+    let file = ModelFile {
+        header: KeyValues::of_cpit(Problem::Cpit.type_text(), cpit),
+        keys: Problem::Cpit.keys(),
+        values: Lines {
+            items: cpit.values(),
+        },
+        coefs: Lines {
+            items: cpit.coefs(),
+        },
+        limits: Lines {
+            items: cpit.limits(),
+        },
+    };
+    write_text(alloc, &file, sink)
 }
 
 // The same of the CPIT of an instance, which is not built: each block's destination is found when its lines are written.
@@ -328,7 +255,21 @@ fn write_chosen<P: PredLists, C: CoefList, V: ValueList, S: Sink>(
     ensures kept { OnOk result (IsKeptCpit (instance_cpit instance.now)) }
     ensures is { OnOk result (IsCpit (instance_cpit instance.now)) }
 {
-    write_text(alloc, &ChosenFile { instance }, sink)
+    a_valid_instance_has_a_cpit();
+    let values = &instance.values;
+    let file = ModelFile {
+        header: KeyValues::of_one_destination(Problem::Cpit.type_text(), instance),
+        keys: Problem::Cpit.keys(),
+        values: GreatestLines { values },
+        coefs: CoefLines {
+            coefs: &instance.coefs,
+            form: CoefForm::OfChosen(values),
+        },
+        limits: Lines {
+            items: instance.limits.as_slice(),
+        },
+    };
+    write_text(alloc, &file, sink)
 }
 
 /// Begins the sink and writes the text of this name, of an instance or of its CPIT.
