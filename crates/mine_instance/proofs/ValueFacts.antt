@@ -59,3 +59,20 @@ values_found worths positions plan rows n are is same =
     in_two_steps (map in_hundreds) (λ p. get_or worths p []) positions
     ∙ ap (map (map in_hundreds)) ((λ i. map (λ p. get_or (own i) p []) (sym same i)) ∙ numbered_at worth (blocks_of_rows rows) n is)
     ∙ sym (in_two_steps (map in_hundreds) worth n.blocks)
+
+-- the row at a position of the numbering has the worths of its block, which make the values of the block of that identifier
+pub row_values : (plan : PlanParts) (rows : List Valued) (positions : List ℕ) (n : NumberingView) (i : ℕ) (d : Valued)
+    → IsNumbering (blocks_of_rows rows) n → All (λ row. row.worths ≡ worths_by (formulas_of_plan plan) row.block) rows
+    → positions ≡ n.positions → i < length positions
+    → ((get_or rows (get_or positions i 0) d).worths ≡ worths_by (formulas_of_plan plan) (get_or rows (get_or positions i 0) d).block)
+    × (map in_hundreds (get_or rows (get_or positions i 0) d).worths ≡ values_of plan (get_or n.blocks i d.block))
+row_values plan rows positions n i d is own same low =
+    let block : Valued → Block = λ row. row.block in
+    let low : i < length (blocks_of_rows rows) = omega (arith, low, ap length same, is.positions) in
+    let here : get_or positions i 0 ≡ get_or n.positions i 0 = λ j. get_or (same j) i 0 in
+    let within : get_or positions i 0 < length rows = omega (arith, here, is.within i low, length-map rows block) in
+    let worths = own (get_or positions i 0) d within in
+    let own_block : block (get_or rows (get_or positions i 0) d) ≡ get_or n.blocks i d.block =
+    sym (get_or-map block rows (get_or positions i 0) d d.block within)
+    ∙ (λ j. get_or (blocks_of_rows rows) (here j) d.block) ∙ is.stands i d.block low in
+    (worths, ap (map in_hundreds) worths ∙ ap (values_of plan) own_block)

@@ -4,29 +4,34 @@ ghost use Rattle.std.specs.Prelude.{◌≡◌, ◌*◌, ◌≤◌, ◌==◌, ◌
 ghost use Rattle.std.specs.List.{list_any};
 ghost use Rattle.pit_parts.specs.PlanFormulas.{formulas_of_plan};
 ghost use Rattle.pit_parts.specs.declared.block.Block.{Block};
+ghost use Rattle.pit_parts.specs.formulas.WorthRange.{IsWorth};
 ghost use Rattle.precedence.specs.Cone.{preds as cone_lists};
 ghost use Rattle.precedence.specs.Identifier.{blocks_of_rows};
 ghost use Rattle.precedence.specs.Numbering.{IsNumbering, NumberingView};
 ghost use Rattle.rows.specs.Valued.{worths_by};
 ghost use Rattle.mine_instance.specs.Kept.{IsKept};
-ghost use Rattle.mine_instance.specs.OfModel.{instance, values_of};
-ghost use Rattle.mine_instance.specs.coefs.CoveredPairs.{covering, covered};
+ghost use Rattle.mine_instance.specs.OfModel.{in_hundreds, instance, values_of};
+ghost use Rattle.mine_instance.specs.coefs.CoveredPairs.{block_coefs, coefs_of, covering, covered};
 ghost use Rattle.mine_instance.specs.Valid.{IsValid};
 ghost use Rattle.pit_parts.specs.declared.ranges.TheConstants.{MAX_BLOCKS, MAX_DESTINATIONS, MAX_RESOURCES};
 
 use crate::blocks::Blocks;
+use crate::coefs::coef::{Coef, Coefs};
 use crate::coefs::found::FoundCoefs;
 use crate::coefs::group::Covering;
+use crate::coefs::list::CoefList;
 use crate::instance::Instance;
 use crate::limits::Limits;
-use crate::values::found::FoundValues;
+use crate::values::Values;
+use crate::values::in_hundreds::in_hundreds;
 use crate::values::list::ValueList;
 use pit_parts::block::Block;
 use pit_parts::laws::worths_are_in_range;
 use pit_parts::plan::Plan;
 use pit_parts::resource::Resource;
+use pit_units::Dec;
 use precedence::{Numbering, PredLists, Preds};
-use rows::{RowLists, Valued};
+use rows::Valued;
 use std::alloc::{AllocError, Global};
 
 /// The instance of a model, given its rows, their numbering and their predecessors. Fails only where memory is refused.
@@ -46,15 +51,10 @@ pub fn build(
     ensures kept { IfOk result IsKept }
 {
     let blocks = Vec::from_slice(alloc, numbering.blocks())?;
-    let positions = Vec::from_slice(alloc, numbering.positions())?;
-    // A formula of a plan gives worths that a row can keep.
-    worths_are_in_range();
-    let width = plan.formulas().len();
-    let worths = RowLists::of(alloc, rows, width)?.into_worths(alloc)?;
-    let values = FoundValues::new(worths, positions);
-    let found = build_with(alloc, blocks, preds, values, plan)?;
-    let kept = found.kept(alloc)?;
-    Ok(kept)
+    let values = values_by(alloc, numbering, rows, plan)?;
+    let pairs = covered_pairs(alloc, plan)?;
+    let coefs = coefs_at(alloc, pairs.as_slice(), blocks.as_slice())?;
+    of_parts(alloc, blocks, preds, values, coefs, plan)
 }
 
 /// The instance of a model, given its blocks in the order of their identifiers, their predecessors and their values.
@@ -75,12 +75,34 @@ pub fn build_with<P: PredLists + Drop, V: ValueList + Drop>(
     ensures valid { IfOk result IsValid }
     ensures kept { IfOk result IsKept }
 {
+    let pairs = covered_pairs(alloc, plan)?;
+    let coefs = FoundCoefs::new(alloc, pairs, blocks.as_slice())?;
+    of_parts(alloc, blocks, preds, values, coefs, plan)
+}
+
+// The same, given the coefficients too.
+fn of_parts<P: PredLists + Drop, C: CoefList + Drop, V: ValueList + Drop>(
+    alloc: Global,
+    blocks: Vec<Block>,
+    preds: P,
+    values: V,
+    coefs: C,
+    plan: &Plan,
+) -> Result<Instance<P, C, V>, AllocError>
+    requires few { length blocks.items ≤ MAX_BLOCKS }
+    requires preds { P.lists preds ≡ cone_lists plan.now blocks.items }
+    requires values { V.list values ≡ map (values_of plan.now) blocks.items }
+    requires coefs { C.list coefs ≡ coefs_of (covered plan.now) blocks.items }
+    ensures value { (listed : List Block) → (n : NumberingView) → IsNumbering listed n
+        → n.blocks ≡ blocks.items
+        → IfOk result (λ built. built ≡ instance plan.now listed) }
+    ensures valid { IfOk result IsValid }
+    ensures kept { IfOk result IsKept }
+{
     let own = plan.name();
     // The text of a NAME spells one.
     let _text = own.as_str();
     let name = own.copy(alloc)?;
-    let pairs = covered_pairs(alloc, plan)?;
-    let coefs = FoundCoefs::new(alloc, pairs, blocks.as_slice())?;
     let limits = Vec::from_slice(alloc, plan.limits())?;
     Ok(Instance {
         name,
@@ -94,6 +116,73 @@ pub fn build_with<P: PredLists + Drop, V: ValueList + Drop>(
         coefs,
         limits: Limits::new(limits),
     })
+}
+
+// The values of the blocks by identifier, by the worths of their rows.
+fn values_by(
+    alloc: Global,
+    numbering: &Numbering,
+    rows: &[Valued],
+    plan: &Plan,
+) -> Result<Values, AllocError>
+    requires numbering { IsNumbering (blocks_of_rows rows.now) numbering.now }
+    requires worths { All (λ row. row.worths ≡ worths_by (formulas_of_plan plan.now) row.block)
+        rows.now }
+    ensures { IfOk result (λ values. values ≡ map (values_of plan.now) numbering.now.blocks) }
+{
+    // A formula of a plan gives worths that a value can have.
+    worths_are_in_range();
+    let width = plan.formulas().len();
+    let count = numbering.blocks().len();
+    let mut values = Values::new(Vec::with_capacity(alloc, count * width)?, 0, width);
+    let mut own = Vec::new(alloc);
+    for position in numbering.positions() {
+        own.clear();
+        put_values(&mut own, rows[*position as usize].worths.as_slice())?;
+        values.push(own.as_slice())?;
+    }
+    Ok(values)
+}
+
+fn put_values(own: &mut Vec<Dec>, worths: &[i128]) -> Result<(), AllocError>
+    requires { All IsWorth worths.now }
+    ensures { OnOk result (own.new.items ≡ own.old.items ++ map in_hundreds worths.now) }
+{
+    for cents in worths {
+        own.push(in_hundreds(*cents as i64))?;
+    }
+    Ok(())
+}
+
+// The coefficients of blocks by identifier, at these pairs.
+fn coefs_at(alloc: Global, pairs: &[Covering], blocks: &[Block]) -> Result<Coefs, AllocError>
+    requires { length blocks.now ≤ MAX_BLOCKS }
+    ensures { IfOk result (λ coefs. coefs ≡ coefs_of pairs.now blocks.now) }
+{
+    let mut coefs = Vec::new(alloc);
+    for (id, block) in blocks.iter().enumerate() {
+        put_coefs(&mut coefs, id as u32, block, pairs)?;
+    }
+    Ok(Coefs::new(coefs))
+}
+
+fn put_coefs(
+    coefs: &mut Vec<Coef>,
+    b: u32,
+    block: &Block,
+    pairs: &[Covering],
+) -> Result<(), AllocError>
+    ensures { OnOk result (coefs.new.items
+        ≡ coefs.old.items ++ block_coefs pairs.now (b, block.now)) }
+{
+    if block.kg == 0 {
+        return Ok(());
+    }
+    let v = Dec::new(i128::from(block.kg) * 1000).unwrap();
+    for (d, r) in pairs {
+        coefs.push(Coef { b, d: *d, r: *r, v })?;
+    }
+    Ok(())
 }
 
 #[tactic(auto, using(crate::proofs::BuildFacts::pairs_next))]

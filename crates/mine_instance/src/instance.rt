@@ -1,18 +1,16 @@
 //! The instance of a model.
 
-ghost use Rattle.std.specs.Prelude.{◌≡◌, IfOk, length, sum_by};
-ghost use Rattle.mine_instance.specs.Valid.{IsValid};
+ghost use Rattle.std.specs.Prelude.{◌≡◌, length, sum_by};
 
 use crate::blocks::Blocks;
 use crate::coefs::coef::Coefs;
-use crate::coefs::list::{CoefList, keep as keep_coefs};
+use crate::coefs::list::CoefList;
 use crate::limits::Limits;
 use crate::values::Values;
-use crate::values::list::{ValueList, keep as keep_values};
+use crate::values::list::ValueList;
 use pit_parts::name::Name;
 use pit_units::Dec;
 use precedence::{PredLists, Preds};
-use std::alloc::{AllocError, Global};
 use std::marker::Model;
 
 /// An instance of the production scheduling problem of MineLib (Espinoza, Goycoolea, Moreno and Newman 2013). Blocks,
@@ -91,28 +89,5 @@ impl<C: CoefList, V: ValueList> Instance<Preds, C, V> {
         ensures { result ≡ sum_by length self.now.preds }
     {
         self.preds.arcs()
-    }
-}
-
-impl<P: PredLists + Drop, C: CoefList + Drop, V: ValueList + Drop> Instance<P, C, V> {
-    /// The same valid instance, whose coefficients and values are kept. Fails only where memory is refused.
-    pub fn kept(self, alloc: Global) -> Result<Instance<P>, AllocError>
-        requires { IsValid self }
-        ensures { IfOk result (λ kept. kept ≡ self) }
-    {
-        let coefs = keep_coefs(alloc, &self.coefs)?;
-        let values = keep_values(alloc, &self.values, usize::from(self.destinations))?;
-        Ok(Instance {
-            name: self.name,
-            rate: self.rate,
-            periods: self.periods,
-            destinations: self.destinations,
-            resources: self.resources,
-            blocks: self.blocks,
-            preds: self.preds,
-            values,
-            coefs,
-            limits: self.limits,
-        })
     }
 }

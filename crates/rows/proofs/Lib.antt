@@ -2,4 +2,3 @@ pub mod Cells
 pub mod Entries
 pub mod Found
 pub mod Own
-pub mod Spots

@@ -3,5 +3,4 @@ pub mod EntryFields
 pub mod EntryView
 pub mod Own
 pub mod SpotFields
-pub mod Spots
 pub mod WorthsFields

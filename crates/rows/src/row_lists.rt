@@ -1,18 +1,13 @@
 //! The rows of several files as one list.
 
-ghost use Rattle.std.specs.Prelude.{◌≡◌, ◌<◌, ◌≤◌, All, Some, filter_map, length, map, slice_get, IfOk};
-ghost use Rattle.std.specs.List.{range_with_len, AllZip};
+ghost use Rattle.std.specs.Prelude.{◌≡◌, ◌<◌, All, Some, filter_map, length, map, slice_get, IfOk};
+ghost use Rattle.std.specs.List.{AllZip};
 ghost use Rattle.std.specs.Option.{option_map};
-ghost use Rattle.pit_parts.specs.declared.ranges.TheConstants.{MAX_BLOCKS, MAX_DESTINATIONS};
 ghost use Rattle.rows.specs.ItemsView.{items_in};
-ghost use Rattle.rows.specs.Packed.{row_on, AreWorths, HasRow};
-ghost use Rattle.rows.specs.declared.item.Item.TheVariants.{Row};
+ghost use Rattle.rows.specs.Packed.{row_on, HasRow};
 ghost use Rattle.rows.specs.inner.Own.{HasWorths};
-ghost use Rattle.rows.specs.inner.Spots.{first_spot};
-ghost use Rattle.rows.specs.declared.spot.TheConstants.{POSITIONS};
 
 use crate::item::{Item, Valued};
-use crate::keeps::Keeps;
 use crate::packed::items::PackedItems;
 use crate::packed::worths::PackedWorths;
 use crate::row_worths::RowWorths;
@@ -51,18 +46,6 @@ impl RowLists {
         RowLists { lists, spots }
     }
 
-    /// Copies of these rows, each with so many worths, in their order. Fails only where memory is refused.
-    pub fn of(alloc: Global, rows: &[Valued], width: usize) -> Result<RowLists, AllocError>
-        requires width { (1 ≤ width) × (width ≤ MAX_DESTINATIONS) }
-        requires worths { All (λ row. AreWorths width row.worths) rows.now }
-        requires few { length rows.now ≤ MAX_BLOCKS }
-        ensures { IfOk result (λ lists. lists ≡ rows.now) }
-    {
-        let mut lists = Vec::with_capacity(alloc, 1)?;
-        lists.push(packed(alloc, rows, width)?)?;
-        Ok(RowLists::new(lists, first_spots(alloc, rows.len() as u32)?))
-    }
-
     /// The number of rows.
     #[tactic(auto, using(crate::proofs::Found::found))]
     pub fn len(&self) -> usize
@@ -98,31 +81,6 @@ impl RowLists {
     {
         Ok(RowWorths::new(worths_of(alloc, self.lists)?, self.spots))
     }
-}
-
-// These rows, each with so many worths, as one list of items.
-fn packed(alloc: Global, rows: &[Valued], width: usize) -> Result<PackedItems, AllocError>
-    requires width { (1 ≤ width) × (width ≤ MAX_DESTINATIONS) }
-    requires worths { All (λ row. AreWorths width row.worths) rows.now }
-    ensures { IfOk result (λ list. list.items ≡ map Row rows.now) }
-{
-    let mut items = PackedItems::new(alloc, width);
-    for row in rows {
-        items.keep(Item::Row(*row))?;
-    }
-    Ok(items)
-}
-
-// The first spots of a list, so many of them.
-fn first_spots(alloc: Global, count: u32) -> Result<Vec<Spot>, AllocError>
-    requires { count ≤ POSITIONS }
-    ensures { IfOk result (λ spots. spots.items ≡ map first_spot (range_with_len 0 count)) }
-{
-    let mut spots = Vec::with_capacity(alloc, count as usize)?;
-    for position in 0..count {
-        spots.push(Spot::new(0, position))?;
-    }
-    Ok(spots)
 }
 
 fn row_on(lists: &[PackedItems], spot: Spot) -> Valued

@@ -1,12 +1,11 @@
 //! Lists of coefficients, whether they are kept or found.
 
-ghost use Rattle.std.specs.Prelude.{◌≡◌, ◌+◌, ◌<◌, ◌≤◌, ◌++◌, List, IfOk, OnOk, length, take, drop};
+ghost use Rattle.std.specs.Prelude.{◌≡◌, ◌+◌, ◌<◌, ◌≤◌, List, length, take, drop};
 ghost use Rattle.mine_instance.specs.coefs.Groups.{coefs_in, pairs_of};
 
-use crate::coefs::coef::{Coef, Coefs};
+use crate::coefs::coef::Coef;
 use crate::coefs::group::{CoefGroup, Pairs};
 use pit_parts::listed::Listed;
-use std::alloc::{AllocError, Global};
 
 /// A list of coefficients. `Coefs` keeps them and lends them, and `FoundCoefs` finds them when they are asked for.
 pub trait CoefList {
@@ -39,30 +38,4 @@ impl CoefList for Listed<Coef> {
         let pairs = Pairs::One([(d, r)]);
         CoefGroup { b, v, pairs }
     }
-}
-
-/// All coefficients of a list, kept. Fails only where memory is refused.
-pub fn keep<C: CoefList>(alloc: Global, coefs: &C) -> Result<Coefs, AllocError>
-    ensures { IfOk result (λ kept. kept ≡ C.list coefs.now) }
-{
-    let count = coefs.len();
-    let mut kept = Vec::with_capacity(alloc, count)?;
-    let mut from = 0;
-    while from < count {
-        let group = coefs.group(from);
-        put_group(&mut kept, &group)?;
-        from += group.pairs.len();
-    }
-    Ok(Coefs::new(kept))
-}
-
-fn put_group(kept: &mut Vec<Coef>, group: &CoefGroup) -> Result<(), AllocError>
-    ensures { OnOk result (kept.new.items ≡ kept.old.items ++ coefs_in group.now) }
-{
-    let (b, v) = (group.b, group.v);
-    for (d, r) in group.pairs.as_slice() {
-        let (d, r) = (*d, *r);
-        kept.push(Coef { b, d, r, v })?;
-    }
-    Ok(())
 }

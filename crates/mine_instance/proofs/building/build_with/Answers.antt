@@ -1,28 +1,7 @@
-use Rattle.std.proofs.Common.{◌≡◌, ◌∙◌, true, ap, sym, subst, length}
-use Rattle.pit_parts.specs.Name.{is_name}
-use Rattle.mine_instance.specs.OfModel.{instance_of}
-use Rattle.mine_instance.specs.coefs.CoveredPairs.{covered, coefs_of}
-use Rattle.mine_instance.specs.Kept.{IsKept}
-use Rattle.mine_instance.specs.Valid.{IsValid}
-use Rattle.mine_instance.specs.Instance.{Instance}
-use Rattle.mine_instance.proofs.BuildFacts.{by_identifier_is}
-use Rattle.mine_instance.proofs.KeptLaws.{instance_of_kept}
-use Rattle.mine_instance.proofs.ModelFacts.{built_is, instance_is_valid}
+use Rattle.std.proofs.Common.{◌∙◌}
+use Rattle.mine_instance.specs.coefs.CoveredPairs.{coefs_of}
 use Rattle.mine_instance.proofs.building.build_with.Goals as goal
 
-pub returns : goal.returns
-returns g c =
-    let plan = c.args.plan.now in
-    let blocks = c.args.blocks.items in
-    let coefs : c.in_ok-coefs.coefs ≡ coefs_of (covered plan) blocks =
-    c.in_ok-coefs.ensures ∙ (λ j. coefs_of (c.in_ok-pairs.ensures.pairs j) (c.as_slice.ensures.value j)) in
-    let built = built_is plan blocks _ _ _ _ _ _ _ _ _ _ (c.in_ok-name.ensures ∙ c.name-own.ensures.value) c.rate.ensures.value
-    c.periods.ensures.value (ap length c.formulas.ensures.value) (ap length c.resources.ensures.value) c.new-2.ensures c.requires.preds
-    c.requires.values coefs (c.new-3.ensures ∙ c.in_ok-limits.ensures.items ∙ c.limits.ensures.value) in
-    let P : Instance → Type 0 = λ i. IsValid i in
-    let named : is_name plan.name ≡ true = rw (c.name-own.ensures.value) at c.as_str-text.ensures.kept in
-    record {
-      value = λ listed n numbered same. built ∙ ap (instance_of plan) (sym (by_identifier_is listed n numbered ∙ same));
-      valid = subst P (sym built) (instance_is_valid plan blocks c.rate.ensures.kept c.requires.few);
-      kept = subst IsKept (sym built) (instance_of_kept plan blocks named c.rate.ensures.kept);
-    }
+pub of_parts-requires-clause-coefs : goal.of_parts-requires-clause-coefs
+of_parts-requires-clause-coefs g c =
+    c.in_ok-coefs.ensures ∙ (λ j. coefs_of (c.in_ok-pairs.ensures.pairs j) (c.as_slice.ensures.value j))
