@@ -7,7 +7,7 @@ use Rattle.std.proofs.lemmas.List.Elements.{filter-append}
 use Rattle.mine_instance.specs.Greatest.{first_greatest}
 use Rattle.mine_instance.specs.coefs.Groups.{coefs_in, pairs_of}
 use Rattle.mine_instance.specs.coefs.CoveredPairs.{coef_of}
-use Rattle.mine_instance.specs.cpit.OfCpit.{is_chosen, without_destination}
+use Rattle.mine_instance.specs.cpit.OfCpit.{is_chosen, at_only_destination}
 use Rattle.mine_instance.specs.declared.coefs.coef.Coef.{Coef}
 use Rattle.mine_instance.specs.declared.coefs.group.CoefGroup.{CoefGroup}
 
@@ -43,6 +43,6 @@ same_choice values b v destination (p ∷ pairs) is =
 
 -- the chosen ones of a group more
 pub chosen_more : (values : List (List ℤ)) (all group : List Coef) (from n : ℕ) → group ≡ take n (drop from all)
-    → map without_destination (filter (is_chosen values) (take (from + n) all))
-    ≡ map without_destination (filter (is_chosen values) (take from all)) ++ map without_destination (filter (is_chosen values) group)
+    → map at_only_destination (filter (is_chosen values) (take (from + n) all))
+    ≡ map at_only_destination (filter (is_chosen values) (take from all)) ++ map at_only_destination (filter (is_chosen values) group)
 chosen_more values all group from n is = rw (group_more all group from n is, filter-append, map-append) refl

@@ -17,7 +17,7 @@ use Rattle.mine_instance.specs.Greatest.{first_greatest, greatest}
 use Rattle.mine_instance.specs.Instance.{Instance}
 use Rattle.mine_instance.specs.OfModel.{by_identifier, in_hundreds, instance, instance_of, values_of}
 use Rattle.mine_instance.specs.coefs.CoveredPairs.{block_coefs, block_coef, covered}
-use Rattle.mine_instance.specs.cpit.OfCpit.{cpit, is_chosen, without_destination}
+use Rattle.mine_instance.specs.cpit.OfCpit.{cpit, is_chosen, at_only_destination}
 use Rattle.mine_instance.specs.declared.coefs.coef.Coef.{Coef}
 use Rattle.mine_instance.proofs.CoefFacts.{coefs_are}
 use Rattle.mine_instance.proofs.ModelFacts.{worths_fit}
@@ -81,7 +81,7 @@ cpit_kept i kept = record {
   name = kept.name;
   values = All-map IsInDecimalRange greatest i.values
       (λ k d within. number_fits (get_or i.values k d) (first_greatest (get_or i.values k d)) (kept.values k d within));
-  coefs = All-map (λ e. IsInDecimalRange e.v) without_destination (filter (is_chosen i.values) i.coefs)
+  coefs = All-map (λ e. IsInDecimalRange e.v) at_only_destination (filter (is_chosen i.values) i.coefs)
       (All-filter (is_chosen i.values) (λ (c : Coef). IsInDecimalRange c.v) i.coefs kept.coefs);
   limits = kept.limits;
 }

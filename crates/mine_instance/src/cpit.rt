@@ -1,27 +1,14 @@
 //! The constrained pit limit problem of an instance.
 
-ghost use Rattle.std.specs.Prelude.{◌≡◌, length};
+ghost use Rattle.std.specs.Prelude.{◌≡◌, length, AllPairs, IsTrue};
 ghost use Rattle.mine_instance.specs.cpit.CpitKept.{IsCpit};
+ghost use Rattle.mine_instance.specs.cpit.CpitOrder.{cpit_coef_before};
 
+use crate::coefs::coef::{Coef, Coefs};
 use pit_parts::limit::Limit;
-use pit_parts::listed::Listed;
 use pit_parts::name::Name;
 use pit_units::Dec;
 use std::marker::Model;
-
-/// The tonnes of a block that a resource handles.
-#[derive(Clone, Copy, Debug, PartialEq, Eq)]
-pub struct CpitCoef {
-    /// The identifier of the block.
-    pub b: u32,
-    /// The number of the resource, from 0 in the order of the plan.
-    pub r: u8,
-    /// The tonnes.
-    pub v: Dec,
-}
-
-/// Coefficients that are kept, in rising order of block and resource.
-pub type CpitCoefs = Listed<CpitCoef>;
 
 /// An instance of the constrained pit limit problem of MineLib (Espinoza, Goycoolea, Moreno and Newman 2013): each
 /// block has one destination, and so one value. Contracts see the record of its parts. Every value keeps their ranges
@@ -33,7 +20,7 @@ pub struct Cpit {
     periods: u8,
     resources: u8,
     values: Vec<Dec>,
-    coefs: CpitCoefs,
+    coefs: Coefs,
     limits: Vec<Limit>,
 }
 
@@ -61,7 +48,7 @@ impl Cpit {
         periods: u8,
         resources: u8,
         values: Vec<Dec>,
-        coefs: CpitCoefs,
+        coefs: Coefs,
         limits: Vec<Limit>,
     ) -> Cpit
         requires { IsCpit (cpit_of name rate periods resources values.items coefs
@@ -116,10 +103,12 @@ impl Cpit {
         self.values.as_slice()
     }
 
-    /// The coefficients, in strictly rising order of block and resource.
-    pub fn coefs(&self) -> &[CpitCoef]
+    /// The coefficients, in strictly rising order of block and resource. Each is at destination 0, the only one.
+    #[tactic(auto, using(crate::proofs::CpitFacts::rise_by_resource))]
+    pub fn coefs(&self) -> &[Coef]
         ensures value { result.now ≡ self.now.coefs }
         ensures kept { IsCpit self.now }
+        ensures rising { AllPairs (λ c e. IsTrue (cpit_coef_before c e)) self.now.coefs }
     {
         self.coefs.as_slice()
     }

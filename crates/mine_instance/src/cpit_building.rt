@@ -4,12 +4,13 @@ ghost use Rattle.std.specs.Prelude.{◌≡◌, ◌==◌, ◌<◌, ◌++◌, leng
 ghost use Rattle.mine_instance.specs.Greatest.{greatest};
 ghost use Rattle.mine_instance.specs.coefs.Groups.{coefs_in};
 ghost use Rattle.mine_instance.specs.Kept.{IsKept, IsKeptCpit};
-ghost use Rattle.mine_instance.specs.cpit.OfCpit.{cpit, is_chosen, without_destination};
+ghost use Rattle.mine_instance.specs.cpit.OfCpit.{cpit, is_chosen, at_only_destination};
 ghost use Rattle.mine_instance.specs.Valid.{IsValid};
 
+use crate::coefs::coef::{Coef, Coefs};
 use crate::coefs::group::CoefGroup;
 use crate::coefs::list::CoefList;
-use crate::cpit::{Cpit, CpitCoef, CpitCoefs};
+use crate::cpit::Cpit;
 use crate::instance::Instance;
 use crate::values::list::ValueList;
 use pit_units::Dec;
@@ -37,7 +38,7 @@ pub fn build_cpit<P: PredLists, C: CoefList, V: ValueList>(
         instance.periods,
         instance.resources,
         values,
-        CpitCoefs::new(coefs),
+        Coefs::new(coefs),
         limits,
     ))
 }
@@ -59,11 +60,11 @@ fn chosen_of<C: CoefList, V: ValueList>(
     alloc: Global,
     coefs: &C,
     values: &V,
-) -> Result<Vec<CpitCoef>, AllocError>
+) -> Result<Vec<Coef>, AllocError>
     requires some { All (λ of_block. 0 < length of_block) (V.list values.now) }
     requires there { All (λ coef. coef.b < length (V.list values.now)) (C.list coefs.now) }
     ensures { IfOk result (λ chosen. chosen.items
-        ≡ map without_destination (filter (is_chosen (V.list values.now)) (C.list coefs.now))) }
+        ≡ map at_only_destination (filter (is_chosen (V.list values.now)) (C.list coefs.now))) }
 {
     let mut chosen = Vec::new(alloc);
     let mut from = 0;
@@ -77,18 +78,14 @@ fn chosen_of<C: CoefList, V: ValueList>(
 }
 
 // Those of a group at a destination.
-fn put_at(
-    chosen: &mut Vec<CpitCoef>,
-    group: &CoefGroup,
-    destination: usize,
-) -> Result<(), AllocError>
+fn put_at(chosen: &mut Vec<Coef>, group: &CoefGroup, destination: usize) -> Result<(), AllocError>
     ensures { OnOk result (chosen.new.items ≡ chosen.old.items
-        ++ map without_destination (filter (λ coef. coef.d == destination) (coefs_in group.now))) }
+        ++ map at_only_destination (filter (λ coef. coef.d == destination) (coefs_in group.now))) }
 {
     let (b, v) = (group.b, group.v);
     for (d, r) in group.pairs.as_slice() {
         if usize::from(*d) == destination {
-            chosen.push(CpitCoef { b, r: *r, v })?;
+            chosen.push(Coef { b, d: 0, r: *r, v })?;
         }
     }
     Ok(())

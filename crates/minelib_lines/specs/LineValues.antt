@@ -8,7 +8,6 @@ use Rattle.pit_parts.specs.declared.limit.Limit.{Limit}
 use Rattle.mine_instance.specs.cpit.Cpit.{CpitParts}
 use Rattle.mine_instance.specs.Instance.{Instance}
 use Rattle.mine_instance.specs.declared.coefs.coef.Coef.{Coef}
-use Rattle.mine_instance.specs.declared.cpit.CpitCoef.{CpitCoef}
 use Rattle.minelib_lines.specs.declared.problem.Problem.{Problem}
 use Rattle.minelib_lines.specs.declared.problem.Problem.TheVariants.{Pcpsp, Cpit}
 
@@ -40,10 +39,6 @@ bound_values (Between v w) = Bytes (codes "I") ∷ Millionths v ∷ Millionths w
 -- a limit
 abbrev pub limit_values : Limit → List Value
 limit_values l = whole l.resource ∷ whole l.period ∷ bound_values l.bound
-
--- a coefficient as one of the only destination
-abbrev pub at_only_destination : CpitCoef → Coef
-at_only_destination c = record { b = c.b; d = 0; r = c.r; v = c.v }
 
 -- what a model file's header states, the discount rate in millionths
 pub record StatedHeader : Type 0 where

@@ -5,13 +5,11 @@ use Rattle.pit_parts.specs.declared.block.Block.{Block}
 use Rattle.pit_parts.specs.declared.limit.Limit.{Limit}
 use Rattle.mine_instance.specs.Greatest.{greatest}
 use Rattle.mine_instance.specs.declared.coefs.coef.Coef.{Coef}
-use Rattle.mine_instance.specs.declared.cpit.CpitCoef.{CpitCoef}
 use Rattle.minelib_lines.specs.HeaderTable.{key_word}
 use Rattle.minelib_lines.specs.Lines.{line_of}
-use Rattle.minelib_lines.specs.LineValues.{block_values, preds_values, coef_values, limit_values, values_values, at_only_destination}
+use Rattle.minelib_lines.specs.LineValues.{block_values, preds_values, coef_values, limit_values, values_values}
 use Rattle.minelib_lines.specs.declared.header_key.HeaderKey.{HeaderKey}
 use Rattle.minelib_lines.specs.declared.problem.Problem.{Problem}
-use Rattle.minelib_lines.specs.declared.problem.Problem.TheVariants.{Cpit}
 
 -- a block
 abbrev pub block_fields : ℕ → Block → List (List ℕ)
@@ -34,9 +32,6 @@ cpit_value_fields n value = value_fields n (value ∷ [])
 -- a coefficient, and that of a CPIT; the place of a line among its kind is given to each, and is no field of it
 abbrev pub coef_fields : Problem → ℕ → Coef → List (List ℕ)
 coef_fields problem n c = written (coef_values problem c)
-
-abbrev pub cpit_coef_fields : ℕ → CpitCoef → List (List ℕ)
-cpit_coef_fields n c = coef_fields Cpit n (at_only_destination c)
 
 -- a limit
 abbrev pub limit_fields : ℕ → Limit → List (List ℕ)

@@ -1,11 +1,10 @@
 -- Which instance MineLib texts denote, and which constrained pit limit problem its text.
-use Rattle.std.specs.Prelude.{◌≡◌, ℕ, List, length, map, pos, Result, Ok}
+use Rattle.std.specs.Prelude.{◌≡◌, ℕ, List, length, pos, Result, Ok}
 use Rattle.std.specs.List.{flat_map}
 use Rattle.forms.specs.Words.{◌>>=◌}
 use Rattle.pit_parts.specs.declared.block.Block.{Block}
 use Rattle.mine_instance.specs.cpit.Cpit.{CpitParts}
 use Rattle.mine_instance.specs.cpit.CpitKept.{cpit_of}
-use Rattle.mine_instance.specs.cpit.OfCpit.{without_destination}
 use Rattle.mine_instance.specs.Instance.{Instance}
 use Rattle.minelib_reading.specs.BlockLines.{blocks_in}
 use Rattle.minelib_reading.specs.HeaderNumbers.{count_in}
@@ -48,7 +47,7 @@ Denotes blocks prec pcpsp i = denoted blocks prec pcpsp ≡ Ok i
 abbrev pub cpit_read : ModelDraftView → CpitParts
 cpit_read d =
     cpit_of d.name (pos (count_in d.header key.Rate)) (count_in d.header key.Periods) (count_in d.header key.Resources)
-    (flat_map (λ values. values) d.values) (map without_destination d.coefs) d.limits
+    (flat_map (λ values. values) d.values) d.coefs d.limits
 
 -- the constrained pit limit problem of n blocks that a text denotes, or its first faulty line
 unfoldable pub cpit_denoted : ℕ → List ℕ → Result CpitParts TextFault

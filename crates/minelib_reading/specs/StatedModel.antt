@@ -4,7 +4,7 @@ use Rattle.pit_parts.specs.declared.limit.Limit.{Limit}
 use Rattle.mine_instance.specs.cpit.Cpit.{CpitParts}
 use Rattle.mine_instance.specs.declared.coefs.coef.Coef.{Coef}
 use Rattle.mine_instance.specs.Instance.{Instance}
-use Rattle.minelib_lines.specs.LineValues.{StatedHeader, at_only_destination, header_of, header_of_cpit}
+use Rattle.minelib_lines.specs.LineValues.{StatedHeader, header_of, header_of_cpit}
 
 -- the header, and what the sections state: of each block a value for each destination, coefficients and limits
 pub record StatedModel : Type 0 where
@@ -31,6 +31,6 @@ abbrev pub model_of_cpit : CpitParts → StatedModel
 model_of_cpit c = record {
   header = header_of_cpit c;
   values = map alone c.values;
-  coefs = map at_only_destination c.coefs;
+  coefs = c.coefs;
   limits = c.limits;
 }

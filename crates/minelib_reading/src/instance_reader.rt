@@ -106,5 +106,5 @@ fn denoted_cpit(alloc: Global, n: usize, text: &[u8]) -> Result<Cpit, OrMemory<T
         Ok(model) => model,
         Err(error) => return Err(error_in_file(error, TextFile::Cpit)),
     };
-    Ok(model.into_cpit()?)
+    Ok(model.into_cpit())
 }

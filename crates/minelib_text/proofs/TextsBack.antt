@@ -1,7 +1,7 @@
 -- The texts of a valid instance denote it, and that of a CPIT denotes the CPIT: the texts by forms.
-use Rattle.std.proofs.Common.{◌≡◌, length, refl, ℕ, ◌+◌, ◌<◌, List, [], ◌∷◌, ◌++◌, map, arith, ap}
+use Rattle.std.proofs.Common.{◌≡◌, length, refl, ℕ, ◌+◌, List, [], ◌∷◌, ◌++◌, map, arith, ap}
 use Rattle.std.specs.Prelude.{All}
-use Rattle.mine_instance.specs.Valid.{IsValid, AreCoefs}
+use Rattle.mine_instance.specs.Valid.{IsValid}
 use Rattle.mine_instance.specs.Instance.{Instance}
 use Rattle.minelib_reading.specs.Denotes.{Denotes, DenotesCpit}
 use Rattle.minelib_reading.specs.StatedModel.{model_of, alone, model_of_cpit}
@@ -12,15 +12,14 @@ use Rattle.minelib_lines.specs.declared.problem.Problem.TheVariants.{Pcpsp, Cpit
 use Rattle.minelib_writing.specs.Written.{section_lines}
 use Rattle.minelib_text.proofs.BlocksBack.{blocks_back, preds_back}
 use Rattle.minelib_text.proofs.ModelBack.{model_back, IsWritable}
-use Rattle.std.proofs.lemmas.List.{get_or-map, length-map}
+use Rattle.std.proofs.lemmas.List.{length-map}
 use Rattle.std.proofs.lemmas.List.Elements.{All-map, All-nil, All-cons}
 use Rattle.mine_instance.specs.cpit.Cpit.{CpitParts}
 use Rattle.mine_instance.specs.cpit.CpitKept.{IsCpit}
-use Rattle.mine_instance.specs.cpit.OfCpit.{without_destination}
 use Rattle.minelib_lines.specs.HeaderTable.{key_value, keys_of, type_text}
 use Rattle.minelib_lines.specs.Lines.{line_of, lines_from, text_of}
-use Rattle.minelib_lines.specs.LineValues.{at_only_destination, header_of, header_of_cpit}
-use Rattle.minelib_lines.specs.WrittenLines.{block_fields, coef_fields, cpit_coef_fields, cpit_value_fields, key_lines, limit_fields, prec_fields, value_fields}
+use Rattle.minelib_lines.specs.LineValues.{header_of, header_of_cpit}
+use Rattle.minelib_lines.specs.WrittenLines.{block_fields, coef_fields, cpit_value_fields, key_lines, limit_fields, prec_fields, value_fields}
 
 abbrev pub blocks_form : Instance → List ℕ
 blocks_form i = text_of (lines_from block_fields 0 i.blocks)
@@ -36,7 +35,7 @@ pcpsp_form i =
 abbrev pub cpit_form : CpitParts → List ℕ
 cpit_form c =
     text_of (key_lines (key_value (type_text Cpit) (length c.values) (header_of_cpit c)) (keys_of Cpit)
-    ++ section_lines (lines_from cpit_value_fields 0 c.values) (lines_from cpit_coef_fields 0 c.coefs) (lines_from limit_fields 0 c.limits))
+    ++ section_lines (lines_from cpit_value_fields 0 c.values) (lines_from (coef_fields Cpit) 0 c.coefs) (lines_from limit_fields 0 c.limits))
 
 pub written_again : (i : Instance) → IsValid i → IsKept i → Denotes (blocks_form i) (prec_form i) (pcpsp_form i) i
 written_again i valid kept = spelled_denoted (blocks_form i) (prec_form i) (pcpsp_form i) i (record {
@@ -64,19 +63,6 @@ lines_from-map : {A B : Type 0} (fields : ℕ → B → List (List ℕ)) (f : A 
 lines_from-map fields f n [] = refl
 lines_from-map fields f n (x ∷ xs) = ap (λ lines. line_of (fields n (f x)) ∷ lines) (lines_from-map fields f (n + 1) xs)
 
-coefs_of : (c : CpitParts) → IsCpit c → AreCoefs (length c.values) 1 c.resources (map at_only_destination c.coefs)
-coefs_of c is = record {
-  in_range = All-map (λ e. (e.b < length c.values) × (e.d < 1) × (e.r < c.resources)) at_only_destination c.coefs
-      (λ k d within. let range = is.coefs.in_range k d within in (range.0, omega arith, range.1));
-  rising = λ i j d before within.
-      let inside : j < length c.coefs = omega (arith, length-map c.coefs at_only_destination) in
-      rw (
-        get_or-map at_only_destination c.coefs i (without_destination d) d (omega arith),
-        get_or-map at_only_destination c.coefs j (without_destination d) d inside,
-      )
-      (is.coefs.rising i j (without_destination d) before inside);
-}
-
 writable : (c : CpitParts) → IsCpit c → IsKeptCpit c → IsWritable Cpit (length c.values) (model_of_cpit c)
 writable c is kept = record {
   few = is.few;
@@ -89,12 +75,12 @@ writable c is kept = record {
       one_each = All-map (λ vs. length vs ≡ 1) alone c.values (λ k d within. refl);
     };
     single = refl;
-    coefs = coefs_of c is;
+    coefs = is.coefs;
     limits = is.limits;
   };
   values = All-map (λ vs. All IsInDecimalRange vs) alone c.values
       (λ k d within. All-cons IsInDecimalRange _ [] (kept.values k d within) (All-nil IsInDecimalRange));
-  coefs = All-map (λ e. IsInDecimalRange e.v) at_only_destination c.coefs kept.coefs;
+  coefs = kept.coefs;
   limits = kept.limits;
 }
 
@@ -102,4 +88,4 @@ pub written_cpit_again : (c : CpitParts) → IsCpit c → IsKeptCpit c → Denot
 written_cpit_again c is kept =
     let lines = model_back Cpit (length c.values) (model_of_cpit c) (writable c is kept) in
     spelled_cpit (length c.values) (cpit_form c) c
-    (rw (lines_from-map value_fields alone 0 c.values, lines_from-map (coef_fields Cpit) at_only_destination 0 c.coefs) at lines)
+    (rw (lines_from-map value_fields alone 0 c.values) at lines)

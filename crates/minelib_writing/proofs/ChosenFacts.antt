@@ -4,7 +4,7 @@ use Rattle.std.specs.Prelude.{ℤ, filter}
 use Rattle.std.proofs.lemmas.List.{length-map}
 use Rattle.mine_instance.specs.Greatest.{greatest}
 use Rattle.mine_instance.specs.Instance.{Instance}
-use Rattle.mine_instance.specs.cpit.OfCpit.{cpit, is_chosen, without_destination}
+use Rattle.mine_instance.specs.cpit.OfCpit.{cpit, is_chosen, at_only_destination}
 use Rattle.mine_instance.specs.Valid.{IsValid}
 use Rattle.minelib_lines.specs.HeaderTable.{key_value, keys_of, type_text}
 use Rattle.minelib_lines.specs.LineValues.{header_of}
@@ -26,12 +26,12 @@ chosen_keys i =
 abbrev pub chosen_sections : Instance → List (List ℕ)
 chosen_sections i =
     section_lines (lines_from greatest_line 0 i.values)
-    (lines_from cpit_coef_line 0 (map without_destination (filter (is_chosen i.values) i.coefs))) (lines_from limit_line 0 i.limits)
+    (lines_from cpit_coef_line 0 (map at_only_destination (filter (is_chosen i.values) i.coefs))) (lines_from limit_line 0 i.limits)
 
 pub chosen_text : (i : Instance) → IsValid i → text_cpit (cpit i) ≡ text_of (chosen_keys i ++ chosen_sections i)
 chosen_text i v =
     let count : length (map greatest i.values) ≡ length i.blocks = length-map i.values greatest ∙ v.lengths.values in
-    let coefs = lines_from cpit_coef_line 0 (map without_destination (filter (is_chosen i.values) i.coefs)) in
+    let coefs = lines_from cpit_coef_line 0 (map at_only_destination (filter (is_chosen i.values) i.coefs)) in
     cpit_by_keys (cpit i)
     ∙ (λ j. text_of (key_lines (key_value (type_text Cpit) (count j) (record (header_of i) { destinations = 1 })) (keys_of Cpit)
     ++ section_lines (greatest_lines 0 i.values j) coefs (lines_from limit_line 0 i.limits)))

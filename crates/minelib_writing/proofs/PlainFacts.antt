@@ -12,11 +12,10 @@ use Rattle.mine_instance.specs.cpit.Cpit.{CpitParts}
 use Rattle.mine_instance.specs.Greatest.{greatest}
 use Rattle.mine_instance.specs.Instance.{Instance}
 use Rattle.mine_instance.specs.declared.coefs.coef.Coef.{Coef}
-use Rattle.mine_instance.specs.declared.cpit.CpitCoef.{CpitCoef}
 use Rattle.minelib_lines.specs.HeaderTable.{key_value, keys_of, type_text, upit_keys}
 use Rattle.minelib_lines.specs.LineValues.{header_of, header_of_cpit}
 use Rattle.minelib_lines.specs.Lines.{line_of, lines_from, text_of}
-use Rattle.minelib_lines.specs.WrittenLines.{block_fields, coef_fields, cpit_coef_fields, cpit_value_fields, greatest_fields, key_lines, limit_fields, prec_fields, value_fields}
+use Rattle.minelib_lines.specs.WrittenLines.{block_fields, coef_fields, cpit_value_fields, greatest_fields, key_lines, limit_fields, prec_fields, value_fields}
 use Rattle.minelib_lines.specs.declared.problem.Problem.TheVariants.{Cpit, Pcpsp}
 use Rattle.minelib_writing.specs.Written.{block_line, bound_fields, coef_line, cpit_coef_line, cpit_header, greatest_line, header_line, limit_line, one_value_line, pcpsp_header, prec_line, section_lines, text_blocks, text_cpit, text_pcpsp, text_prec, text_upit, upit_header, value_line}
 
@@ -114,7 +113,7 @@ greatest_is n values = one_value_is n (greatest values)
 coef_is : (n : ℕ) (c : Coef) → coef_line n c ≡ coef_fields Pcpsp n c
 coef_is n c = λ i. digits c.b i ∷ digits c.d i ∷ digits c.r i ∷ shortest c.v ∷ []
 
-cpit_coef_is : (n : ℕ) (c : CpitCoef) → cpit_coef_line n c ≡ cpit_coef_fields n c
+cpit_coef_is : (n : ℕ) (c : Coef) → cpit_coef_line n c ≡ coef_fields Cpit n c
 cpit_coef_is n c = λ i. digits c.b i ∷ digits c.r i ∷ shortest c.v ∷ []
 
 limit_is : (n : ℕ) (l : Limit) → limit_line n l ≡ limit_fields n l
@@ -159,10 +158,10 @@ pcpsp_by_forms i = λ j.
 
 pub cpit_by_forms : (c : CpitParts) → text_cpit c
     ≡ text_of (key_lines (key_value (type_text Cpit) (length c.values) (header_of_cpit c)) (keys_of Cpit)
-    ++ section_lines (lines_from cpit_value_fields 0 c.values) (lines_from cpit_coef_fields 0 c.coefs) (lines_from limit_fields 0 c.limits))
+    ++ section_lines (lines_from cpit_value_fields 0 c.values) (lines_from (coef_fields Cpit) 0 c.coefs) (lines_from limit_fields 0 c.limits))
 unfolding text_cpit
 cpit_by_forms c = λ j.
     text_of (cpit_keys_are c j
     ++ section_lines (same_lines one_value_line cpit_value_fields one_value_is 0 c.values j)
-    (same_lines cpit_coef_line cpit_coef_fields cpit_coef_is 0 c.coefs j)
+    (same_lines cpit_coef_line (coef_fields Cpit) cpit_coef_is 0 c.coefs j)
     (same_lines limit_line limit_fields limit_is 0 c.limits j))

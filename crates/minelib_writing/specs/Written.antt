@@ -10,7 +10,6 @@ use Rattle.mine_instance.specs.cpit.Cpit.{CpitParts}
 use Rattle.mine_instance.specs.Greatest.{greatest}
 use Rattle.mine_instance.specs.Instance.{Instance}
 use Rattle.mine_instance.specs.declared.coefs.coef.Coef.{Coef}
-use Rattle.mine_instance.specs.declared.cpit.CpitCoef.{CpitCoef}
 use Rattle.minelib_lines.specs.Lines.{line_of, lines_from, text_of}
 
 -- `id x y z tonnes grade zone`: a kilogram is a thousandth of a tonne
@@ -38,7 +37,7 @@ greatest_line b values = one_value_line b (greatest values)
 abbrev pub coef_line : ℕ → Coef → List (List ℕ)
 coef_line n c = decimal c.b ∷ decimal c.d ∷ decimal c.r ∷ shortest c.v ∷ []
 
-abbrev pub cpit_coef_line : ℕ → CpitCoef → List (List ℕ)
+abbrev pub cpit_coef_line : ℕ → Coef → List (List ℕ)
 cpit_coef_line n c = decimal c.b ∷ decimal c.r ∷ shortest c.v ∷ []
 
 -- `r t L v`, `r t G v` or `r t I v w`

@@ -7,7 +7,7 @@ ghost use Rattle.mine_instance.specs.Instance.{Instance};
 ghost use Rattle.minelib_lines.specs.HeaderTable.{key_value, keys_of, type_text, upit_keys};
 ghost use Rattle.minelib_lines.specs.LineValues.{header_of, header_of_cpit};
 ghost use Rattle.minelib_lines.specs.Lines.{lines_from, text_of};
-ghost use Rattle.minelib_lines.specs.WrittenLines.{block_fields, coef_fields, cpit_coef_fields, cpit_value_fields, greatest_fields, key_lines, limit_fields, prec_fields, value_fields};
+ghost use Rattle.minelib_lines.specs.WrittenLines.{block_fields, coef_fields, cpit_value_fields, greatest_fields, key_lines, limit_fields, prec_fields, value_fields};
 ghost use Rattle.minelib_lines.specs.declared.problem.Problem.TheVariants.{Cpit, Pcpsp};
 ghost use Rattle.minelib_writing.specs.TextLaws.{best_lines, IsBest};
 ghost use Rattle.minelib_writing.specs.Written.{section_lines, text_blocks, text_cpit, text_pcpsp, text_prec, text_upit, upit_header};
@@ -35,5 +35,5 @@ pub fn texts_go_by_forms()
     ensures cpit { (c : CpitParts) → text_cpit c
         ≡ text_of (key_lines (key_value (type_text Cpit) (length c.values) (header_of_cpit c)) (keys_of Cpit)
         ++ section_lines (lines_from cpit_value_fields 0 c.values)
-        (lines_from cpit_coef_fields 0 c.coefs) (lines_from limit_fields 0 c.limits)) }
+        (lines_from (coef_fields Cpit) 0 c.coefs) (lines_from limit_fields 0 c.limits)) }
 {}

@@ -2,7 +2,6 @@
 use Rattle.std.specs.Prelude.{◌≡◌, ℕ, ◌≤◌, List, [], length, Option, None, Some, IfSome, Result, Ok, Err}
 use Rattle.std.proofs.Common.{refl, sym, ap, arith, map}
 use Rattle.std.proofs.lemmas.List.{length-map}
-use Rattle.mine_instance.specs.cpit.OfCpit.{without_destination}
 use Rattle.forms.specs.Words.{◌>>=◌}
 use Rattle.minelib_reading.specs.BlockLines.{blocks_in}
 use Rattle.minelib_reading.specs.Denotes.{cpit_denoted, denoted, instance_read}
@@ -111,9 +110,7 @@ unfolding counted_on counted_in counted denoted cpit_counted cpit_denoted blocks
 good texts all lists d eb ep em = at texts.cpit refl where
   last : (text : List ℕ) (r : Result ModelDraftView LineFault) → texts.cpit ≡ Some text → model_in problem.Cpit (length all) text ≡ r
       → AreCounted texts
-  last text (Ok cpit) ec el =
-      let count : length cpit.coefs ≡ length (map without_destination cpit.coefs) = sym (length-map cpit.coefs without_destination) in
-      rw (eb, ep, em, ec, el) (ap (λ n. Ok (counts_of (instance_read all lists d) (Some n))) count)
+  last text (Ok cpit) ec el = rw (eb, ep, em, ec, el) refl
   last text (Err fault) ec el = rw (eb, ep, em, ec, el) refl
 
   at : (o : Option (List ℕ)) → texts.cpit ≡ o → AreCounted texts

@@ -1,7 +1,7 @@
 -- What a CPIT is: its parts.
 use Rattle.std.specs.Prelude.{ℕ, ℤ, List}
 use Rattle.pit_parts.specs.declared.limit.Limit.{Limit}
-use Rattle.mine_instance.specs.declared.cpit.CpitCoef.{CpitCoef}
+use Rattle.mine_instance.specs.declared.coefs.coef.Coef.{Coef}
 
 pub record CpitParts : Type 0 where
   pub name : List ℕ
@@ -11,5 +11,6 @@ pub record CpitParts : Type 0 where
   pub resources : ℕ
   -- one a block, in units of 100 cents
   pub values : List ℤ
-  pub coefs : List CpitCoef
+  -- at the only destination, which is 0
+  pub coefs : List Coef
   pub limits : List Limit

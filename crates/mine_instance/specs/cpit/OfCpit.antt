@@ -2,7 +2,6 @@
 use Rattle.std.specs.Prelude.{ℕ, ◌==◌, Bool, List, [], ℤ, map, filter, slice_index_or}
 use Rattle.mine_instance.specs.Greatest.{first_greatest, greatest}
 use Rattle.mine_instance.specs.declared.coefs.coef.Coef.{Coef}
-use Rattle.mine_instance.specs.declared.cpit.CpitCoef.{CpitCoef}
 use Rattle.mine_instance.specs.Instance.{Instance}
 use Rattle.mine_instance.specs.cpit.Cpit.{CpitParts}
 
@@ -14,9 +13,9 @@ destination_of values block = first_greatest (slice_index_or values block [])
 abbrev pub is_chosen : List (List ℤ) → Coef → Bool
 is_chosen values c = c.d == destination_of values c.b
 
--- a coefficient without its destination
-abbrev pub without_destination : Coef → CpitCoef
-without_destination c = record { b = c.b; r = c.r; v = c.v }
+-- a coefficient as one of the only destination
+abbrev pub at_only_destination : Coef → Coef
+at_only_destination c = record c { d = 0 }
 
 -- the CPIT of an instance: each block's greatest value, and the coefficients at its destination
 abbrev pub cpit : Instance → CpitParts
@@ -26,6 +25,6 @@ cpit i = record {
   periods = i.periods;
   resources = i.resources;
   values = map greatest i.values;
-  coefs = map without_destination (filter (is_chosen i.values) i.coefs);
+  coefs = map at_only_destination (filter (is_chosen i.values) i.coefs);
   limits = i.limits;
 }

@@ -14,7 +14,7 @@ use Rattle.mine_instance.specs.Instance.{Instance}
 use Rattle.mine_instance.specs.Kept.{HasDecimals, IsKept, IsKeptCpit}
 use Rattle.mine_instance.specs.cpit.Cpit.{CpitParts}
 use Rattle.mine_instance.specs.declared.coefs.coef.Coef.{Coef}
-use Rattle.minelib_lines.specs.LineValues.{at_only_destination, bound_values, coef_values, limit_values, values_values}
+use Rattle.minelib_lines.specs.LineValues.{bound_values, coef_values, limit_values, values_values}
 use Rattle.minelib_lines.specs.declared.problem.Problem.{Problem}
 use Rattle.minelib_lines.specs.declared.problem.Problem.TheVariants.{Pcpsp, Cpit}
 use Rattle.minelib_reading.specs.Denotes.{Denotes, DenotesCpit, cpit_denoted, cpit_read}
@@ -102,9 +102,7 @@ read_cpit_kept n text c e =
       values = λ k d within.
           let own = rw (get_or-map alone c.values k d (alone d) within) at (kept.values k (alone d) (rw (length-map c.values alone) within)) in
           own 0 d (omega arith);
-      coefs = λ k d within.
-          rw (get_or-map at_only_destination c.coefs k d (at_only_destination d) within)
-          at (kept.coefs k (at_only_destination d) (rw (length-map c.coefs at_only_destination) within));
+      coefs = kept.coefs;
       limits = kept.limits;
     }
 

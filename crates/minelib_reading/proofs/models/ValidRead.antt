@@ -1,10 +1,10 @@
 -- What is read is valid.
 use Rattle.std.specs.Prelude.{◌≡◌, ℕ, ◌+◌, slice_index_or, ◌<◌, ◌≤◌, List, [], ◌∷◌, length, Ok}
 use Rattle.std.proofs.Common.{refl, sym, ◌∙◌, subst, arith}
-use Rattle.std.proofs.lemmas.List.{get_or-map, length-map}
+use Rattle.std.proofs.lemmas.List.{length-map}
 use Rattle.mine_instance.specs.cpit.Cpit.{CpitParts}
-use Rattle.mine_instance.specs.cpit.CpitKept.{AreCpitCoefs, IsCpit}
-use Rattle.mine_instance.specs.Valid.{ArePredsOf, IsValid}
+use Rattle.mine_instance.specs.cpit.CpitKept.{IsCpit}
+use Rattle.mine_instance.specs.Valid.{AreCoefs, ArePredsOf, IsValid}
 use Rattle.mine_instance.specs.Instance.{Instance}
 use Rattle.minelib_reading.specs.BlockLines.{block_form, blocks_in}
 use Rattle.minelib_reading.specs.Denotes.{Denotes, cpit_read, cpit_denoted, DenotesCpit}
@@ -13,7 +13,7 @@ use Rattle.minelib_reading.specs.PrecLines.{preds_form}
 use Rattle.minelib_reading.specs.ModelStates.{stated_by}
 use Rattle.minelib_reading.specs.spelled.SpelledTexts.{SpellBlocks, SpellCpit}
 use Rattle.minelib_reading.specs.StatedModel.{alone, model_of, model_of_cpit}
-use Rattle.minelib_lines.specs.LineValues.{at_only_destination, block_values, preds_values}
+use Rattle.minelib_lines.specs.LineValues.{block_values, preds_values}
 use Rattle.pit_parts.specs.declared.block.Block.{Block}
 use Rattle.forms.proofs.FormFacts.{spelled_fit}
 use Rattle.forms.specs.Words.{Spell}
@@ -69,18 +69,7 @@ spelled_cpit_valid n text c few are =
       record {
         few = omega (arith, count);
         horizon = m.horizon;
-        coefs = subst (λ n. AreCpitCoefs n c.resources c.coefs) (sym count) (record {
-          in_range = λ k d within.
-              let range = m.coefs.in_range k (at_only_destination d) (rw (length-map c.coefs at_only_destination) within) in
-              let own = rw (get_or-map at_only_destination c.coefs k d (at_only_destination d) within) at range in
-              (own.0, own.2);
-          rising = λ i j d less within.
-              let rises = m.coefs.rising i j (at_only_destination d) less (rw (length-map c.coefs at_only_destination) within) in
-              rw (
-                get_or-map at_only_destination c.coefs i d (at_only_destination d) (omega (arith, less, within)),
-                get_or-map at_only_destination c.coefs j d (at_only_destination d) within,
-              ) at rises;
-        });
+        coefs = subst (λ n. AreCoefs n 1 c.resources c.coefs) (sym count) m.coefs;
         limits = m.limits;
       },
       count,

@@ -7,12 +7,9 @@ use Rattle.minelib_reading.proofs.models.Finished.{finished_states, states_finis
 use Rattle.forms.specs.Words.{AllState, Spell}
 use Rattle.mine_instance.specs.cpit.Cpit.{CpitParts}
 use Rattle.mine_instance.specs.cpit.CpitKept.{cpit_of}
-use Rattle.mine_instance.specs.cpit.OfCpit.{without_destination}
 use Rattle.mine_instance.specs.Valid.{ArePredsOf}
-use Rattle.mine_instance.specs.declared.coefs.coef.Coef.{Coef}
-use Rattle.mine_instance.specs.declared.cpit.CpitCoef.{CpitCoef}
 use Rattle.pit_parts.specs.declared.block.Block.{Block}
-use Rattle.minelib_lines.specs.LineValues.{at_only_destination, block_values, preds_values}
+use Rattle.minelib_lines.specs.LineValues.{block_values, preds_values}
 use Rattle.mine_instance.specs.Instance.{Instance}
 use Rattle.minelib_reading.specs.BlockLines.{block_form, block_grammar, block_shape, blocks_in}
 use Rattle.minelib_reading.specs.Denotes.{instance_read, denoted, Denotes, cpit_read, cpit_denoted, DenotesCpit}
@@ -133,18 +130,6 @@ values_joined : (values : List ℤ) → flat_map (λ values. values) (map alone 
 values_joined [] = refl
 values_joined (v ∷ values) = ap (λ more. v ∷ more) (values_joined values)
 
--- and its coefficients those of it
-all_first : (coefs : List Coef) → All (λ c. c.d ≡ 0) coefs → map at_only_destination (map without_destination coefs) ≡ coefs
-all_first [] of_it = refl
-all_first (c ∷ coefs) of_it =
-    let first : 0 ≡ c.d = sym (All-head (λ (c : Coef). c.d ≡ 0) c coefs of_it) in
-    let rest = all_first coefs (All-tail (λ (c : Coef). c.d ≡ 0) c coefs of_it) in
-    λ i. record c { d = first i } ∷ rest i
-
-coefs_without : (coefs : List CpitCoef) → map without_destination (map at_only_destination coefs) ≡ coefs
-coefs_without [] = refl
-coefs_without (c ∷ coefs) = ap (λ more. c ∷ more) (coefs_without coefs)
-
 pub cpit_spelled : (n : ℕ) (text : List ℕ) (c : CpitParts) → DenotesCpit n text c → SpellCpit n text c
 unfolding cpit_denoted
 cpit_spelled n text c e =
@@ -154,8 +139,6 @@ cpit_spelled n text c e =
     let model = spelled_model problem.Cpit n (lines_in text) (stated_by d) are in
     let one = model.single in
     let rows = sym (each_alone d.values (subst (λ k. All (λ values. length values ≡ k) d.values) one model.destinations.one_each)) in
-    let first : All (λ c. c.d ≡ 0) d.coefs = λ i c within. let low = model.coefs.in_range i c within in omega (arith, low.1, one) in
-    let coefs = sym (all_first d.coefs first) in
     let same : stated_by d ≡ model_of_cpit (cpit_read d) =
     λ i. record {
       header = record {
@@ -166,7 +149,7 @@ cpit_spelled n text c e =
         rate = pos (count_in d.header key.Rate);
       };
       values = rows i;
-      coefs = coefs i;
+      coefs = d.coefs;
       limits = d.limits;
     } in
     subst (SpellCpit n text) (same_ok (cpit_read d) c rest) (subst (AreModelLines problem.Cpit n (lines_in text)) same are))
@@ -179,7 +162,7 @@ spelled_cpit n text c are =
   where
     cpit_stated : StatedModel → CpitParts
     cpit_stated m = cpit_of m.header.name m.header.rate m.header.periods m.header.resources
-        (flat_map (λ values. values) m.values) (map without_destination m.coefs) m.limits
+        (flat_map (λ values. values) m.values) m.coefs m.limits
 
     again : cpit_stated (model_of_cpit c) ≡ c
-    again = λ i. record c { values = values_joined c.values i; coefs = coefs_without c.coefs i }
+    again = λ i. record c { values = values_joined c.values i }

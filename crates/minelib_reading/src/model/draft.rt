@@ -3,7 +3,6 @@
 ghost use Rattle.std.specs.Prelude.{◌≡◌, ◌≤◌, Err, [], true, false, map, unwrap_or, length, IfOk};
 ghost use Rattle.std.specs.List.{list_any};
 ghost use Rattle.mine_instance.specs.cpit.CpitKept.{IsCpit};
-ghost use Rattle.mine_instance.specs.cpit.OfCpit.{without_destination};
 ghost use Rattle.minelib_reading.specs.Denotes.{cpit_read, instance_read};
 ghost use Rattle.minelib_reading.specs.HeaderNumbers.{count_in};
 ghost use Rattle.minelib_reading.specs.ModelLines.{blank_model, finish_model, header_line, is_colon, is_ready, is_whole, item_line, keyed_line, name_with, section_line};
@@ -23,8 +22,8 @@ use crate::model::key::{Header, ModelKey, Section};
 use crate::model::key_lines::{cut_at_colon, is_heading, is_limits, is_next, key_of, only_value};
 use crate::taking::TakeItems;
 use mine_instance::blocks::Blocks;
-use mine_instance::coefs::coef::{Coef, Coefs};
-use mine_instance::cpit::{Cpit, CpitCoef, CpitCoefs};
+use mine_instance::coefs::coef::Coefs;
+use mine_instance::cpit::Cpit;
 use mine_instance::instance::Instance;
 use mine_instance::limits::Limits;
 use minelib_lines::header_key::HeaderKey;
@@ -327,39 +326,26 @@ impl ModelDraft<KeptItems> {
         }
     }
 
-    /// The CPIT of this file. Fails only where memory is refused.
-    pub fn into_cpit(self) -> Result<Cpit, AllocError>
+    /// The CPIT of this file.
+    pub fn into_cpit(self) -> Cpit
         requires name { is_name self.name ≡ true }
         requires cpit { IsCpit (cpit_read self) }
-        ensures { IfOk result (λ cpit. cpit ≡ cpit_read self) }
+        ensures { result ≡ cpit_read self }
     {
         let rate = self.header.count(HeaderKey::Rate);
         let periods = self.periods();
         let resources = self.resources();
         let KeptItems { values, coefs } = self.items;
-        let coefs = without_destinations(self.alloc, coefs.as_slice())?;
-        Ok(Cpit::new(
+        Cpit::new(
             self.name.unwrap(),
             Dec::new(i128::from(rate)).unwrap(),
             periods,
             resources,
             values.into_flat(),
-            CpitCoefs::new(coefs),
+            Coefs::new(coefs),
             self.limits,
-        ))
+        )
     }
-}
-
-// The coefficients of a CPIT, whose one destination is not named.
-fn without_destinations(alloc: Global, coefs: &[Coef]) -> Result<Vec<CpitCoef>, AllocError>
-    ensures { IfOk result (λ of_cpit. of_cpit.items ≡ map without_destination coefs.now) }
-{
-    let of_cpit = coefs.iter().map(|coef| CpitCoef {
-        b: coef.b,
-        r: coef.r,
-        v: coef.v,
-    });
-    of_cpit.collect(alloc)
 }
 
 // The NAME after a header key with this value.

@@ -2,7 +2,7 @@
 use Rattle.std.specs.Prelude.{◌≡◌, ℕ, ◌+◌, ◌<◌, ◌&&◌, Bool, true, false, nat_lt, IsTrue, ℤ, List, [], ◌∷◌, ◌++◌, length, slice_index_or, map, filter, if◌then◌else◌}
 use Rattle.std.specs.List.{concat}
 use Rattle.std.proofs.Common.{ap, cond, refl}
-use Rattle.mine_instance.specs.cpit.OfCpit.{is_chosen, without_destination}
+use Rattle.mine_instance.specs.cpit.OfCpit.{is_chosen, at_only_destination}
 use Rattle.mine_instance.specs.declared.coefs.coef.Coef.{Coef}
 use Rattle.minelib_lines.specs.Lines.{line_of, lines_from, text_of}
 use Rattle.minelib_writing.specs.Written.{coef_line, cpit_coef_line}
@@ -15,7 +15,7 @@ coef_text c = line_of (coef_line 0 c) ++ 10 ∷ []
 
 -- the same in a CPIT
 abbrev pub cpit_coef_text : Coef → List ℕ
-cpit_coef_text c = line_of (cpit_coef_line 0 (without_destination c)) ++ 10 ∷ []
+cpit_coef_text c = line_of (cpit_coef_line 0 c) ++ 10 ∷ []
 
 -- the part of a coefficient, where values are seen as this list
 abbrev pub coef_part : {V : Type 0} → (V → List (List ℤ)) → CoefForm V → Coef → List ℕ
@@ -26,7 +26,7 @@ coef_part list (OfChosen values) c = if is_chosen (list values.now) c then cpit_
 abbrev pub coef_lines : {V : Type 0} → (V → List (List ℤ)) → CoefForm V → List Coef → List (List ℕ)
 coef_lines list OfAll coefs = lines_from coef_line 0 coefs
 coef_lines list (OfChosen values) coefs =
-    lines_from cpit_coef_line 0 (map without_destination (filter (is_chosen (list values.now)) coefs))
+    lines_from cpit_coef_line 0 (map at_only_destination (filter (is_chosen (list values.now)) coefs))
 
 -- where values count, the block has some
 abbrev pub has_values : {V : Type 0} → (V → List (List ℤ)) → CoefForm V → ℕ → Bool
@@ -44,16 +44,16 @@ all_whole n (c ∷ coefs) = ap (λ rest. coef_text c ++ rest) (all_whole (n + 1)
 
 -- one coefficient more
 one_more : (c : Coef) (coefs : List Coef) (others : List ℕ) (n : ℕ) (chosen : Bool)
-    → others ≡ text_of (lines_from cpit_coef_line (n + 1) (map without_destination coefs))
-    → others ≡ text_of (lines_from cpit_coef_line n (map without_destination coefs))
+    → others ≡ text_of (lines_from cpit_coef_line (n + 1) (map at_only_destination coefs))
+    → others ≡ text_of (lines_from cpit_coef_line n (map at_only_destination coefs))
     → cond chosen (cpit_coef_text c) [] ++ others
-    ≡ text_of (lines_from cpit_coef_line n (map without_destination (cond chosen (c ∷ coefs) coefs)))
+    ≡ text_of (lines_from cpit_coef_line n (map at_only_destination (cond chosen (c ∷ coefs) coefs)))
 one_more c coefs others n true next here = ap (λ rest. cpit_coef_text c ++ rest) next
 one_more c coefs others n false next here = here
 
 chosen_whole : (p : Coef → Bool) (n : ℕ) (coefs : List Coef)
     → concat (map (λ c. if p c then cpit_coef_text c else []) coefs)
-    ≡ text_of (lines_from cpit_coef_line n (map without_destination (filter p coefs)))
+    ≡ text_of (lines_from cpit_coef_line n (map at_only_destination (filter p coefs)))
 chosen_whole p n [] = refl
 chosen_whole p n (c ∷ coefs) = one_more c (filter p coefs) _ n (p c) (chosen_whole p (n + 1) coefs) (chosen_whole p n coefs)
 

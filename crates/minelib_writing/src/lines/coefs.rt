@@ -13,9 +13,9 @@ use crate::fields::{put_decimal_to, put_whole_to};
 use crate::lines::Line;
 use crate::parts::{MOST_AT_ONCE, Parted};
 use itoa::write_digits;
+use mine_instance::coefs::coef::Coef;
 use mine_instance::coefs::group::{CoefGroup, Pairs};
 use mine_instance::coefs::list::CoefList;
-use mine_instance::cpit::CpitCoef;
 use mine_instance::values::list::ValueList;
 use pit_units::Dec;
 use std::alloc::{AllocError, Global};
@@ -264,8 +264,8 @@ fn set_resource(text: &mut [u8], r: u8)
     text[1] = b'0' + r;
 }
 
-// A coefficient of a CPIT that is kept.
-impl Line for CpitCoef {
+// A coefficient of a CPIT that is kept: its destination is the only one, and is not written.
+impl Line for Coef {
     ghost fields = { cpit_coef_line };
 
     ghost kept = { λ c. IsInDecimalRange c.v };

@@ -1,7 +1,7 @@
 use Rattle.std.proofs.Common.{◌≡◌, ◌++◌, ◌∙◌, [], length, map, get_or, ap, sym, arith}
 use Rattle.mine_instance.specs.Greatest.{first_greatest}
 use Rattle.mine_instance.specs.coefs.Groups.{coefs_in, pairs_of}
-use Rattle.mine_instance.specs.cpit.OfCpit.{without_destination}
+use Rattle.mine_instance.specs.cpit.OfCpit.{at_only_destination}
 use Rattle.mine_instance.proofs.GroupFacts.{chosen_more, group_there, same_choice}
 use Rattle.mine_instance.proofs.cpit_building.chosen_of.Goals as goal
 
@@ -29,6 +29,6 @@ loop-from-preserved g c =
     record {
       within = rw count c.group-group.ensures.within;
       chosen =
-          c.in_ok-put_at.ensures ∙ (λ j. c.loop-from.invariant.chosen j ++ map without_destination (same j))
+          c.in_ok-put_at.ensures ∙ (λ j. c.loop-from.invariant.chosen j ++ map at_only_destination (same j))
           ∙ sym (rw count (chosen_more values all (coefs_in group) from (length (pairs_of group.pairs)) c.group-group.ensures.value));
     }

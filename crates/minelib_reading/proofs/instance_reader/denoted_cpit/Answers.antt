@@ -11,7 +11,7 @@ into_cpit-requires-clause-cpit c = (cpit_is_valid c.args.n c.args.text.now c.in-
 
 pub returns-clause-blocks : goal.returns-clause-blocks
 returns-clause-blocks c =
-    rw (c.in_ok-into_cpit.ensures) ((cpit_is_valid c.args.n c.args.text.now c.in-Ok.model c.requires c.in-Ok.ensures).1)
+    rw (c.into_cpit.ensures) ((cpit_is_valid c.args.n c.args.text.now c.in-Ok.model c.requires c.in-Ok.ensures).1)
 
 pub returns-clause-kept : goal.returns-clause-kept
-returns-clause-kept c = rw (c.in_ok-into_cpit.ensures) (cpit_is_kept c.args.n c.args.text.now c.in-Ok.model c.in-Ok.ensures)
+returns-clause-kept c = rw (c.into_cpit.ensures) (cpit_is_kept c.args.n c.args.text.now c.in-Ok.model c.in-Ok.ensures)

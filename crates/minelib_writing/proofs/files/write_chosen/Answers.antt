@@ -4,7 +4,7 @@ use Rattle.std.proofs.lemmas.List.Elements.{All-filter, All-map}
 use Rattle.std.proofs.lemmas.Result.{on_ok_weaker}
 use Rattle.mine_instance.specs.Greatest.{greatest}
 use Rattle.mine_instance.specs.Instance.{Instance}
-use Rattle.mine_instance.specs.cpit.OfCpit.{is_chosen, without_destination}
+use Rattle.mine_instance.specs.cpit.OfCpit.{is_chosen, at_only_destination}
 use Rattle.pit_units.specs.DecimalRange.{IsInDecimalRange}
 use Rattle.mine_instance.specs.Kept.{HasDecimals}
 use Rattle.minelib_writing.specs.Written.{greatest_line, limit_line}
@@ -28,7 +28,7 @@ returns g c =
             name = c.of_one_destination.ensures.kept;
             values = All-map IsInDecimalRange greatest i.values
                 (kept_all (λ of_block. IsInDecimalRange (greatest of_block)) i.values _ (length-line_parts greatest_line i.values) kept.0);
-            coefs = All-map (λ e. IsInDecimalRange e.v) without_destination _
+            coefs = All-map (λ e. IsInDecimalRange e.v) at_only_destination _
                 (All-filter (is_chosen i.values) (λ c. IsInDecimalRange c.v) i.coefs
                 (kept_all (λ c. IsInDecimalRange c.v) i.coefs _ (length-map i.coefs _) kept.1));
             limits = kept_all (λ l. HasDecimals l.bound) i.limits _ (length-line_parts limit_line i.limits) kept.2;

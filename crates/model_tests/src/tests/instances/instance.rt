@@ -8,7 +8,7 @@ ghost use Rattle.rows.specs.Valued.{worths_by};
 
 use crate::tests::are_millionths;
 use mine_instance::coefs::coef::Coef;
-use mine_instance::cpit::{Cpit, CpitCoef};
+use mine_instance::cpit::Cpit;
 use mine_instance::instance::Instance;
 use mine_instance::{build, build_cpit, is_valid};
 use pit_model::plan::Plan;
@@ -151,20 +151,8 @@ fn all_coefs() -> Option<[Coef; 6]> {
 }
 
 // Those of the CPIT, where both go to the mill.
-fn mill_coefs() -> Option<[CpitCoef; 2]> {
-    let (lower, upper) = (coef(0, 0, 0, 1000)?, coef(1, 0, 0, 2000)?);
-    Some([
-        CpitCoef {
-            b: lower.b,
-            r: lower.r,
-            v: lower.v,
-        },
-        CpitCoef {
-            b: upper.b,
-            r: upper.r,
-            v: upper.v,
-        },
-    ])
+fn mill_coefs() -> Option<[Coef; 2]> {
+    Some([coef(0, 0, 0, 1000)?, coef(1, 0, 0, 2000)?])
 }
 
 fn limits() -> Option<[Limit; 2]> {
@@ -234,11 +222,11 @@ fn cpit_of(alloc: Global, text: &[u8], kg: u64) -> Result<Cpit, Fail> {
 }
 
 // Whether the one block takes so many millionths of the one resource, or nothing.
-fn takes(coefs: &[CpitCoef], millionths: Option<i128>) -> bool {
+fn takes(coefs: &[Coef], millionths: Option<i128>) -> bool {
     match (coefs, millionths) {
         ([], None) => true,
         ([coef], Some(millionths)) => {
-            (coef.b, coef.r, coef.v.millionths()) == (0, 0, millionths)
+            (coef.b, coef.d, coef.r, coef.v.millionths()) == (0, 0, 0, millionths)
         }
         _ => false,
     }

@@ -6,7 +6,7 @@ use crate::tests::are_millionths;
 use devices::sinks::mem_sink::MemSink;
 use devices::sinks::write_fault::WriteFault;
 use mine_instance::coefs::coef::Coef;
-use mine_instance::cpit::{Cpit, CpitCoef};
+use mine_instance::cpit::Cpit;
 use mine_instance::instance::Instance;
 use minelib_reading::read_cpit;
 use minelib_writing::text_name::TextName;
@@ -207,13 +207,13 @@ fn edge_limits() -> Option<[Limit; 2]> {
 }
 
 // A coefficient of a CPIT of so many millionths of a tonne.
-fn cpit_coef(b: u32, r: u8, millionths: i128) -> Option<CpitCoef> {
+fn cpit_coef(b: u32, r: u8, millionths: i128) -> Option<Coef> {
     let v = Dec::new(millionths)?;
-    Some(CpitCoef { b, r, v })
+    Some(Coef { b, d: 0, r, v })
 }
 
 // Those of the CPIT with a coefficient of 0.0001 tonnes among others.
-fn cpit_coefs() -> Option<[CpitCoef; 4]> {
+fn cpit_coefs() -> Option<[Coef; 4]> {
     Some([
         cpit_coef(0, 1, 1_000)?,
         cpit_coef(0, 2, 4_294_967_295_000)?,
