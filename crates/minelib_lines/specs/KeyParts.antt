@@ -3,7 +3,8 @@ use Rattle.std.specs.Prelude.{pos}
 use Rattle.std.specs.Str.{bytes_eq}
 use Rattle.forms.specs.Words.{Field, Decimal, Word, Value, Millionths, Bytes, whole}
 use Rattle.pit_parts.specs.Name.{is_name}
-use Rattle.minelib_lines.specs.HeaderTable.{key_value, type_text}
+use Rattle.minelib_lines.specs.HeaderTable.{key_value}
+use Rattle.minelib_lines.specs.HeaderKeys.{type_text}
 use Rattle.minelib_lines.specs.declared.header_key.HeaderKey.{HeaderKey}
 use Rattle.minelib_lines.specs.declared.header_key.KeyField.{KeyField}
 use Rattle.minelib_lines.specs.declared.header_key.KeyField.TheVariants as field

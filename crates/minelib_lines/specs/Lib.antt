@@ -1,3 +1,4 @@
+pub mod HeaderKeys
 pub mod HeaderTable
 pub mod KeyParts
 pub mod LineValues

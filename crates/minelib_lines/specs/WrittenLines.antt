@@ -5,7 +5,7 @@ use Rattle.pit_parts.specs.declared.block.Block.{Block}
 use Rattle.pit_parts.specs.declared.limit.Limit.{Limit}
 use Rattle.mine_instance.specs.Greatest.{greatest}
 use Rattle.mine_instance.specs.declared.coefs.coef.Coef.{Coef}
-use Rattle.minelib_lines.specs.HeaderTable.{key_word}
+use Rattle.minelib_lines.specs.HeaderKeys.{key_word}
 use Rattle.minelib_lines.specs.Lines.{line_of}
 use Rattle.minelib_lines.specs.LineValues.{block_values, preds_values, coef_values, limit_values, values_values}
 use Rattle.minelib_lines.specs.declared.header_key.HeaderKey.{HeaderKey}

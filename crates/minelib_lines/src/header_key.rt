@@ -1,7 +1,8 @@
 //! The keys of the header of a model file, a row each.
 
 ghost use Rattle.std.specs.Prelude.{◌≡◌, ◌<◌, ◌≤◌, ◌*◌, ◌-◌, ◌^◌};
-ghost use Rattle.minelib_lines.specs.HeaderTable.{field_of, key_word, keys_of, place, upit_keys};
+ghost use Rattle.minelib_lines.specs.HeaderTable.{field_of, upit_keys};
+ghost use Rattle.minelib_lines.specs.HeaderKeys.{key_word, keys_of, place};
 ghost use Rattle.minelib_lines.specs.KeyParts.{field_in};
 ghost use Rattle.minelib_lines.specs.declared.header_key.KeyField.TheVariants as KeyField;
 ghost use Rattle.minelib_lines.specs.declared.header_key.TheConstants.{KEYS};

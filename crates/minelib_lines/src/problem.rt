@@ -1,7 +1,7 @@
 //! The problem that a model file states.
 
 ghost use Rattle.std.specs.Prelude.{◌≡◌};
-ghost use Rattle.minelib_lines.specs.HeaderTable.{keys_of, type_text};
+ghost use Rattle.minelib_lines.specs.HeaderKeys.{keys_of, type_text};
 
 use crate::header_key::HeaderKey;
 

@@ -2,4 +2,5 @@ pub mod counts
 pub mod keys
 pub mod lines
 pub mod models
+pub mod plain
 pub mod spelled

@@ -6,10 +6,11 @@ use Rattle.pit_parts.specs.declared.block.Block.{Block}
 use Rattle.mine_instance.specs.cpit.Cpit.{CpitParts}
 use Rattle.mine_instance.specs.cpit.CpitKept.{cpit_of}
 use Rattle.mine_instance.specs.Instance.{Instance}
-use Rattle.minelib_reading.specs.BlockLines.{blocks_in}
+use Rattle.minelib_reading.specs.BlockText.{blocks_in}
 use Rattle.minelib_reading.specs.HeaderNumbers.{count_in}
-use Rattle.minelib_reading.specs.ModelLines.{ModelDraftView, model_in}
-use Rattle.minelib_reading.specs.PrecLines.{preds_in}
+use Rattle.minelib_reading.specs.ModelDraft.{ModelDraftView}
+use Rattle.minelib_reading.specs.ModelText.{model_in}
+use Rattle.minelib_reading.specs.PrecText.{preds_in}
 use Rattle.text_lines.specs.Reading.{in_file}
 use Rattle.minelib_lines.specs.declared.header_key.HeaderKey.TheVariants as key
 use Rattle.minelib_lines.specs.declared.problem.Problem.TheVariants as problem

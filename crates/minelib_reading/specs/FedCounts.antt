@@ -3,9 +3,9 @@ use Rattle.std.specs.Prelude.{◌≡◌, ℕ, List, length, sum_by, Option, Resu
 use Rattle.forms.specs.Words.{◌>>=◌}
 use Rattle.text_lines.specs.Fed.{IsTextOf}
 use Rattle.text_lines.specs.declared.text_fault.LineFault.{LineFault}
-use Rattle.minelib_reading.specs.BlockLines.{blocks_in}
-use Rattle.minelib_reading.specs.ModelLines.{model_in}
-use Rattle.minelib_reading.specs.PrecLines.{preds_in}
+use Rattle.minelib_reading.specs.BlockText.{blocks_in}
+use Rattle.minelib_reading.specs.ModelText.{model_in}
+use Rattle.minelib_reading.specs.PrecText.{preds_in}
 use Rattle.minelib_lines.specs.declared.problem.Problem.{Problem}
 
 -- what a rule answers of the text of a feed

@@ -1,17 +1,9 @@
 -- The numbers that the header keys of a model file state, each from where its key stood.
-use Rattle.std.specs.Prelude.{ℕ, ◌==◌, Bool, map, Option, Some, None, is_some, unwrap_or, slice_index_or, if◌then◌else◌, unsigned_abs}
+use Rattle.std.specs.Prelude.{ℕ, ◌==◌, Bool, map, Option, Some, None, is_some, unwrap_or, slice_index_or, if◌then◌else◌}
 use Rattle.std.specs.List.{list_all}
-use Rattle.forms.specs.Words.{Value, millionths, whole_stated}
-use Rattle.minelib_lines.specs.HeaderTable.{header_keys, place}
+use Rattle.minelib_lines.specs.HeaderKeys.{header_keys, place}
 use Rattle.minelib_reading.specs.declared.model.key.Header.{Header}
 use Rattle.minelib_lines.specs.declared.header_key.HeaderKey.{HeaderKey}
-use Rattle.minelib_lines.specs.declared.header_key.HeaderKey.TheVariants as key
-
--- the number of a key with this value: 0 where it states no more than that it stands
-abbrev pub number_said : HeaderKey → Value → ℕ
-number_said key.Blocks value = 0
-number_said key.Rate value = unsigned_abs (millionths value)
-number_said k value = whole_stated value
 
 -- where no key stood
 abbrev pub no_key : Header

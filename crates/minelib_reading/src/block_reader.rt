@@ -3,7 +3,7 @@
 ghost use Rattle.std.specs.Prelude.{◌≡◌, ◌<◌, ◌≤◌, [], length, IfOk, OnOk};
 ghost use Rattle.pit_parts.specs.Block.{block_with};
 ghost use Rattle.pit_parts.specs.BlockParts.{AreInRange};
-ghost use Rattle.minelib_reading.specs.BlockLines.{blocks_in};
+ghost use Rattle.minelib_reading.specs.BlockText.{blocks_in};
 ghost use Rattle.minelib_reading.specs.inner.LinesTaken.{admit_block, uncounted_block, block_said};
 ghost use Rattle.pit_units.specs.OrMemory.{Gives};
 ghost use Rattle.pit_parts.specs.declared.ranges.TheConstants.{MAX_BLOCKS};

@@ -1,7 +1,7 @@
 //! The items of a block file and of a model file, counted. Contracts see all of them.
 
 ghost use Rattle.std.specs.Prelude.{◌≡◌, ◌<◌, ◌≤◌, [], length};
-ghost use Rattle.minelib_reading.specs.ModelLines.{last_of};
+ghost use Rattle.minelib_reading.specs.ModelDraft.{last_of};
 ghost use Rattle.minelib_reading.specs.inner.CountedItems.{last_d, last_r, most_up_to, values_in_rows};
 ghost use Rattle.pit_parts.specs.declared.ranges.TheConstants.{MAX_BLOCKS};
 

@@ -1,20 +1,25 @@
 //! What holds of reading, whatever the texts say: each contract is a law, and a call of it changes nothing.
 
 ghost use Rattle.std.specs.Prelude.{◌≡◌, ◌≢◌, ◌↔◌, ◌⊎◌, ℕ, ◌≤◌, [], ◌∷◌, ◌++◌, false, true, List, length, ℤ, Ok, Err};
-ghost use Rattle.forms.specs.Words.{Spell, AllState, IsFirstFault, Value, whole_at, Fails, States};
+ghost use Rattle.forms.specs.Words.{Spell, AllState, IsFirstFault, Value, whole_at, Fails, States, said};
 ghost use Rattle.mine_instance.specs.cpit.Cpit.{CpitParts};
 ghost use Rattle.mine_instance.specs.cpit.CpitKept.{IsCpit};
 ghost use Rattle.mine_instance.specs.Valid.{ArePredsOf, IsValid};
 ghost use Rattle.mine_instance.specs.Order.{coef_before};
 ghost use Rattle.mine_instance.specs.declared.coefs.coef.Coef.{Coef};
 ghost use Rattle.mine_instance.specs.Instance.{Instance as AnInstance};
-ghost use Rattle.minelib_reading.specs.BlockLines.{block_form, block_grammar, block_shape, blocks_in};
+ghost use Rattle.minelib_reading.specs.shapes.BlockLines.{block_form, block_grammar, block_shape, blocks_by_shapes};
+ghost use Rattle.minelib_reading.specs.BlockText.{blocks_in, block_stated};
 ghost use Rattle.minelib_reading.specs.Denotes.{Denotes, DenotesCpit};
-ghost use Rattle.minelib_lines.specs.HeaderTable.{field_of, key_value, type_text};
+ghost use Rattle.minelib_lines.specs.HeaderTable.{field_of, key_value};
+ghost use Rattle.minelib_lines.specs.HeaderKeys.{type_text};
 ghost use Rattle.minelib_lines.specs.LineValues.{block_values, preds_values};
-ghost use Rattle.minelib_reading.specs.ModelLines.{ModelDraftView, coef_line, header_line, is_behind, is_next, is_ready, last_of, limit_line, model_in, section_line, values_line};
-ghost use Rattle.minelib_reading.specs.ModelStates.{StateModel, stated_by};
-ghost use Rattle.minelib_reading.specs.PrecLines.{LacksLines, prec_grammar, preds_form, preds_in, preds_of, preds_shape};
+ghost use Rattle.minelib_reading.specs.ModelDraft.{ModelDraftView, is_behind, is_next, is_ready, last_of};
+ghost use Rattle.minelib_reading.specs.shapes.ModelLines.{coef_line, header_line, limit_line, section_line, values_line, model_by_shapes, model_line};
+ghost use Rattle.minelib_reading.specs.ModelText.{model_in, line_stated};
+ghost use Rattle.minelib_reading.specs.shapes.ModelStates.{StateModel, stated_by};
+ghost use Rattle.minelib_reading.specs.shapes.PrecLines.{LacksLines, prec_grammar, preds_form, preds_of, preds_shape, preds_by_shapes};
+ghost use Rattle.minelib_reading.specs.PrecText.{preds_in, preds_stated};
 ghost use Rattle.minelib_reading.specs.spelled.SpelledModel.{AreModelLines, SpellCoef, SpellLimit, SpellValues};
 ghost use Rattle.minelib_reading.specs.spelled.SpelledTexts.{SpellCpit, SpellInstance};
 ghost use Rattle.minelib_reading.specs.StatedModel.{StatedModel};
@@ -195,4 +200,25 @@ pub fn faulty_lines_have_their_kind()
     ensures missing { (d : ModelDraftView) (section : Section) (fields : List (List ℕ))
         → Fails (section_line d section fields) Missing
         ↔ (is_next d.section section ≡ true) × (fields ≡ []) × (is_ready d d.section ≡ false) }
+{}
+
+/// What texts state, which is said outright, goes by forms.
+///
+/// - `block_lines`, `preds_lines`, `model_lines`: what a line states, or its first fault, is what its shape says.
+/// - `blocks`, `preds`, `models`: so it is of a whole text, line by line.
+#[tactic(auto, using(crate::proofs::plain::BlockForms::block_is, crate::proofs::plain::PrecForms::preds_are, crate::proofs::plain::TextForms::line_is, crate::proofs::plain::TextForms::blocks_are, crate::proofs::plain::TextForms::lists_are, crate::proofs::plain::TextForms::models_are))]
+pub fn texts_are_read_by_forms()
+    // Line by line.
+    ensures block_lines { (before : ℕ) (line : List ℕ)
+        → block_stated before (fields_of line) ≡ said (block_shape before line) }
+    ensures preds_lines { (n own : ℕ) (line : List ℕ)
+        → preds_stated n own (fields_of line) ≡ said (preds_shape n own line) }
+    ensures model_lines { (d : ModelDraftView) (line : List ℕ)
+        → line_stated d line ≡ said (model_line d line) }
+
+    // Whole texts.
+    ensures blocks { (text : List ℕ) → blocks_in text ≡ blocks_by_shapes text }
+    ensures preds { (n : ℕ) (text : List ℕ) → preds_in n text ≡ preds_by_shapes n text }
+    ensures models { (problem : Problem) (n : ℕ) (text : List ℕ)
+        → model_in problem n text ≡ model_by_shapes problem n text }
 {}

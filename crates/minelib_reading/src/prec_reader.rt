@@ -1,9 +1,10 @@
 //! Reading a precedence file.
 
 ghost use Rattle.std.specs.Prelude.{◌≡◌, ◌<◌, ◌≤◌, ◌&&◌, [], not, All, IfOk, OnOk, length};
-ghost use Rattle.text_lines.specs.FieldValues.{all_by, whole_in};
+ghost use Rattle.text_lines.specs.FieldValues.{all_by};
+ghost use Rattle.text_lines.specs.StatedFields.{below_in};
 ghost use Rattle.minelib_reading.specs.inner.LinesTaken.{admit_preds, no_lists, uncounted_preds, preds_said};
-ghost use Rattle.minelib_reading.specs.PrecLines.{all_differ, finish_preds, preds_in, stands_in};
+ghost use Rattle.minelib_reading.specs.PrecText.{all_differ, finish_preds, preds_in, stands_in};
 ghost use Rattle.pit_units.specs.OrMemory.{Gives};
 ghost use Rattle.text_lines.specs.Reading.{Leaves};
 ghost use Rattle.text_lines.specs.TextLines.{fields_of};
@@ -114,7 +115,7 @@ fn are_others(ids: &[u32], own: u32, marks: &mut Marks) -> Result<bool, AllocErr
 // All identifiers of a line, of so many blocks.
 fn read_ids(line: &[u8], blocks: usize, ids: &mut Vec<u32>) -> Result<(), OrMemory<TextKind>>
     requires { blocks ≤ MAX_BLOCKS }
-    ensures value { Leaves ids.new.items result (all_by (whole_in blocks) [] (fields_of line.now)) }
+    ensures value { Leaves ids.new.items result (all_by (below_in blocks) [] (fields_of line.now)) }
     ensures below { OnOk result (All (λ id. id < blocks) ids.new.items) }
 {
     ids.clear();

@@ -3,7 +3,7 @@
 ghost use Rattle.std.specs.Prelude.{◌≡◌, ◌<◌, ◌++◌, [], ◌∷◌, ℤ, List, All, OnOk, OnErr, length, true};
 ghost use Rattle.mine_instance.specs.Order.{coef_before};
 ghost use Rattle.mine_instance.specs.declared.coefs.coef.Coef.{Coef as ACoef};
-ghost use Rattle.minelib_reading.specs.ModelLines.{is_behind, last_of};
+ghost use Rattle.minelib_reading.specs.ModelDraft.{is_behind, last_of};
 ghost use Rattle.pit_parts.specs.declared.block.Block.{Block as ABlock};
 ghost use Rattle.pit_parts.specs.declared.ranges.TheConstants.{MAX_BLOCKS};
 

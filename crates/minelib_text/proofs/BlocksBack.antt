@@ -12,8 +12,8 @@ use Rattle.mine_instance.specs.Valid.{ArePredsOf, ArePreds}
 use Rattle.pit_parts.specs.declared.block.Block.{Block}
 use Rattle.minelib_lines.specs.LineValues.{block_values, preds_values}
 use Rattle.minelib_lines.specs.Lines.{lines_from, text_of}
-use Rattle.minelib_reading.specs.BlockLines.{block_form}
-use Rattle.minelib_reading.specs.PrecLines.{preds_form}
+use Rattle.minelib_reading.specs.shapes.BlockLines.{block_form}
+use Rattle.minelib_reading.specs.shapes.PrecLines.{preds_form}
 use Rattle.minelib_reading.specs.spelled.SpelledTexts.{SpellBlocks, SpellPreds}
 use Rattle.minelib_reading.proofs.lines.BlockLineFacts.{block_fits}
 use Rattle.minelib_reading.proofs.lines.FormFields.{ArePlain}

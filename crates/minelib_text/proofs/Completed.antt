@@ -7,12 +7,14 @@ use Rattle.std.proofs.lemmas.Int.{ints}
 use Rattle.std.proofs.lemmas.List.{length-replicate}
 use Rattle.std.proofs.lemmas.List.Elements.{All-replicate}
 use Rattle.pit_units.specs.DecimalRange.{IsInDecimalRange}
-use Rattle.minelib_lines.specs.HeaderTable.{has_key, header_keys, key_value, type_text}
+use Rattle.minelib_lines.specs.HeaderKeys.{has_key, header_keys, type_text}
+use Rattle.minelib_lines.specs.HeaderTable.{key_value}
 use Rattle.minelib_lines.specs.Lines.{line_of}
 use Rattle.minelib_lines.specs.WrittenLines.{key_line, value_fields}
 use Rattle.minelib_lines.specs.LineValues.{StatedHeader}
 use Rattle.minelib_reading.specs.HeaderNumbers.{with_key, count_in, is_given, is_complete}
-use Rattle.minelib_reading.specs.ModelLines.{ModelDraftView, blank_header, is_next, is_ready, is_whole, model_grammar, model_line, name_with}
+use Rattle.minelib_reading.specs.ModelDraft.{ModelDraftView, blank_header, is_next, is_ready, is_whole, name_with}
+use Rattle.minelib_reading.specs.shapes.ModelLines.{model_grammar, model_line}
 use Rattle.forms.specs.Words.{AllState, States}
 use Rattle.text_lines.specs.TextLines.{Line}
 use Rattle.minelib_reading.specs.declared.model.key.Header.{Header}
@@ -24,8 +26,8 @@ use Rattle.minelib_reading.specs.declared.model.key.Section.TheVariants.{Heading
 use Rattle.minelib_reading.proofs.keys.HeaderFacts.{KeepsOwn, each_with, each_key, all_given, contains_cases, first_given}
 use Rattle.minelib_reading.proofs.spelled.SpelledModelBack.{key_states, section_states, told, values_states}
 use Rattle.minelib_reading.proofs.spelled.SpelledModelRead.{At, Now}
-use Rattle.minelib_reading.specs.ModelStates.{header_stated}
-use Rattle.minelib_reading.specs.spelled.SpelledKeys.{section_text}
+use Rattle.minelib_reading.specs.shapes.ModelStates.{header_stated}
+use Rattle.minelib_reading.specs.ModelKeys.{section_text}
 use Rattle.text_lines.proofs.PlainText.{IsField}
 use Rattle.minelib_reading.proofs.lines.LinesThen.{heading}
 use Rattle.minelib_text.proofs.KeysBack.{IsHeader, header_line, section_line, word_field}

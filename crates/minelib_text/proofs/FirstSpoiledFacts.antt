@@ -4,8 +4,10 @@ use Rattle.std.proofs.Common.{refl, sym, ◌∙◌, ap, subst, inl, inr, append_
 use Rattle.forms.proofs.GrammarFacts.{all_read, fault_read}
 use Rattle.minelib_reading.proofs.models.Finished.{finished_fails}
 use Rattle.forms.specs.Words.{read_all, AllState, IsFirstFault, Fails}
-use Rattle.minelib_reading.specs.ModelLines.{ModelDraftView, blank_model, is_whole, model_grammar, model_in, model_line}
-use Rattle.minelib_reading.specs.ModelStates.{stated_by}
+use Rattle.minelib_reading.specs.ModelDraft.{ModelDraftView, blank_model, is_whole}
+use Rattle.minelib_reading.specs.shapes.ModelLines.{model_grammar, model_line}
+use Rattle.minelib_reading.specs.ModelText.{model_in}
+use Rattle.minelib_reading.specs.shapes.ModelStates.{stated_by}
 use Rattle.minelib_reading.specs.spelled.SpelledModel.{BeginModel, EndsEarly, IsFirstSpoiled}
 use Rattle.text_lines.specs.TextLines.{Line, lines_in}
 use Rattle.minelib_lines.specs.declared.problem.Problem.{Problem}
@@ -14,6 +16,7 @@ use Rattle.text_lines.specs.declared.text_fault.TextKind.{TextKind}
 use Rattle.minelib_text.proofs.Completed.{completed}
 use Rattle.minelib_reading.proofs.models.ModelShapes.{all_fine}
 use Rattle.minelib_reading.proofs.lines.LinesThen.{joined}
+use Rattle.minelib_reading.proofs.plain.TextForms.{models_are}
 use Rattle.minelib_reading.proofs.spelled.SpelledModelBack.{spelled_stated}
 use Rattle.minelib_reading.proofs.spelled.SpelledModelRead.{lines_now, stated_spelled}
 use Rattle.text_lines.proofs.ReadSteps.{same_ok}
@@ -100,7 +103,7 @@ pub bad_model : (problem : Problem) (n : ℕ) (text : List ℕ) (fault : LineFau
     → (IsFirstFault model_grammar 1 (blank_model problem n) (lines_in text) fault × IsFirstSpoiled problem n (lines_in text) fault.line)
     ⊎ EndsEarly problem n text fault
 bad_model problem n text fault few e =
-    elim (finished_fails model_grammar all_fine (blank_model problem n) (lines_in text) is_whole _ fault e) [
+    elim (finished_fails model_grammar all_fine (blank_model problem n) (lines_in text) is_whole _ fault (sym (models_are problem n text) ∙ e)) [
       | inl first ↦
           let stop = stops 1 (blank_model problem n) (lines_in text) fault first in
           inl (

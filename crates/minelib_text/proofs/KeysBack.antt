@@ -17,7 +17,8 @@ use Rattle.forms.proofs.FormFacts.{spell_written}
 use Rattle.forms.proofs.NumberFields.{size_fits, whole_fits}
 use Rattle.forms.specs.Words.{Decimal, Millionths, between, whole, FitsField, written_value}
 use Rattle.text_lines.proofs.PlainText.{is_plain, is_inner, all_weaker, all_parts, first_read, IsField, IsLine}
-use Rattle.minelib_lines.specs.HeaderTable.{field_of, has_key, header_keys, key_value, key_word, keys_of, place, type_text}
+use Rattle.minelib_lines.specs.HeaderTable.{field_of, key_value}
+use Rattle.minelib_lines.specs.HeaderKeys.{has_key, header_keys, key_word, keys_of, place, type_text}
 use Rattle.minelib_lines.specs.LineValues.{StatedHeader}
 use Rattle.minelib_lines.specs.declared.header_key.HeaderKey.{HeaderKey}
 use Rattle.minelib_lines.specs.declared.header_key.HeaderKey.TheVariants as key

@@ -7,7 +7,8 @@ use Rattle.pit_parts.specs.PlanKept.{is_turned}
 use Rattle.mine_instance.specs.declared.coefs.coef.Coef.{Coef}
 use Rattle.pit_units.specs.DecimalRange.{IsInDecimalRange}
 use Rattle.mine_instance.specs.Kept.{HasDecimals}
-use Rattle.minelib_lines.specs.HeaderTable.{key_value, keys_of, type_text}
+use Rattle.minelib_lines.specs.HeaderTable.{key_value}
+use Rattle.minelib_lines.specs.HeaderKeys.{keys_of, type_text}
 use Rattle.minelib_lines.specs.Lines.{text_of, line_of, lines_from}
 use Rattle.minelib_lines.specs.LineValues.{StatedHeader, coef_values, limit_values, values_values}
 use Rattle.minelib_lines.specs.declared.problem.Problem.{Problem}
@@ -17,7 +18,7 @@ use Rattle.minelib_reading.proofs.lines.LimitLineFacts.{bound_plain, limit_fine,
 use Rattle.minelib_reading.proofs.models.Places.{is_place, item_there}
 use Rattle.minelib_reading.proofs.models.ValidModel.{IsModel}
 use Rattle.minelib_reading.proofs.lines.ValuesLineFacts.{many_fine, many_plain, values_fits}
-use Rattle.minelib_reading.specs.ItemForms.{coef_form, limit_form, values_form}
+use Rattle.minelib_reading.specs.shapes.ItemForms.{coef_form, limit_form, values_form}
 use Rattle.minelib_reading.specs.spelled.SpelledModel.{AreModelLines, HasDestination, IsSingle, SpellCoef, SpellLimit, SpellValues}
 use Rattle.minelib_reading.specs.StatedModel.{StatedModel}
 use Rattle.minelib_lines.specs.WrittenLines.{coef_fields, key_lines, limit_fields, value_fields}

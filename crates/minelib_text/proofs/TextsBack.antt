@@ -16,7 +16,8 @@ use Rattle.std.proofs.lemmas.List.{length-map}
 use Rattle.std.proofs.lemmas.List.Elements.{All-map, All-nil, All-cons}
 use Rattle.mine_instance.specs.cpit.Cpit.{CpitParts}
 use Rattle.mine_instance.specs.cpit.CpitKept.{IsCpit}
-use Rattle.minelib_lines.specs.HeaderTable.{key_value, keys_of, type_text}
+use Rattle.minelib_lines.specs.HeaderTable.{key_value}
+use Rattle.minelib_lines.specs.HeaderKeys.{keys_of, type_text}
 use Rattle.minelib_lines.specs.Lines.{line_of, lines_from, text_of}
 use Rattle.minelib_lines.specs.LineValues.{header_of, header_of_cpit}
 use Rattle.minelib_lines.specs.WrittenLines.{block_fields, coef_fields, cpit_value_fields, key_lines, limit_fields, prec_fields, value_fields}

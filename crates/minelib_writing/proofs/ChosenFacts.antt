@@ -6,7 +6,8 @@ use Rattle.mine_instance.specs.Greatest.{greatest}
 use Rattle.mine_instance.specs.Instance.{Instance}
 use Rattle.mine_instance.specs.cpit.OfCpit.{cpit, is_chosen, at_only_destination}
 use Rattle.mine_instance.specs.Valid.{IsValid}
-use Rattle.minelib_lines.specs.HeaderTable.{key_value, keys_of, type_text}
+use Rattle.minelib_lines.specs.HeaderTable.{key_value}
+use Rattle.minelib_lines.specs.HeaderKeys.{keys_of, type_text}
 use Rattle.minelib_lines.specs.LineValues.{header_of}
 use Rattle.minelib_lines.specs.Lines.{line_of, lines_from, text_of}
 use Rattle.minelib_lines.specs.WrittenLines.{key_lines}

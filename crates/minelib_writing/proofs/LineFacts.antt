@@ -5,7 +5,7 @@ use Rattle.std.proofs.Math.Seq.{drop-cons}
 use Rattle.std.specs.List.{concat, flat_map}
 use Rattle.std.specs.Prelude.{codes}
 use Rattle.forms.specs.Words.{Value, written_value}
-use Rattle.minelib_lines.specs.HeaderTable.{key_word}
+use Rattle.minelib_lines.specs.HeaderKeys.{key_word}
 use Rattle.minelib_lines.specs.Lines.{line_of, lines_from, text_of}
 use Rattle.minelib_lines.specs.WrittenLines.{key_line, key_lines}
 use Rattle.minelib_lines.specs.declared.header_key.HeaderKey.{HeaderKey}

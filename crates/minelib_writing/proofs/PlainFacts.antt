@@ -12,7 +12,8 @@ use Rattle.mine_instance.specs.cpit.Cpit.{CpitParts}
 use Rattle.mine_instance.specs.Greatest.{greatest}
 use Rattle.mine_instance.specs.Instance.{Instance}
 use Rattle.mine_instance.specs.declared.coefs.coef.Coef.{Coef}
-use Rattle.minelib_lines.specs.HeaderTable.{key_value, keys_of, type_text, upit_keys}
+use Rattle.minelib_lines.specs.HeaderTable.{key_value, upit_keys}
+use Rattle.minelib_lines.specs.HeaderKeys.{keys_of, type_text}
 use Rattle.minelib_lines.specs.LineValues.{header_of, header_of_cpit}
 use Rattle.minelib_lines.specs.Lines.{line_of, lines_from, text_of}
 use Rattle.minelib_lines.specs.WrittenLines.{block_fields, coef_fields, cpit_value_fields, greatest_fields, key_lines, limit_fields, prec_fields, value_fields}

@@ -4,7 +4,8 @@ ghost use Rattle.std.specs.Prelude.{◌≡◌, ◌++◌, [], ◌∷◌, ℤ, Lis
 ghost use Rattle.std.specs.List.{AllZip};
 ghost use Rattle.mine_instance.specs.cpit.Cpit.{CpitParts};
 ghost use Rattle.mine_instance.specs.Instance.{Instance};
-ghost use Rattle.minelib_lines.specs.HeaderTable.{key_value, keys_of, type_text, upit_keys};
+ghost use Rattle.minelib_lines.specs.HeaderTable.{key_value, upit_keys};
+ghost use Rattle.minelib_lines.specs.HeaderKeys.{keys_of, type_text};
 ghost use Rattle.minelib_lines.specs.LineValues.{header_of, header_of_cpit};
 ghost use Rattle.minelib_lines.specs.Lines.{lines_from, text_of};
 ghost use Rattle.minelib_lines.specs.WrittenLines.{block_fields, coef_fields, cpit_value_fields, greatest_fields, key_lines, limit_fields, prec_fields, value_fields};

@@ -1,13 +1,13 @@
 -- Counting one file after the other counts the texts of all.
 use Rattle.std.specs.Prelude.{◌≡◌, ℕ, ◌≤◌, List, [], length, Option, None, Some, IfSome, Result, Ok, Err}
-use Rattle.std.proofs.Common.{refl, sym, ap, arith, map}
-use Rattle.std.proofs.lemmas.List.{length-map}
+use Rattle.std.proofs.Common.{refl, ap, arith}
 use Rattle.forms.specs.Words.{◌>>=◌}
-use Rattle.minelib_reading.specs.BlockLines.{blocks_in}
-use Rattle.minelib_reading.specs.Denotes.{cpit_denoted, denoted, instance_read}
+use Rattle.minelib_reading.specs.BlockText.{blocks_in}
+use Rattle.minelib_reading.specs.Denotes.{cpit_denoted, denoted}
 use Rattle.minelib_reading.specs.FedCounts.{IsFedAnswer, arcs_counted, blocks_counted, model_counted}
-use Rattle.minelib_reading.specs.ModelLines.{ModelDraftView, model_in}
-use Rattle.minelib_reading.specs.PrecLines.{preds_in}
+use Rattle.minelib_reading.specs.ModelDraft.{ModelDraftView}
+use Rattle.minelib_reading.specs.ModelText.{model_in}
+use Rattle.minelib_reading.specs.PrecText.{preds_in}
 use Rattle.minelib_lines.specs.declared.problem.Problem.TheVariants as problem
 use Rattle.pit_parts.specs.declared.block.Block.{Block}
 use Rattle.text_lines.specs.Reading.{in_file}
@@ -15,7 +15,7 @@ use Rattle.text_lines.specs.declared.text_fault.LineFault.{LineFault}
 use Rattle.text_lines.specs.declared.text_fault.TextFault.{TextFault}
 use Rattle.text_lines.specs.declared.text_fault.TextFile.{TextFile}
 use Rattle.text_lines.specs.declared.text_fault.TextFile.TheVariants.{Blocks, Prec, Pcpsp, Cpit}
-use Rattle.pit_check.specs.Counts.{Texts, counted, counts_of, cpit_counted}
+use Rattle.pit_check.specs.Counts.{Texts, counted, cpit_counted}
 use Rattle.pit_check.specs.inner.CountSteps.{counted_in, counted_on, no_counts}
 use Rattle.pit_check.specs.declared.counts.Counts.{Counts}
 

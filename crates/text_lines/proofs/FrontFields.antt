@@ -9,7 +9,8 @@ use Rattle.records.specs.Cells.{without_leading_blanks}
 use Rattle.pit_units.specs.Decimal.{decimal_within}
 use Rattle.pit_units.specs.Front.{BeginsWith}
 use Rattle.forms.proofs.NumberFields.{quotient}
-use Rattle.text_lines.specs.FieldValues.{first_by, decimal_in, size_in, whole_in}
+use Rattle.text_lines.specs.FieldValues.{first_by}
+use Rattle.text_lines.specs.StatedFields.{decimal_in, size_in, below_in}
 use Rattle.text_lines.specs.TextLines.{fields_of, is_ended}
 use Rattle.text_lines.specs.inner.Taken.{TakesDecimal}
 use Rattle.text_lines.specs.declared.text_fault.TextKind.TheVariants.{Range}
@@ -33,16 +34,16 @@ field_in_front max line m rest b ended =
     }
 
 pub whole_taken : (limit : ℕ) (line : List ℕ) (n : ℕ) (rest : List ℕ) → TakesDecimal 0 line (pos (n * 10 ^ 6)) rest → n < limit
-    → first_by (whole_in limit) (fields_of line) ≡ Ok (n, fields_of rest)
-unfolding whole_in decimal_within
+    → first_by (below_in limit) (fields_of line) ≡ Ok (n, fields_of rest)
+unfolding below_in decimal_within
 whole_taken limit line n rest t low =
     let within : (int_le (pos 0) (pos (n * 10 ^ 6)) && int_le (pos (n * 10 ^ 6)) (pos (limit * 10 ^ 6) +ℤ negsuc 0)) ≡ true =
     grind (arith, ints, low) in
     rw (t.cut, t.stated, within, quotient n) refl
 
 pub whole_refused : (limit : ℕ) (line : List ℕ) (n : ℕ) (rest : List ℕ) → TakesDecimal 0 line (pos (n * 10 ^ 6)) rest → (n < limit → ⊥)
-    → first_by (whole_in limit) (fields_of line) ≡ Err Range
-unfolding whole_in decimal_within
+    → first_by (below_in limit) (fields_of line) ≡ Err Range
+unfolding below_in decimal_within
 whole_refused limit line n rest t above =
     let past : (int_le (pos 0) (pos (n * 10 ^ 6)) && int_le (pos (n * 10 ^ 6)) (pos (limit * 10 ^ 6) +ℤ negsuc 0)) ≡ false =
     grind (arith, ints, above) in

@@ -4,6 +4,7 @@ pub mod FieldValues
 pub mod ItemGrammar
 pub mod LineKinds
 pub mod Reading
+pub mod StatedFields
 pub mod TextLines
 pub mod TextParts
 pub mod inner

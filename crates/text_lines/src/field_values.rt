@@ -1,7 +1,7 @@
 //! What a field of a line states.
 
 ghost use Rattle.std.specs.Prelude.{◌≡◌, ◌<◌, ◌≤◌, IfOk};
-ghost use Rattle.text_lines.specs.FieldValues.{decimal_in, size_in, whole_in};
+ghost use Rattle.text_lines.specs.StatedFields.{decimal_in, size_in, below_in};
 
 use crate::text_fault::TextKind;
 use pit_units::{Dec, MILLIONTHS, parse_dec, parse_within};
@@ -11,10 +11,10 @@ use pit_units::{Dec, MILLIONTHS, parse_dec, parse_within};
 /// # Errors
 ///
 /// The first that applies of `Number`, `TooFine` and `Range`.
-#[tactic(auto, unfolding(crate::specs::FieldValues::whole_in))]
+#[tactic(auto, unfolding(crate::specs::StatedFields::below_in))]
 #[inline(always)]
-pub fn whole_in(field: &[u8], limit: u64) -> Result<u64, TextKind>
-    ensures value { result ≡ whole_in limit field.now }
+pub fn below_in(field: &[u8], limit: u64) -> Result<u64, TextKind>
+    ensures value { result ≡ below_in limit field.now }
     ensures below { IfOk result (λ n. n < limit) }
 {
     Ok(parse_within(field, 0, 0, i128::from(limit) * MILLIONTHS - 1)?.whole())
@@ -24,8 +24,8 @@ pub fn whole_in(field: &[u8], limit: u64) -> Result<u64, TextKind>
 ///
 /// # Errors
 ///
-/// Those of `whole_in`.
-#[tactic(auto, unfolding(crate::specs::FieldValues::size_in))]
+/// Those of `below_in`.
+#[tactic(auto, unfolding(crate::specs::StatedFields::size_in))]
 #[inline(always)]
 pub fn size_in(field: &[u8], decimals: u8, most: u64) -> Result<u64, TextKind>
     requires { decimals ≤ 6 }
@@ -39,8 +39,8 @@ pub fn size_in(field: &[u8], decimals: u8, most: u64) -> Result<u64, TextKind>
 ///
 /// # Errors
 ///
-/// Those of `whole_in`, the range being that of all decimals.
-#[tactic(auto, unfolding(crate::specs::FieldValues::decimal_in))]
+/// Those of `below_in`, the range being that of all decimals.
+#[tactic(auto, unfolding(crate::specs::StatedFields::decimal_in))]
 pub fn decimal_in(field: &[u8]) -> Result<Dec, TextKind>
     ensures { result ≡ decimal_in field.now }
 {

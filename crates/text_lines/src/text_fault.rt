@@ -90,10 +90,9 @@ impl fmt::Display for TextKind {
 
 impl From<DecFault> for TextKind {
     ghost use Rattle.std.specs.Prelude.{◌≡◌, Err};
-    ghost use Rattle.forms.specs.Words.{number_or_kind};
-    ghost use Rattle.text_lines.specs.LineKinds.{text_kind};
+    ghost use Rattle.text_lines.specs.StatedFields.{number_said};
 
-    ghost from_gives = { λ fault kind. Err kind ≡ number_or_kind text_kind (Err fault) };
+    ghost from_gives = { λ fault kind. Err kind ≡ number_said (Err fault) };
 
     fn from(fault: DecFault) -> TextKind {
         match fault {

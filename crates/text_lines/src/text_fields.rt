@@ -4,12 +4,13 @@ ghost use Rattle.std.specs.Prelude.{◌≡◌, ◌<◌, ◌≤◌, ◌∷◌, �
 ghost use Rattle.std.specs.List.{position_or_len};
 ghost use Rattle.pit_units.specs.DecimalRange.{IsInDecimalRange};
 ghost use Rattle.records.specs.Cells.{is_blank};
-ghost use Rattle.text_lines.specs.FieldValues.{Takes, decimal_in, first_by, size_in, whole_in};
+ghost use Rattle.text_lines.specs.FieldValues.{Takes, first_by};
+ghost use Rattle.text_lines.specs.StatedFields.{decimal_in, size_in, below_in};
 ghost use Rattle.text_lines.specs.TextLines.{fields_of, is_ended};
 ghost use Rattle.text_lines.specs.LineKinds.{kind_by};
 ghost use Rattle.text_lines.specs.inner.Taken.{TakesDecimal};
 
-use crate::field_values::{decimal_in, size_in, whole_in};
+use crate::field_values::{below_in, decimal_in, size_in};
 use crate::text_fault::TextKind;
 use pit_units::{after, front_dec, front_whole};
 use records::cells::{is_blank, without_leading_blanks};
@@ -94,11 +95,11 @@ pub fn has_field(line: &[u8]) -> bool
 ///
 /// # Errors
 ///
-/// `Fields` where the line has no field, else those of `whole_in`.
+/// `Fields` where the line has no field, else those of `below_in`.
 #[inline(always)]
 #[tactic(auto, using(crate::proofs::FrontFields::whole_taken, crate::proofs::FrontFields::whole_refused))]
 pub fn first_whole(line: &[u8], limit: u64) -> Result<(u64, &[u8]), TextKind>
-    ensures value { Takes result (first_by (whole_in limit) (fields_of line.now)) }
+    ensures value { Takes result (first_by (below_in limit) (fields_of line.now)) }
     ensures below { IfOk result (λ x. x.0 < limit) }
 {
     match front_whole_field(line) {
@@ -195,11 +196,11 @@ fn is_ended(bytes: &[u8]) -> bool
 
 #[inline(never)]
 fn any_whole(line: &[u8], limit: u64) -> Result<(u64, &[u8]), TextKind>
-    ensures value { Takes result (first_by (whole_in limit) (fields_of line.now)) }
+    ensures value { Takes result (first_by (below_in limit) (fields_of line.now)) }
     ensures below { IfOk result (λ x. x.0 < limit) }
 {
     match next_field(line) {
-        Some((field, behind)) => Ok((whole_in(field, limit)?, behind)),
+        Some((field, behind)) => Ok((below_in(field, limit)?, behind)),
         None => Err(TextKind::Fields),
     }
 }

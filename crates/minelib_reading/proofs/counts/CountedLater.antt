@@ -7,11 +7,13 @@ use Rattle.forms.proofs.NumberFields.{quotient}
 use Rattle.forms.specs.Words.{Value, Millionths, below, up_to, whole, read, read_fields, check, failing, unless, ◌>>=◌}
 use Rattle.pit_parts.specs.Block.{block_with}
 use Rattle.pit_parts.specs.declared.block.Block.{Block}
-use Rattle.minelib_reading.specs.BlockLines.{block_form, block_shape}
-use Rattle.text_lines.specs.FieldValues.{all_by, first_by, size_in, whole_in}
+use Rattle.minelib_reading.specs.shapes.BlockLines.{block_form, block_shape}
+use Rattle.text_lines.specs.FieldValues.{all_by, first_by}
+use Rattle.text_lines.specs.StatedFields.{size_in, below_in}
 use Rattle.text_lines.specs.LineKinds.{kind_by, text_kinds}
 use Rattle.minelib_reading.specs.inner.LinesTaken.{uncounted_block, block_said, uncounted_preds, preds_said}
-use Rattle.minelib_reading.specs.PrecLines.{all_differ, preds_form, preds_shape, stands_in}
+use Rattle.minelib_reading.specs.PrecText.{all_differ, stands_in}
+use Rattle.minelib_reading.specs.shapes.PrecLines.{preds_form, preds_shape}
 use Rattle.text_lines.specs.TextLines.{fields_of}
 use Rattle.text_lines.specs.declared.text_fault.TextKind.{TextKind}
 use Rattle.text_lines.specs.declared.text_fault.TextKind.TheVariants.{Fields, Order, Count, Twice}
@@ -20,14 +22,14 @@ use Rattle.minelib_reading.proofs.lines.PrecLineFacts.{wholes_again}
 use Rattle.pit_parts.specs.declared.ranges.TheConstants.{GRID_CELLS, MAX_BLOCKS, MAX_GRADE, MAX_KG, MAX_ZONES}
 
 -- what the values of a line state, where no test fails
-abbrev block_then : ℕ → List Value → Result Block TextKind
+abbrev pub block_then : ℕ → List Value → Result Block TextKind
 block_then before values = unless (failing ((block_shape before []).last values)) (Ok ((block_shape before []).next values))
 
 abbrev preds_then : ℕ → List Value → Result (List ℕ) TextKind
 preds_then own values = unless (failing ((preds_shape 0 own []).last values)) (Ok ((preds_shape 0 own []).next values))
 
 -- blocks
-seven_end : (before id x y z tonnes grade zone : ℕ)
+pub seven_end : (before id x y z tonnes grade zone : ℕ)
     → (if not (id == before) then Err Order else Ok (block_with x y z (tonnes / 1000) grade zone))
     ≡ block_then before (whole id ∷ whole x ∷ whole y ∷ whole z ∷ Millionths (pos tonnes) ∷ Millionths (pos grade) ∷ whole zone ∷ [])
 seven_end before id x y z tonnes grade zone =
@@ -40,27 +42,27 @@ seven_end before id x y z tonnes grade zone =
 -- field by field, as the code reads it
 abbrev block_steps : ℕ → List (List ℕ) → Result Block TextKind
 block_steps before fields = do
-  id ← first_by (whole_in MAX_BLOCKS) fields
-  x ← first_by (whole_in GRID_CELLS) id.1
-  y ← first_by (whole_in GRID_CELLS) x.1
-  z ← first_by (whole_in GRID_CELLS) y.1
+  id ← first_by (below_in MAX_BLOCKS) fields
+  x ← first_by (below_in GRID_CELLS) id.1
+  y ← first_by (below_in GRID_CELLS) x.1
+  z ← first_by (below_in GRID_CELLS) y.1
   tonnes ← first_by (size_in 3 (MAX_KG * 1000)) z.1
   grade ← first_by (size_in 6 MAX_GRADE) tonnes.1
-  zone ← first_by (whole_in MAX_ZONES) grade.1
+  zone ← first_by (below_in MAX_ZONES) grade.1
   if not (length zone.1 == 0) then Err Fields else (
       if not (id.0 == before) then Err Order
       else Ok (block_with x.0 y.0 z.0 (tonnes.0 / 1000) grade.0 zone.0))
 
 steps_said : (before : ℕ) (fields : List (List ℕ)) → block_steps before fields ≡ said_of block_form fields (block_then before)
 steps_said before fields =
-    step (below MAX_BLOCKS) _ (whole_in MAX_BLOCKS) whole fields _ _ (whole_reads MAX_BLOCKS) (λ id rest1.
-    step (below GRID_CELLS) _ (whole_in GRID_CELLS) whole rest1 _ _ (whole_reads GRID_CELLS) (λ x rest2.
-    step (below GRID_CELLS) _ (whole_in GRID_CELLS) whole rest2 _ _ (whole_reads GRID_CELLS) (λ y rest3.
-    step (below GRID_CELLS) _ (whole_in GRID_CELLS) whole rest3 _ _ (whole_reads GRID_CELLS) (λ z rest4.
+    step (below MAX_BLOCKS) _ (below_in MAX_BLOCKS) whole fields _ _ (whole_reads MAX_BLOCKS) (λ id rest1.
+    step (below GRID_CELLS) _ (below_in GRID_CELLS) whole rest1 _ _ (whole_reads GRID_CELLS) (λ x rest2.
+    step (below GRID_CELLS) _ (below_in GRID_CELLS) whole rest2 _ _ (whole_reads GRID_CELLS) (λ y rest3.
+    step (below GRID_CELLS) _ (below_in GRID_CELLS) whole rest3 _ _ (whole_reads GRID_CELLS) (λ z rest4.
     step (up_to 3 (MAX_KG * 1000)) _ (size_in 3 (MAX_KG * 1000)) (λ m. Millionths (pos m)) rest4 _ _
     (size_reads 3 (MAX_KG * 1000) (omega arith)) (λ tonnes rest5.
     step (up_to 6 MAX_GRADE) _ (size_in 6 MAX_GRADE) (λ m. Millionths (pos m)) rest5 _ _ (size_reads 6 MAX_GRADE (omega arith)) (λ grade rest6.
-    step (below MAX_ZONES) _ (whole_in MAX_ZONES) whole rest6 _ _ (whole_reads MAX_ZONES) (λ zone rest7.
+    step (below MAX_ZONES) _ (below_in MAX_ZONES) whole rest6 _ _ (whole_reads MAX_ZONES) (λ zone rest7.
     last_step rest7 _ _ (seven_end before id x y z tonnes grade zone))))))))
 
 pub block_read : (before : ℕ) (line : List ℕ) → uncounted_block before line ≡ block_steps before (fields_of line)
@@ -93,21 +95,21 @@ preds_end own id stated ids =
     by true true false true = refl
     by true true false false = refl
 
-abbrev preds_steps : ℕ → ℕ → List (List ℕ) → Result (List ℕ) TextKind
+abbrev pub preds_steps : ℕ → ℕ → List (List ℕ) → Result (List ℕ) TextKind
 preds_steps n own fields = do
-  id ← first_by (whole_in n) fields
-  stated ← first_by (whole_in n) id.1
-  ids ← all_by (whole_in n) [] stated.1
+  id ← first_by (below_in n) fields
+  stated ← first_by (below_in n) id.1
+  ids ← all_by (below_in n) [] stated.1
   if not (id.0 == own) then Err Order else (
       if not (stated.0 == length ids) then Err Count else (
       if stands_in ids own || not (all_differ ids) then Err Twice else Ok ids))
 
 preds_steps_said : (n own : ℕ) (fields : List (List ℕ)) → preds_steps n own fields ≡ said_of (preds_form n fields) fields (preds_then own)
 preds_steps_said n own [] = none_step (below n) _ _
-preds_steps_said n own (lone ∷ []) = first_step (below n) _ (whole_in n) whole lone [] _ _ (whole_reads n) (λ id. none_step (below n) _ _)
+preds_steps_said n own (lone ∷ []) = first_step (below n) _ (below_in n) whole lone [] _ _ (whole_reads n) (λ id. none_step (below n) _ _)
 preds_steps_said n own (id ∷ count ∷ others) =
-    first_step (below n) _ (whole_in n) whole id (count ∷ others) _ _ (whole_reads n) (λ id.
-    first_step (below n) _ (whole_in n) whole count others _ _ (whole_reads n) (λ stated.
+    first_step (below n) _ (below_in n) whole id (count ∷ others) _ _ (whole_reads n) (λ id.
+    first_step (below n) _ (below_in n) whole count others _ _ (whole_reads n) (λ stated.
     wholes_step n [] others _ _ (λ ids. preds_end own id stated ids)))
 
 pub uncounted_preds_read : (n own : ℕ) (line : List ℕ) → uncounted_preds n own line ≡ preds_steps n own (fields_of line)

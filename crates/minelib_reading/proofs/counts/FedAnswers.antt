@@ -8,11 +8,12 @@ use Rattle.text_lines.specs.Reading.{read_lines}
 use Rattle.text_lines.specs.TextLines.{end_of, lines_in}
 use Rattle.text_lines.specs.declared.text_fault.LineFault.{LineFault}
 use Rattle.minelib_reading.specs.FedCounts.{IsFedAnswer, arcs_counted, blocks_counted, model_counted}
-use Rattle.minelib_reading.specs.ModelLines.{ModelDraftView, blank_model, finish_model, model_in}
+use Rattle.minelib_reading.specs.ModelDraft.{ModelDraftView, blank_model}
+use Rattle.minelib_reading.specs.ModelText.{finish_model, model_in}
 use Rattle.minelib_reading.specs.inner.ModelParts.{admit_model}
-use Rattle.minelib_reading.proofs.models.ModelShapes.{lines_are_all}
+use Rattle.minelib_reading.proofs.plain.TextForms.{lines_admitted}
 use Rattle.minelib_lines.specs.declared.problem.Problem.{Problem}
-use Rattle.minelib_reading.specs.PrecLines.{finish_preds, preds_in}
+use Rattle.minelib_reading.specs.PrecText.{finish_preds, preds_in}
 use Rattle.minelib_reading.specs.inner.LinesTaken.{PrecDraftView, admit_block, admit_preds, no_lists}
 use Rattle.minelib_reading.proofs.spelled.SpelledRead.{blocks_read, preds_finished, preds_stopped}
 use Rattle.pit_units.specs.declared.or_memory.OrMemory.TheVariants.{Fault}
@@ -76,7 +77,7 @@ arcs_faulty n left limit after fault read =
 
 model_all : (problem : Problem) (n : ℕ) (text : List ℕ)
     → (read_lines admit_model (blank_model problem n) (lines_in text) >>= finish_model (end_of text)) ≡ model_in problem n text
-model_all problem n text = ap (λ r. r >>= finish_model (end_of text)) (lines_are_all 1 (blank_model problem n) (lines_in text))
+model_all problem n text = ap (λ r. r >>= finish_model (end_of text)) (lines_admitted (blank_model problem n) (lines_in text))
 
 pub model_told : (problem : Problem) (n : ℕ) (left : Option (List ℕ)) (limit end : ℕ) (after d : ModelDraftView)
     → IsFedReading admit_model left limit (blank_model problem n) after (Ok end) → finish_model end after ≡ Ok d

@@ -6,9 +6,9 @@ use Rattle.std.proofs.lemmas.Bool.{eqb-true}
 use Rattle.std.proofs.lemmas.List.Elements.{All-contains}
 use Rattle.std.proofs.lemmas.List.FromFn.{fill_by_all}
 use Rattle.std.proofs.lemmas.List.Sums.{AllPass-from_list_all, list_all-from_AllPass}
-use Rattle.minelib_lines.specs.HeaderTable.{has_key, header_keys, place}
+use Rattle.minelib_lines.specs.HeaderKeys.{has_key, header_keys, place}
 use Rattle.minelib_reading.specs.HeaderNumbers.{number_of, with_key, count_in, is_given, is_complete}
-use Rattle.minelib_reading.specs.ModelLines.{blank_header}
+use Rattle.minelib_reading.specs.ModelDraft.{blank_header}
 use Rattle.minelib_reading.specs.spelled.SpelledModel.{IsSingle}
 use Rattle.minelib_reading.specs.inner.ModelParts.{number_limit}
 use Rattle.minelib_reading.specs.declared.model.key.Header.{Header}

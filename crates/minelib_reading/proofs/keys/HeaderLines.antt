@@ -7,9 +7,10 @@ use Rattle.std.proofs.lemmas.List.Quantifiers.{all_pairs_push}
 use Rattle.forms.specs.Words.{Millionths, Bytes, whole, Says}
 use Rattle.minelib_lines.specs.declared.problem.Problem.{Problem}
 use Rattle.minelib_reading.specs.HeaderNumbers.{count_in, is_given, is_complete, with_key}
-use Rattle.minelib_lines.specs.HeaderTable.{field_of, has_key, key_value, type_text}
-use Rattle.minelib_reading.specs.ModelLines.{blank_header, name_with}
-use Rattle.minelib_reading.specs.ModelStates.{header_stated}
+use Rattle.minelib_lines.specs.HeaderTable.{field_of, key_value}
+use Rattle.minelib_lines.specs.HeaderKeys.{has_key, type_text}
+use Rattle.minelib_reading.specs.ModelDraft.{blank_header, name_with}
+use Rattle.minelib_reading.specs.shapes.ModelStates.{header_stated}
 use Rattle.minelib_reading.specs.spelled.SpelledLines.{AreLines}
 use Rattle.minelib_reading.specs.spelled.SpelledModel.{AreHeaderLines, IsHeaderLine, IsSingle}
 use Rattle.minelib_reading.specs.declared.model.key.Header.{Header}

@@ -12,9 +12,10 @@ use Rattle.std.proofs.lemmas.Slice.Eq.{bytes_eq-Decides}
 use Rattle.text_lines.specs.TextLines.{fields_of}
 use Rattle.minelib_lines.specs.declared.problem.Problem.{Problem}
 use Rattle.minelib_lines.specs.declared.problem.Problem.TheVariants.{Pcpsp, Cpit}
-use Rattle.minelib_reading.specs.ModelLines.{header_or, is_colon, is_next, key_in, key_of, section_in, sections}
-use Rattle.minelib_lines.specs.HeaderTable.{has_key, header_keys, key_word, keys_of}
-use Rattle.minelib_reading.specs.spelled.SpelledKeys.{IsKeyLine, section_text}
+use Rattle.minelib_reading.specs.ModelKeys.{header_or, is_colon, key_in, key_of, section_in, sections, section_text}
+use Rattle.minelib_reading.specs.ModelDraft.{is_next}
+use Rattle.minelib_lines.specs.HeaderKeys.{has_key, header_keys, key_word, keys_of}
+use Rattle.minelib_reading.specs.spelled.SpelledKeys.{IsKeyLine}
 use Rattle.minelib_lines.specs.declared.header_key.HeaderKey.{HeaderKey}
 use Rattle.minelib_lines.specs.declared.header_key.HeaderKey.TheVariants as key
 use Rattle.minelib_reading.specs.declared.model.key.ModelKey.{ModelKey}

@@ -8,7 +8,7 @@ use Rattle.std.proofs.lemmas.Bool.Decides.{nat_tests}
 use Rattle.pit_units.specs.Decimal.{all_digits}
 use Rattle.pit_units.specs.StandsFor.{StandsFor}
 use Rattle.records.specs.Cells.{is_blank}
-use Rattle.minelib_reading.specs.ModelLines.{is_colon}
+use Rattle.minelib_reading.specs.ModelKeys.{is_colon}
 use Rattle.text_lines.specs.TextLines.{fields_of, is_ended}
 use Rattle.text_lines.proofs.PlainText.{IsField, all_parts, all_weaker, is_plain}
 

@@ -7,13 +7,13 @@ use Rattle.forms.proofs.NumberFields.{quotient, size_fits, size_found, whole_fit
 use Rattle.forms.specs.Words.{Value, Millionths, millionths, number_at, whole, whole_at, Fit, Spell, States}
 use Rattle.pit_parts.proofs.BlockFacts.{block_again, block_parts}
 use Rattle.pit_parts.specs.declared.block.Block.{Block}
-use Rattle.minelib_reading.specs.BlockLines.{block_form, block_of, block_shape}
+use Rattle.minelib_reading.specs.shapes.BlockLines.{block_form, block_of, block_shape}
 use Rattle.minelib_lines.specs.LineValues.{block_values}
 use Rattle.text_lines.specs.TextLines.{fields_of}
 use Rattle.text_lines.specs.declared.text_fault.TextKind.TheVariants.{Order}
 use Rattle.minelib_reading.proofs.lines.FormFields.{fit_at, fit_said, stated_low}
 use Rattle.minelib_reading.proofs.lines.ShapeSteps.{met, passed}
-use Rattle.minelib_reading.specs.Fields.{any}
+use Rattle.minelib_reading.specs.shapes.Fields.{any}
 
 -- the values of a block fit, and say it
 pub block_fits : (n : ℕ) (b : Block) → n < 64000000 → Fit block_form (block_values n b)

@@ -6,7 +6,8 @@ use Rattle.forms.proofs.NumberFields.{quotient, whole_fits}
 use Rattle.forms.specs.Words.{Value, Millionths, below, whole, Fit, is_fine, ◌>>=◌}
 use Rattle.mine_instance.specs.declared.coefs.coef.Coef.{Coef}
 use Rattle.pit_units.specs.DecimalRange.{IsInDecimalRange}
-use Rattle.text_lines.specs.FieldValues.{decimal_in, first_by, whole_in}
+use Rattle.text_lines.specs.FieldValues.{first_by}
+use Rattle.text_lines.specs.StatedFields.{decimal_in, below_in}
 use Rattle.text_lines.specs.LineKinds.{kind_by, text_kinds}
 use Rattle.minelib_reading.specs.inner.UncountedItems.{destination_in}
 use Rattle.minelib_lines.specs.declared.problem.Problem.{Problem}
@@ -14,8 +15,8 @@ use Rattle.minelib_lines.specs.declared.problem.Problem.TheVariants.{Pcpsp, Cpit
 use Rattle.text_lines.specs.declared.text_fault.TextKind.{TextKind}
 use Rattle.text_lines.specs.declared.text_fault.TextKind.TheVariants.{Fields}
 use Rattle.text_lines.proofs.FieldSteps.{last_step, said_of, step, whole_reads}
-use Rattle.minelib_reading.specs.Fields.{any}
-use Rattle.minelib_reading.specs.ItemForms.{coef_form, coef_said}
+use Rattle.minelib_reading.specs.shapes.Fields.{any}
+use Rattle.minelib_reading.specs.shapes.ItemForms.{coef_form, coef_said}
 use Rattle.minelib_reading.specs.spelled.SpelledModel.{HasDestination, IsSingle}
 use Rattle.minelib_reading.specs.inner.ModelParts.{uncounted_coef, coef_of_line}
 use Rattle.minelib_lines.specs.LineValues.{coef_values}
@@ -58,7 +59,7 @@ coef_low Cpit n destinations resources c single of_it fit = (whole_low n c.b fit
 -- the fields one by one, as the code reads them before they are counted
 abbrev pub steps_of : Problem → ℕ → ℕ → ℕ → List (List ℕ) → Result Coef TextKind
 steps_of problem n destinations resources fields =
-    first_by (whole_in n) fields >>= λ b. destination_in problem destinations b.1 >>= λ d. first_by (whole_in resources) d.1
+    first_by (below_in n) fields >>= λ b. destination_in problem destinations b.1 >>= λ d. first_by (below_in resources) d.1
     >>= λ r. first_by decimal_in r.1
     >>= λ v. if not (length v.1 == 0) then Err Fields else Ok (record { b = b.0; d = d.0; r = r.0; v = v.0 })
 
@@ -66,14 +67,14 @@ steps_said : (problem : Problem) (n destinations resources : ℕ) (fields : List
     → steps_of problem n destinations resources fields
     ≡ said_of (coef_form problem n destinations resources) fields (λ values. Ok (coef_said problem values))
 steps_said Pcpsp n destinations resources fields =
-    step (below n) _ (whole_in n) whole fields _ _ (whole_reads n) (λ b rest1.
-    step (below destinations) _ (whole_in destinations) whole rest1 _ _ (whole_reads destinations) (λ d rest2.
-    step (below resources) _ (whole_in resources) whole rest2 _ _ (whole_reads resources) (λ r rest3.
+    step (below n) _ (below_in n) whole fields _ _ (whole_reads n) (λ b rest1.
+    step (below destinations) _ (below_in destinations) whole rest1 _ _ (whole_reads destinations) (λ d rest2.
+    step (below resources) _ (below_in resources) whole rest2 _ _ (whole_reads resources) (λ r rest3.
     step any _ decimal_in Millionths rest3 _ _ any_reads (λ v rest4.
     last_step rest4 _ _ (ap Ok (sym (said_again Pcpsp (record { b = b; d = d; r = r; v = v }) tt)))))))
 steps_said Cpit n destinations resources fields =
-    step (below n) _ (whole_in n) whole fields _ _ (whole_reads n) (λ b rest1.
-    step (below resources) _ (whole_in resources) whole rest1 _ _ (whole_reads resources) (λ r rest2.
+    step (below n) _ (below_in n) whole fields _ _ (whole_reads n) (λ b rest1.
+    step (below resources) _ (below_in resources) whole rest1 _ _ (whole_reads resources) (λ r rest2.
     step any _ decimal_in Millionths rest2 _ _ any_reads (λ v rest3.
     last_step rest3 _ _ (ap Ok (sym (said_again Cpit (record { b = b; d = 0; r = r; v = v }) refl))))))
 

@@ -9,14 +9,14 @@ use Rattle.pit_units.specs.DecimalRange.{IsInDecimalRange}
 use Rattle.pit_units.specs.declared.fault.DecFault.{DecFault}
 use Rattle.forms.proofs.FormFacts.{true_le}
 use Rattle.forms.specs.Words.{Field, Decimal, Stepped, Word, Value, Millionths, Bytes, below, millionths, whole, whole_stated, word_of, FitsField, Fit, number_or_kind, Spell, ◌>>=◌}
-use Rattle.text_lines.specs.FieldValues.{decimal_in}
+use Rattle.text_lines.specs.StatedFields.{decimal_in}
 use Rattle.text_lines.specs.LineKinds.{text_kind}
-use Rattle.minelib_reading.specs.ModelLines.{is_colon}
+use Rattle.minelib_reading.specs.ModelKeys.{is_colon}
 use Rattle.text_lines.proofs.FieldSteps.{ReadsField}
 use Rattle.minelib_reading.proofs.keys.Keyless.{have_colon, keyless, number_field, plain_no_colon}
 use Rattle.text_lines.specs.TextLines.{fields_of}
 use Rattle.text_lines.proofs.PlainText.{EachField, IsField, all_weaker, is_plain, none_from_all}
-use Rattle.minelib_reading.specs.Fields.{any}
+use Rattle.minelib_reading.specs.shapes.Fields.{any}
 
 lowest : (z : ℤ) → IsInDecimalRange z → negsuc (10 ^ 24 - 1) ≤ℤ z
 lowest (pos m) small = omega (arith, ints)

@@ -10,10 +10,11 @@ use Rattle.forms.specs.Words.{Value, Millionths, Bytes, below, number_at, whole,
 use Rattle.pit_parts.specs.declared.limit.Bound.{Bound}
 use Rattle.pit_parts.specs.declared.limit.Bound.TheVariants.{AtMost, AtLeast, Between}
 use Rattle.pit_parts.specs.declared.limit.Limit.{Limit}
-use Rattle.text_lines.specs.FieldValues.{decimal_in, first_by, whole_in}
+use Rattle.text_lines.specs.FieldValues.{first_by}
+use Rattle.text_lines.specs.StatedFields.{decimal_in, below_in}
 use Rattle.mine_instance.specs.Kept.{HasDecimals}
 use Rattle.text_lines.specs.LineKinds.{text_kinds}
-use Rattle.minelib_reading.specs.Fields.{any}
+use Rattle.minelib_reading.specs.shapes.Fields.{any}
 use Rattle.minelib_reading.specs.inner.ModelParts.{limit_of_line}
 use Rattle.minelib_reading.specs.inner.UncountedItems.{bound_in, limit_width}
 use Rattle.text_lines.specs.declared.text_fault.TextKind.{TextKind}
@@ -21,7 +22,7 @@ use Rattle.text_lines.specs.declared.text_fault.TextKind.TheVariants.{Fields}
 use Rattle.text_lines.proofs.FieldSteps.{first_step, said_of, whole_reads}
 use Rattle.minelib_reading.proofs.lines.FormFields.{ArePlain, any_fits, any_reads, fit_at, fit_said, word_there}
 use Rattle.text_lines.proofs.PlainText.{IsField}
-use Rattle.minelib_reading.specs.ItemForms.{bound_form, bound_said, limit_form, limit_said}
+use Rattle.minelib_reading.specs.shapes.ItemForms.{bound_form, bound_said, limit_form, limit_said}
 use Rattle.minelib_lines.specs.LineValues.{bound_values, limit_values}
 
 pub bound_fine : (t : Bool) → is_fine (bound_form t) ≡ true
@@ -108,7 +109,7 @@ bound_met interval r t rest is count = absurd (omega (arith, count))
 pub limit_same : (resources periods : ℕ) (fields : List (List ℕ))
     → limit_of_line resources periods fields
     ≡ (if not (length fields == limit_width fields) then Err Fields
-    else (first_by (whole_in resources) fields >>= λ r. first_by (whole_in periods) r.1 >>= λ t. bound_in t.1
+    else (first_by (below_in resources) fields >>= λ r. first_by (below_in periods) r.1 >>= λ t. bound_in t.1
     >>= λ bound. Ok (record { resource = r.0; period = t.0; bound = bound })))
 unfolding limit_of_line said_of
 limit_same resources periods [] = refl
@@ -121,19 +122,19 @@ limit_same resources periods (r ∷ t ∷ rest) = by (bytes_eq (slice_index_or r
         (below resources ∷ below periods ∷ bound_form interval) (r ∷ t ∷ rest))
         >>= λ values. Ok (limit_said values))
         ≡ (if not counted then Err Fields
-        else (first_by (whole_in resources) (r ∷ t ∷ rest) >>= λ r. first_by (whole_in periods) r.1 >>= λ t. bound_in t.1
+        else (first_by (below_in resources) (r ∷ t ∷ rest) >>= λ r. first_by (below_in periods) r.1 >>= λ t. bound_in t.1
         >>= λ bound. Ok (record { resource = r.0; period = t.0; bound = bound })))
     tested interval e false count = refl
     tested interval e true count =
-        sym (first_step (below resources) (below periods ∷ bound_form interval) (whole_in resources) whole r
+        sym (first_step (below resources) (below periods ∷ bound_form interval) (below_in resources) whole r
         (t ∷ rest) _ _ (whole_reads resources) (λ a.
-        first_step (below periods) (bound_form interval) (whole_in periods) whole t rest _ _ (whole_reads periods) (λ b.
+        first_step (below periods) (bound_form interval) (below_in periods) whole t rest _ _ (whole_reads periods) (λ b.
         bound_met interval a b rest e (count refl))))
 
     by : (interval : Bool) → bytes_eq (slice_index_or rest 0 []) (codes "I") ≡ interval
         → limit_of_line resources periods (r ∷ t ∷ rest)
         ≡ (if not (length (r ∷ t ∷ rest) == limit_width (r ∷ t ∷ rest)) then Err Fields
-        else (first_by (whole_in resources) (r ∷ t ∷ rest) >>= λ r. first_by (whole_in periods) r.1 >>= λ t. bound_in t.1
+        else (first_by (below_in resources) (r ∷ t ∷ rest) >>= λ r. first_by (below_in periods) r.1 >>= λ t. bound_in t.1
         >>= λ bound. Ok (record { resource = r.0; period = t.0; bound = bound })))
     by true e =
         rw e (tested true e (length (r ∷ t ∷ rest) == 5) (λ c. (let all = eqb-true (length (r ∷ t ∷ rest)) 5 c in omega (arith, all))))

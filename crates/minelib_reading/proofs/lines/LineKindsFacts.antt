@@ -10,8 +10,10 @@ use Rattle.text_lines.specs.LineKinds.{text_kind, text_kinds}
 use Rattle.text_lines.specs.TextLines.{fields_of}
 use Rattle.text_lines.specs.declared.text_fault.TextKind.{TextKind}
 use Rattle.text_lines.specs.declared.text_fault.TextKind.TheVariants as kind
-use Rattle.minelib_reading.specs.ModelLines.{ModelDraftView, is_next, is_ready, section_line}
-use Rattle.minelib_reading.specs.PrecLines.{all_differ, preds_form, preds_of, preds_shape, stands_in}
+use Rattle.minelib_reading.specs.ModelDraft.{ModelDraftView, is_next, is_ready}
+use Rattle.minelib_reading.specs.shapes.ModelLines.{section_line}
+use Rattle.minelib_reading.specs.PrecText.{all_differ, stands_in}
+use Rattle.minelib_reading.specs.shapes.PrecLines.{preds_form, preds_of, preds_shape}
 use Rattle.minelib_reading.specs.declared.model.key.Section.{Section}
 use Rattle.minelib_reading.proofs.lines.PrecLineFacts.{fine, parts}
 use Rattle.minelib_reading.proofs.lines.PrecTests.{passed_preds, preds_pass}

@@ -6,7 +6,8 @@ use Rattle.pit_parts.specs.declared.limit.Limit.{Limit}
 use Rattle.mine_instance.specs.declared.coefs.coef.Coef.{Coef}
 use Rattle.text_lines.specs.TextLines.{Line}
 use Rattle.minelib_lines.specs.declared.problem.Problem.{Problem}
-use Rattle.minelib_reading.specs.ModelLines.{ModelDraftView, model_grammar, model_line}
+use Rattle.minelib_reading.specs.ModelDraft.{ModelDraftView}
+use Rattle.minelib_reading.specs.shapes.ModelLines.{model_grammar, model_line}
 use Rattle.minelib_reading.specs.declared.model.key.Header.{Header}
 use Rattle.minelib_reading.specs.declared.model.key.Section.{Section}
 use Rattle.minelib_reading.specs.declared.model.key.Section.TheVariants.{Heading}

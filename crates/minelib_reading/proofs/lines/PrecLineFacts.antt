@@ -8,7 +8,8 @@ use Rattle.forms.proofs.NumberFields.{quotient, whole_fits, whole_found}
 use Rattle.forms.specs.Words.{Value, below, whole, whole_at, whole_stated, Fit, is_fine, Spell, written, check, States}
 use Rattle.mine_instance.specs.Valid.{ArePredsOf}
 use Rattle.minelib_lines.specs.LineValues.{preds_values}
-use Rattle.minelib_reading.specs.PrecLines.{all_differ, preds_form, preds_of, preds_shape, stands_in}
+use Rattle.minelib_reading.specs.PrecText.{all_differ, stands_in}
+use Rattle.minelib_reading.specs.shapes.PrecLines.{preds_form, preds_of, preds_shape}
 use Rattle.text_lines.specs.TextLines.{fields_of}
 use Rattle.text_lines.specs.declared.text_fault.TextKind.TheVariants.{Order, Count, Twice}
 use Rattle.minelib_reading.proofs.lines.PrecTests.{passed_preds, preds_pass}

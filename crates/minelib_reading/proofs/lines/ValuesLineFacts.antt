@@ -10,14 +10,15 @@ use Rattle.forms.specs.Words.{Value, Millionths, Bytes, below, millionths, whole
 use Rattle.pit_units.specs.DecimalRange.{IsInDecimalRange}
 use Rattle.pit_units.specs.declared.or_memory.OrMemory.{OrMemory}
 use Rattle.pit_units.specs.declared.or_memory.OrMemory.TheVariants.{Fault, OutOfMemory}
-use Rattle.text_lines.specs.FieldValues.{all_by, decimal_in, first_by, whole_in}
+use Rattle.text_lines.specs.FieldValues.{all_by, first_by}
+use Rattle.text_lines.specs.StatedFields.{decimal_in, below_in}
 use Rattle.text_lines.specs.LineKinds.{kind_by, text_kinds}
 use Rattle.text_lines.specs.inner.Taken.{AdmitsCounted}
 use Rattle.text_lines.specs.declared.text_fault.TextKind.{TextKind}
 use Rattle.text_lines.specs.declared.text_fault.TextKind.TheVariants.{Order}
 use Rattle.text_lines.proofs.FieldSteps.{first_step, said_of, whole_reads}
-use Rattle.minelib_reading.specs.Fields.{any}
-use Rattle.minelib_reading.specs.ItemForms.{row_said, values_form}
+use Rattle.minelib_reading.specs.shapes.Fields.{any}
+use Rattle.minelib_reading.specs.shapes.ItemForms.{row_said, values_form}
 use Rattle.minelib_reading.specs.inner.ModelParts.{values_of_line, values_said}
 use Rattle.minelib_lines.specs.LineValues.{values_values}
 use Rattle.minelib_reading.proofs.lines.FormFields.{ArePlain, any_fits, any_reads, whole_itself}
@@ -53,7 +54,7 @@ row_width zero [] fit = refl
 row_width (suc k) (v ∷ values) fit = ap suc (row_width k values fit.1)
 row_width k values fit = absurd fit
 
-values_width : (n destinations : ℕ) → length (values_form n destinations) ≡ destinations + 1
+pub values_width : (n destinations : ℕ) → length (values_form n destinations) ≡ destinations + 1
 values_width n destinations = omega (arith, length-replicate destinations any)
 
 -- decimals one by one, as the code reads them
@@ -79,7 +80,7 @@ many_step k done fields next said count same = absurd (omega (arith, count))
 -- the fields one by one, as the code reads them
 abbrev pub uncounted_values : ℕ → ℕ → List (List ℕ) → Result (List ℤ) TextKind
 uncounted_values n before fields =
-    first_by (whole_in n) fields >>= λ b. all_by decimal_in [] b.1 >>= λ values. if not (b.0 == before) then Err Order else Ok values
+    first_by (below_in n) fields >>= λ b. all_by decimal_in [] b.1 >>= λ values. if not (b.0 == before) then Err Order else Ok values
 
 pub values_counted : (n destinations before : ℕ) (fields : List (List ℕ)) → length fields ≡ destinations + 1
     → values_of_line n destinations before fields ≡ uncounted_values n before fields
@@ -88,7 +89,7 @@ values_counted n destinations before [] count = absurd (omega (arith, count))
 values_counted n destinations before (field ∷ fields) count =
     ap (λ r. r >>= values_said before)
     (counted text_kinds (values_form n destinations) (field ∷ fields) (count ∙ sym (values_width n destinations)))
-    ∙ sym (first_step (below n) (replicate destinations any) (whole_in n) whole field fields _ _ (whole_reads n) (λ b.
+    ∙ sym (first_step (below n) (replicate destinations any) (below_in n) whole field fields _ _ (whole_reads n) (λ b.
     many_step destinations [] fields _ _ (omega (arith, count)) (λ vs. rw (quotient b, many_again vs) refl)))
 
 pub values_admitted : {A : Type 0} (n destinations before : ℕ) (fields : List (List ℕ)) (row : List ℤ) (r : Result A (OrMemory TextKind))

@@ -18,9 +18,10 @@ use Rattle.minelib_lines.specs.LineValues.{bound_values, coef_values, limit_valu
 use Rattle.minelib_lines.specs.declared.problem.Problem.{Problem}
 use Rattle.minelib_lines.specs.declared.problem.Problem.TheVariants.{Pcpsp, Cpit}
 use Rattle.minelib_reading.specs.Denotes.{Denotes, DenotesCpit, cpit_denoted, cpit_read}
-use Rattle.minelib_reading.specs.Fields.{any}
-use Rattle.minelib_reading.specs.ItemForms.{bound_form, coef_form, limit_form, values_form}
-use Rattle.minelib_reading.specs.ModelLines.{ModelDraftView, model_in}
+use Rattle.minelib_reading.specs.shapes.Fields.{any}
+use Rattle.minelib_reading.specs.shapes.ItemForms.{bound_form, coef_form, limit_form, values_form}
+use Rattle.minelib_reading.specs.ModelDraft.{ModelDraftView}
+use Rattle.minelib_reading.specs.ModelText.{model_in}
 use Rattle.minelib_reading.specs.StatedModel.{StatedModel, alone, model_of, model_of_cpit}
 use Rattle.minelib_reading.specs.spelled.SpelledModel.{AreModelLines, SpellCoef, SpellLimit, SpellValues}
 use Rattle.text_lines.specs.TextLines.{Line, fields_of, lines_in}

@@ -6,7 +6,7 @@ use Rattle.std.proofs.lemmas.List.Elements.{All-from_get_or}
 use Rattle.std.proofs.lemmas.List.Folds.{list_any_at, list_any_none}
 use Rattle.std.proofs.lemmas.List.Quantifiers.{position-Some}
 use Rattle.std.proofs.lemmas.List.Sums.{fails_before_first}
-use Rattle.minelib_reading.specs.ModelLines.{key_in, key_of}
+use Rattle.minelib_reading.specs.ModelKeys.{key_in, key_of}
 use Rattle.minelib_reading.specs.inner.ModelParts.{only_value}
 use Rattle.minelib_lines.specs.declared.problem.Problem.{Problem}
 use Rattle.text_lines.specs.declared.text_fault.TextKind.{TextKind}

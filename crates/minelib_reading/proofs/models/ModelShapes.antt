@@ -7,11 +7,14 @@ use Rattle.forms.specs.Words.{Value, Bytes, millionths, whole_at, whole_stated, 
 use Rattle.pit_parts.specs.Name.{is_name}
 use Rattle.pit_parts.specs.PlanKept.{is_turned, stands_before}
 use Rattle.mine_instance.specs.Order.{coef_before}
-use Rattle.minelib_reading.specs.HeaderNumbers.{count_in, is_given, with_key, number_said}
-use Rattle.minelib_reading.specs.ItemForms.{coef_form, coef_said, limit_form, limit_said, row_said, values_form}
-use Rattle.minelib_lines.specs.HeaderTable.{field_of, has_key, key_word}
+use Rattle.minelib_reading.specs.HeaderNumbers.{count_in, is_given, with_key}
+use Rattle.minelib_reading.specs.shapes.ModelLines.{number_said, coef_line, first_of, header_line, is_counted, item_line, keyed_line, limit_line, model_grammar, model_line, section_line, stray_line, values_line}
+use Rattle.minelib_reading.specs.shapes.ItemForms.{coef_form, coef_said, limit_form, limit_said, row_said, values_form}
+use Rattle.minelib_lines.specs.HeaderTable.{field_of}
+use Rattle.minelib_lines.specs.HeaderKeys.{has_key, key_word}
 use Rattle.text_lines.specs.LineKinds.{text_kind, text_kinds}
-use Rattle.minelib_reading.specs.ModelLines.{ModelDraftView, coef_line, first_of, header_line, is_behind, is_colon, is_counted, is_heading, is_next, is_ready, item_line, key_of, keyed_line, last_of, limit_line, model_grammar, model_line, name_with, section_line, stray_line, values_line}
+use Rattle.minelib_reading.specs.ModelDraft.{ModelDraftView, is_behind, is_heading, is_next, is_ready, last_of, name_with}
+use Rattle.minelib_reading.specs.ModelKeys.{is_colon, key_of, section_text}
 use Rattle.minelib_reading.specs.inner.ModelParts.{admit_model, coef_of_line, limit_of_line, number_in, number_with, only_value, takes, values_of_line, values_said}
 use Rattle.text_lines.specs.Reading.{at_line, read_lines}
 use Rattle.text_lines.specs.TextLines.{Line, fields_of}
@@ -24,7 +27,7 @@ use Rattle.minelib_reading.specs.declared.model.key.Section.{Section}
 use Rattle.minelib_reading.specs.declared.model.key.Section.TheVariants.{Heading, Objective, Coefs, Limits}
 use Rattle.text_lines.specs.declared.text_fault.TextKind.{TextKind}
 use Rattle.text_lines.specs.declared.text_fault.TextKind.TheVariants.{Fields, Order, Count, Name, Twice, Key, Missing}
-use Rattle.minelib_reading.specs.spelled.SpelledKeys.{IsKeyLine, section_text}
+use Rattle.minelib_reading.specs.spelled.SpelledKeys.{IsKeyLine}
 use Rattle.minelib_reading.proofs.lines.CoefLineFacts.{coef_fine, coef_plain}
 use Rattle.minelib_reading.proofs.keys.KeyLines.{key_found, key_line}
 use Rattle.minelib_reading.proofs.lines.LimitLineFacts.{limit_fine, bound_plain}

@@ -12,13 +12,15 @@ use Rattle.pit_parts.specs.PlanKept.{is_turned, stands_before}
 use Rattle.mine_instance.specs.Order.{coef_before}
 use Rattle.mine_instance.specs.declared.coefs.coef.Coef.{Coef}
 use Rattle.text_lines.specs.declared.text_fault.TextKind.TheVariants.{Order, Count, Twice, Key, Missing}
-use Rattle.minelib_lines.specs.HeaderTable.{field_of, key_value, type_text}
+use Rattle.minelib_lines.specs.HeaderTable.{field_of, key_value}
+use Rattle.minelib_lines.specs.HeaderKeys.{type_text}
 use Rattle.minelib_lines.specs.LineValues.{coef_values, limit_values, values_values}
 use Rattle.minelib_lines.specs.declared.problem.Problem.{Problem}
-use Rattle.minelib_reading.specs.HeaderNumbers.{count_in, is_given, with_key, number_said}
-use Rattle.minelib_reading.specs.ItemForms.{coef_form, coef_said, limit_form, limit_said, row_said, values_form}
-use Rattle.minelib_reading.specs.ModelLines.{ModelDraftView, coef_line, first_of, header_line, is_behind, is_counted, is_heading, is_next, is_ready, last_of, limit_line, name_with, section_line, stray_line, values_line}
-use Rattle.minelib_reading.specs.ModelStates.{header_stated}
+use Rattle.minelib_reading.specs.HeaderNumbers.{count_in, is_given, with_key}
+use Rattle.minelib_reading.specs.shapes.ModelLines.{number_said, coef_line, first_of, header_line, is_counted, limit_line, section_line, stray_line, values_line}
+use Rattle.minelib_reading.specs.shapes.ItemForms.{coef_form, coef_said, limit_form, limit_said, row_said, values_form}
+use Rattle.minelib_reading.specs.ModelDraft.{ModelDraftView, is_behind, is_heading, is_next, is_ready, last_of, name_with}
+use Rattle.minelib_reading.specs.shapes.ModelStates.{header_stated}
 use Rattle.minelib_reading.specs.spelled.SpelledModel.{SpellCoef, SpellLimit, SpellValues}
 use Rattle.minelib_reading.specs.declared.model.key.Header.{Header}
 use Rattle.minelib_lines.specs.declared.header_key.HeaderKey.{HeaderKey}

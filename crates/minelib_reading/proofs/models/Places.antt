@@ -3,7 +3,7 @@ use Rattle.std.proofs.Common.{◌≡◌, ◌-◌, ◌<◌, Bool, true, List, [],
 use Rattle.std.specs.Prelude.{All, AllPairs, IsTrue, ℕ}
 use Rattle.std.proofs.lemmas.List.{get_or_at, get_or_append_left}
 use Rattle.std.proofs.lemmas.Option.{slice_get-get_or}
-use Rattle.minelib_reading.specs.ModelLines.{last_of, is_behind}
+use Rattle.minelib_reading.specs.ModelDraft.{last_of, is_behind}
 use Rattle.std.proofs.lemmas.Bool.{cases_lt}
 use Rattle.std.proofs.lemmas.List.Quantifiers.{all_pairs_push}
 

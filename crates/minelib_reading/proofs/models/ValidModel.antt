@@ -9,13 +9,14 @@ use Rattle.pit_parts.specs.Name.{is_name}
 use Rattle.pit_parts.specs.PlanKept.{is_turned}
 use Rattle.pit_parts.specs.declared.ranges.TheConstants.{MAX_DESTINATIONS, MAX_PERIODS, MAX_RESOURCES}
 use Rattle.mine_instance.specs.Valid.{AreCoefs, AreLimits, HasDestinations, IsHorizon}
-use Rattle.minelib_lines.specs.HeaderTable.{field_of, has_key, key_value, type_text}
+use Rattle.minelib_lines.specs.HeaderTable.{field_of, key_value}
+use Rattle.minelib_lines.specs.HeaderKeys.{has_key, type_text}
 use Rattle.minelib_lines.specs.LineValues.{StatedHeader, coef_values, limit_values, values_values}
 use Rattle.minelib_lines.specs.declared.header_key.HeaderKey.{HeaderKey}
 use Rattle.minelib_lines.specs.declared.header_key.HeaderKey.TheVariants as key
 use Rattle.minelib_lines.specs.declared.problem.Problem.{Problem}
 use Rattle.minelib_lines.specs.declared.problem.Problem.TheVariants.{Pcpsp, Cpit}
-use Rattle.minelib_reading.specs.ItemForms.{coef_form, limit_form, values_form}
+use Rattle.minelib_reading.specs.shapes.ItemForms.{coef_form, limit_form, values_form}
 use Rattle.minelib_reading.specs.spelled.SpelledModel.{AreHeaderLines, AreModelLines, IsHeaderLine, IsSingle, SpellCoef, SpellLimit, SpellValues}
 use Rattle.minelib_reading.specs.StatedModel.{StatedModel}
 use Rattle.text_lines.specs.TextLines.{Line, fields_of}

@@ -6,11 +6,13 @@ use Rattle.mine_instance.specs.cpit.Cpit.{CpitParts}
 use Rattle.mine_instance.specs.cpit.CpitKept.{IsCpit}
 use Rattle.mine_instance.specs.Valid.{AreCoefs, ArePredsOf, IsValid}
 use Rattle.mine_instance.specs.Instance.{Instance}
-use Rattle.minelib_reading.specs.BlockLines.{block_form, blocks_in}
+use Rattle.minelib_reading.specs.shapes.BlockLines.{block_form}
+use Rattle.minelib_reading.specs.BlockText.{blocks_in}
 use Rattle.minelib_reading.specs.Denotes.{Denotes, cpit_read, cpit_denoted, DenotesCpit}
-use Rattle.minelib_reading.specs.ModelLines.{ModelDraftView, model_in}
-use Rattle.minelib_reading.specs.PrecLines.{preds_form}
-use Rattle.minelib_reading.specs.ModelStates.{stated_by}
+use Rattle.minelib_reading.specs.ModelDraft.{ModelDraftView}
+use Rattle.minelib_reading.specs.ModelText.{model_in}
+use Rattle.minelib_reading.specs.shapes.PrecLines.{preds_form}
+use Rattle.minelib_reading.specs.shapes.ModelStates.{stated_by}
 use Rattle.minelib_reading.specs.spelled.SpelledTexts.{SpellBlocks, SpellCpit}
 use Rattle.minelib_reading.specs.StatedModel.{alone, model_of, model_of_cpit}
 use Rattle.minelib_lines.specs.LineValues.{block_values, preds_values}

@@ -11,11 +11,15 @@ use Rattle.mine_instance.specs.Valid.{ArePredsOf}
 use Rattle.pit_parts.specs.declared.block.Block.{Block}
 use Rattle.minelib_lines.specs.LineValues.{block_values, preds_values}
 use Rattle.mine_instance.specs.Instance.{Instance}
-use Rattle.minelib_reading.specs.BlockLines.{block_form, block_grammar, block_shape, blocks_in}
+use Rattle.minelib_reading.specs.shapes.BlockLines.{block_form, block_grammar, block_shape}
+use Rattle.minelib_reading.specs.BlockText.{blocks_in}
 use Rattle.minelib_reading.specs.Denotes.{instance_read, denoted, Denotes, cpit_read, cpit_denoted, DenotesCpit}
-use Rattle.minelib_reading.specs.ModelLines.{ModelDraftView, blank_model, is_whole, model_grammar, model_in}
-use Rattle.minelib_reading.specs.ModelStates.{StateModel, stated_by}
-use Rattle.minelib_reading.specs.PrecLines.{prec_grammar, preds_form, preds_in, preds_shape}
+use Rattle.minelib_reading.specs.ModelDraft.{ModelDraftView, blank_model, is_whole}
+use Rattle.minelib_reading.specs.shapes.ModelLines.{model_grammar}
+use Rattle.minelib_reading.specs.ModelText.{model_in}
+use Rattle.minelib_reading.specs.shapes.ModelStates.{StateModel, stated_by}
+use Rattle.minelib_reading.specs.shapes.PrecLines.{prec_grammar, preds_form, preds_shape}
+use Rattle.minelib_reading.specs.PrecText.{preds_in}
 use Rattle.text_lines.specs.Reading.{in_file}
 use Rattle.minelib_reading.specs.HeaderNumbers.{count_in}
 use Rattle.minelib_reading.specs.spelled.SpelledModel.{AreModelLines}
@@ -31,6 +35,7 @@ use Rattle.minelib_reading.proofs.models.ModelShapes.{all_fine}
 use Rattle.minelib_reading.proofs.lines.PrecLineFacts.{preds_back, preds_line}
 use Rattle.minelib_reading.proofs.lines.ItemLines.{items_spelled, spelled_items}
 use Rattle.text_lines.proofs.ReadSteps.{bind_then, same_ok, in_file_ok}
+use Rattle.minelib_reading.proofs.plain.TextForms.{models_are}
 use Rattle.minelib_reading.proofs.spelled.SpelledModelBack.{spelled_stated}
 use Rattle.minelib_reading.proofs.spelled.SpelledModelRead.{stated_spelled}
 use Rattle.minelib_reading.proofs.models.ValidModel.{spelled_model}
@@ -39,11 +44,12 @@ use Rattle.minelib_reading.proofs.spelled.SpelledRead.{blocks_back, blocks_spell
 -- what is read the lines state by the grammar, and what they state is read
 pub model_states : (problem : Problem) (n : ℕ) (text : List ℕ) (d : ModelDraftView) → model_in problem n text ≡ Ok d
     → StateModel problem n (lines_in text) d
-model_states problem n text d e = finished_states model_grammar all_fine (blank_model problem n) (lines_in text) is_whole _ d e
+model_states problem n text d e = finished_states model_grammar all_fine (blank_model problem n) (lines_in text) is_whole _ d (sym (models_are problem n text) ∙ e)
 
 pub states_back : (problem : Problem) (n : ℕ) (text : List ℕ) (d : ModelDraftView) → StateModel problem n (lines_in text) d
     → model_in problem n text ≡ Ok d
-states_back problem n text d are = states_finished model_grammar all_fine (blank_model problem n) (lines_in text) is_whole _ d are.0 are.1
+states_back problem n text d are =
+    models_are problem n text ∙ states_finished model_grammar all_fine (blank_model problem n) (lines_in text) is_whole _ d are.0 are.1
 
 -- so they spell what is read, and what they spell is read
 pub model_spelled : (problem : Problem) (n : ℕ) (text : List ℕ) (d : ModelDraftView) → model_in problem n text ≡ Ok d

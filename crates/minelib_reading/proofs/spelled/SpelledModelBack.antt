@@ -12,15 +12,18 @@ use Rattle.mine_instance.specs.Order.{coef_before}
 use Rattle.mine_instance.specs.declared.coefs.coef.Coef.{Coef}
 use Rattle.text_lines.specs.TextLines.{Line, fields_of}
 use Rattle.text_lines.specs.declared.text_fault.TextKind.TheVariants.{Count, Twice, Key, Missing}
-use Rattle.minelib_lines.specs.HeaderTable.{has_key, key_value, key_word, type_text}
+use Rattle.minelib_lines.specs.HeaderKeys.{has_key, key_word, type_text}
+use Rattle.minelib_lines.specs.HeaderTable.{key_value}
 use Rattle.minelib_lines.specs.LineValues.{StatedHeader, coef_values, limit_values, values_values}
 use Rattle.minelib_lines.specs.declared.problem.Problem.{Problem}
 use Rattle.minelib_lines.specs.declared.problem.Problem.TheVariants.{Pcpsp, Cpit}
-use Rattle.minelib_reading.specs.HeaderNumbers.{count_in, is_complete, is_given, number_of, with_key, number_said}
-use Rattle.minelib_reading.specs.ItemForms.{coef_form, limit_form, values_form}
-use Rattle.minelib_reading.specs.ModelLines.{ModelDraftView, blank_header, blank_model, header_line, is_behind, is_counted, is_heading, is_next, is_ready, item_line, last_of, model_grammar, model_line, name_with, section_line}
-use Rattle.minelib_reading.specs.ModelStates.{StateModel, header_stated, stated_by}
-use Rattle.minelib_reading.specs.spelled.SpelledKeys.{IsKeyLine, section_text}
+use Rattle.minelib_reading.specs.HeaderNumbers.{count_in, is_complete, is_given, number_of, with_key}
+use Rattle.minelib_reading.specs.shapes.ModelLines.{number_said, header_line, is_counted, item_line, model_grammar, model_line, section_line}
+use Rattle.minelib_reading.specs.shapes.ItemForms.{coef_form, limit_form, values_form}
+use Rattle.minelib_reading.specs.ModelDraft.{ModelDraftView, blank_header, blank_model, is_behind, is_heading, is_next, is_ready, last_of, name_with}
+use Rattle.minelib_reading.specs.shapes.ModelStates.{StateModel, header_stated, stated_by}
+use Rattle.minelib_reading.specs.spelled.SpelledKeys.{IsKeyLine}
+use Rattle.minelib_reading.specs.ModelKeys.{section_text}
 use Rattle.minelib_reading.specs.spelled.SpelledLines.{AreLines}
 use Rattle.minelib_reading.specs.spelled.SpelledModel.{AreHeaderLines, AreModelLines, IsHeaderLine, IsSingle, SpellCoef, SpellLimit, SpellValues}
 use Rattle.minelib_reading.specs.StatedModel.{StatedModel}

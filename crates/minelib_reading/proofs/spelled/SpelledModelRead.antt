@@ -12,12 +12,15 @@ use Rattle.mine_instance.specs.declared.coefs.coef.Coef.{Coef}
 use Rattle.text_lines.specs.TextLines.{Line, fields_of}
 use Rattle.minelib_lines.specs.declared.problem.Problem.{Problem}
 use Rattle.minelib_reading.specs.HeaderNumbers.{count_in, is_complete}
-use Rattle.minelib_reading.specs.ModelLines.{ModelDraftView, blank_model, coef_line, header_line, is_heading, is_limits, is_ready, limit_line, model_grammar, model_line, section_line, values_line}
-use Rattle.minelib_reading.specs.ModelStates.{StateModel, header_stated, stated_by}
-use Rattle.minelib_lines.specs.HeaderTable.{field_of, has_key, key_value, key_word, type_text}
+use Rattle.minelib_reading.specs.ModelDraft.{ModelDraftView, blank_model, is_heading, is_limits, is_ready}
+use Rattle.minelib_reading.specs.shapes.ModelLines.{coef_line, header_line, limit_line, model_grammar, model_line, section_line, values_line}
+use Rattle.minelib_reading.specs.shapes.ModelStates.{StateModel, header_stated, stated_by}
+use Rattle.minelib_lines.specs.HeaderTable.{field_of, key_value}
+use Rattle.minelib_lines.specs.HeaderKeys.{has_key, key_word, type_text}
 use Rattle.minelib_lines.specs.LineValues.{values_values}
-use Rattle.minelib_reading.specs.ItemForms.{values_form}
-use Rattle.minelib_reading.specs.spelled.SpelledKeys.{IsKeyLine, section_text}
+use Rattle.minelib_reading.specs.shapes.ItemForms.{values_form}
+use Rattle.minelib_reading.specs.spelled.SpelledKeys.{IsKeyLine}
+use Rattle.minelib_reading.specs.ModelKeys.{section_text}
 use Rattle.minelib_reading.specs.spelled.SpelledLines.{AreLines}
 use Rattle.minelib_reading.specs.spelled.SpelledModel.{AreModelLines, SpellCoef, SpellLimit, SpellValues}
 use Rattle.minelib_lines.specs.declared.header_key.HeaderKey.{HeaderKey}

@@ -2,8 +2,8 @@
 use Rattle.std.specs.Prelude.{ℕ, List, [], ◌∷◌, ◌++◌, length, Result, Ok}
 use Rattle.forms.specs.Words.{read_fields, Shape, failing, said, unless, ◌>>=◌}
 use Rattle.pit_parts.specs.declared.block.Block.{Block}
-use Rattle.minelib_reading.specs.BlockLines.{block_shape}
-use Rattle.minelib_reading.specs.PrecLines.{preds_shape}
+use Rattle.minelib_reading.specs.shapes.BlockLines.{block_shape}
+use Rattle.minelib_reading.specs.shapes.PrecLines.{preds_shape}
 use Rattle.text_lines.specs.declared.text_fault.TextKind.{TextKind}
 
 -- what a shape states, its texts read before they are counted

@@ -1,7 +1,7 @@
 -- What a model file that is being read keeps.
 use Rattle.std.specs.Prelude.{◌≡◌, ◌<◌, ◌≤◌, true, ℕ, ℤ, List, [], length, All}
 use Rattle.minelib_reading.specs.HeaderNumbers.{count_in}
-use Rattle.minelib_reading.specs.ModelLines.{is_heading}
+use Rattle.minelib_reading.specs.ModelDraft.{is_heading}
 use Rattle.minelib_reading.specs.declared.model.key.Header.{Header}
 use Rattle.minelib_reading.specs.declared.model.key.Section.{Section}
 use Rattle.minelib_reading.specs.inner.ModelParts.{number_limit}

@@ -5,10 +5,11 @@ use Rattle.forms.specs.Words.{Field, Value, millionths, whole_at, read, read_fie
 use Rattle.pit_parts.specs.Name.{is_name}
 use Rattle.pit_parts.specs.declared.limit.Limit.{Limit}
 use Rattle.mine_instance.specs.declared.coefs.coef.Coef.{Coef}
-use Rattle.minelib_reading.specs.ItemForms.{coef_form, coef_said, limit_form, limit_said, row_said, values_form}
+use Rattle.minelib_reading.specs.shapes.ItemForms.{coef_form, coef_said, limit_form, limit_said, row_said, values_form}
 use Rattle.minelib_lines.specs.HeaderTable.{field_of}
 use Rattle.text_lines.specs.LineKinds.{text_kind, text_kinds}
-use Rattle.minelib_reading.specs.ModelLines.{ModelDraftView, model_line}
+use Rattle.minelib_reading.specs.ModelDraft.{ModelDraftView}
+use Rattle.minelib_reading.specs.shapes.ModelLines.{model_line}
 use Rattle.minelib_lines.specs.declared.header_key.HeaderKey.{HeaderKey}
 use Rattle.minelib_lines.specs.declared.header_key.HeaderKey.TheVariants as key
 use Rattle.minelib_lines.specs.declared.problem.Problem.{Problem}

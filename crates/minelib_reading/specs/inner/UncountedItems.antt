@@ -4,7 +4,8 @@ use Rattle.std.specs.Str.{bytes_eq}
 use Rattle.forms.specs.Words.{◌>>=◌}
 use Rattle.pit_parts.specs.declared.limit.Bound.{Bound}
 use Rattle.pit_parts.specs.declared.limit.Bound.TheVariants.{AtMost, AtLeast, Between}
-use Rattle.text_lines.specs.FieldValues.{first_by, decimal_in, whole_in}
+use Rattle.text_lines.specs.FieldValues.{first_by}
+use Rattle.text_lines.specs.StatedFields.{decimal_in, below_in}
 use Rattle.text_lines.specs.declared.text_fault.TextKind.{TextKind}
 use Rattle.text_lines.specs.declared.text_fault.TextKind.TheVariants.{Fields, Name}
 use Rattle.minelib_lines.specs.declared.problem.Problem.{Problem}
@@ -12,7 +13,7 @@ use Rattle.minelib_lines.specs.declared.problem.Problem.TheVariants.{Pcpsp, Cpit
 
 -- the destination of a coefficient, and the fields behind it; that of a CPIT stands for the only one
 abbrev pub destination_in : Problem → ℕ → List (List ℕ) → Result (ℕ × List (List ℕ)) TextKind
-destination_in Pcpsp destinations fields = first_by (whole_in destinations) fields
+destination_in Pcpsp destinations fields = first_by (below_in destinations) fields
 destination_in Cpit destinations fields = Ok (0, fields)
 
 -- an interval has a field more

@@ -10,12 +10,14 @@ use Rattle.mine_instance.specs.declared.coefs.coef.Coef.{Coef}
 use Rattle.text_lines.specs.TextLines.{Line, fields_of, lines_in, end_of}
 use Rattle.text_lines.specs.declared.text_fault.LineFault.{LineFault}
 use Rattle.text_lines.specs.declared.text_fault.TextKind.TheVariants.{Missing}
-use Rattle.minelib_lines.specs.HeaderTable.{field_of, has_key, key_value, key_word, type_text}
+use Rattle.minelib_lines.specs.HeaderTable.{field_of, key_value}
+use Rattle.minelib_lines.specs.HeaderKeys.{has_key, key_word, type_text}
 use Rattle.minelib_lines.specs.LineValues.{StatedHeader, coef_values, limit_values, values_values}
 use Rattle.minelib_lines.specs.declared.problem.Problem.{Problem}
 use Rattle.minelib_lines.specs.declared.problem.Problem.TheVariants.{Pcpsp, Cpit}
-use Rattle.minelib_reading.specs.ItemForms.{coef_form, limit_form, values_form}
-use Rattle.minelib_reading.specs.spelled.SpelledKeys.{IsKeyLine, section_text}
+use Rattle.minelib_reading.specs.shapes.ItemForms.{coef_form, limit_form, values_form}
+use Rattle.minelib_reading.specs.spelled.SpelledKeys.{IsKeyLine}
+use Rattle.minelib_reading.specs.ModelKeys.{section_text}
 use Rattle.minelib_reading.specs.spelled.SpelledLines.{AreLines}
 use Rattle.minelib_reading.specs.StatedModel.{StatedModel}
 use Rattle.minelib_lines.specs.declared.header_key.HeaderKey.{HeaderKey}

@@ -7,8 +7,8 @@ use Rattle.mine_instance.specs.cpit.Cpit.{CpitParts}
 use Rattle.mine_instance.specs.Valid.{ArePredsOf}
 use Rattle.mine_instance.specs.Instance.{Instance}
 use Rattle.minelib_lines.specs.LineValues.{block_values, preds_values}
-use Rattle.minelib_reading.specs.BlockLines.{block_form}
-use Rattle.minelib_reading.specs.PrecLines.{preds_form}
+use Rattle.minelib_reading.specs.shapes.BlockLines.{block_form}
+use Rattle.minelib_reading.specs.shapes.PrecLines.{preds_form}
 use Rattle.minelib_reading.specs.spelled.SpelledLines.{AreLines}
 use Rattle.minelib_reading.specs.spelled.SpelledModel.{AreModelLines}
 use Rattle.minelib_reading.specs.StatedModel.{model_of, model_of_cpit}

@@ -5,7 +5,10 @@ ghost use Rattle.std.specs.List.{list_any};
 ghost use Rattle.mine_instance.specs.cpit.CpitKept.{IsCpit};
 ghost use Rattle.minelib_reading.specs.Denotes.{cpit_read, instance_read};
 ghost use Rattle.minelib_reading.specs.HeaderNumbers.{count_in};
-ghost use Rattle.minelib_reading.specs.ModelLines.{blank_model, finish_model, header_line, is_colon, is_ready, is_whole, item_line, keyed_line, name_with, section_line};
+ghost use Rattle.minelib_reading.specs.ModelDraft.{blank_model, is_ready, is_whole, name_with};
+ghost use Rattle.minelib_reading.specs.ModelText.{finish_model};
+ghost use Rattle.minelib_reading.specs.shapes.ModelLines.{header_line, item_line, keyed_line, section_line};
+ghost use Rattle.minelib_reading.specs.ModelKeys.{is_colon};
 ghost use Rattle.minelib_reading.specs.inner.ModelParts.{admit_model, is_name_for, takes};
 ghost use Rattle.minelib_lines.specs.declared.header_key.HeaderKey.TheVariants as key;
 ghost use Rattle.minelib_reading.specs.declared.model.key.Section.TheVariants as Section;
@@ -56,7 +59,7 @@ pub struct ModelDraft<T: TakeItems> {
 
 impl<T: TakeItems> Model for ModelDraft<T> {
     ghost use Rattle.std.specs.Prelude.{[], unwrap_or};
-    ghost use Rattle.minelib_reading.specs.ModelLines.{ModelDraftView};
+    ghost use Rattle.minelib_reading.specs.ModelDraft.{ModelDraftView};
     ghost use Rattle.minelib_reading.specs.inner.ModelFields.{KeepsModel};
 
     ghost Value = { ModelDraftView };

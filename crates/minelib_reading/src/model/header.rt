@@ -3,7 +3,7 @@
 ghost use Rattle.std.specs.Prelude.{◌≡◌, ◌<◌, ◌≤◌, ◌∷◌, [], pos, true, IfOk};
 ghost use Rattle.forms.specs.Words.{Decimal, is_fine};
 ghost use Rattle.minelib_lines.specs.KeyParts.{field_in};
-ghost use Rattle.minelib_reading.specs.ModelLines.{blank_header};
+ghost use Rattle.minelib_reading.specs.ModelDraft.{blank_header};
 ghost use Rattle.minelib_reading.specs.inner.ModelParts.{is_name_for, millionths_in, number_in, number_limit, number_with};
 
 use crate::model::key::Header;

@@ -3,11 +3,12 @@
 ghost use Rattle.std.specs.Prelude.{◌≡◌, ◌≤◌, ◌<◌, ◌+◌, ◌∷◌, [], ℕ, length, drop, slice_index_or, IfOk, OnOk};
 ghost use Rattle.pit_parts.specs.PlanKept.{stands_before};
 ghost use Rattle.mine_instance.specs.Order.{coef_before};
-ghost use Rattle.text_lines.specs.FieldValues.{Takes, all_by, decimal_in, first_by};
-ghost use Rattle.minelib_reading.specs.ModelLines.{is_behind, last_of};
+ghost use Rattle.text_lines.specs.FieldValues.{Takes, all_by, first_by};
+ghost use Rattle.text_lines.specs.StatedFields.{decimal_in};
+ghost use Rattle.minelib_reading.specs.ModelDraft.{is_behind, last_of};
 ghost use Rattle.minelib_reading.specs.inner.ModelParts.{TakesFirst, uncounted_coef, coef_of_line, limit_of_line, values_of_line};
 ghost use Rattle.text_lines.specs.Reading.{Leaves};
-ghost use Rattle.minelib_reading.specs.ItemForms.{coef_form};
+ghost use Rattle.minelib_reading.specs.shapes.ItemForms.{coef_form};
 ghost use Rattle.text_lines.specs.TextLines.{fields_of};
 ghost use Rattle.text_lines.specs.inner.Taken.{AdmitsCounted};
 ghost use Rattle.minelib_reading.specs.inner.UncountedItems.{bound_in, destination_in, interval_in, limit_width};

@@ -3,8 +3,9 @@
 ghost use Rattle.std.specs.Prelude.{◌≡◌, true, false, position, MatchOption};
 ghost use Rattle.std.specs.List.{list_any, before_first, after_first, find};
 ghost use Rattle.std.specs.Str.{bytes_eq};
-ghost use Rattle.minelib_reading.specs.ModelLines.{is_colon, is_heading, is_limits, is_next, key_in, key_of, section_in};
-ghost use Rattle.minelib_lines.specs.HeaderTable.{key_word, keys_of};
+ghost use Rattle.minelib_reading.specs.ModelKeys.{is_colon, key_in, key_of, section_in};
+ghost use Rattle.minelib_reading.specs.ModelDraft.{is_heading, is_limits, is_next};
+ghost use Rattle.minelib_lines.specs.HeaderKeys.{key_word, keys_of};
 ghost use Rattle.minelib_reading.specs.inner.ModelParts.{StatesValue, only_value};
 ghost use Rattle.text_lines.specs.TextLines.{fields_of};
 

@@ -1,7 +1,7 @@
 //! Reading a model file.
 
 ghost use Rattle.std.specs.Prelude.{◌≤◌};
-ghost use Rattle.minelib_reading.specs.ModelLines.{model_in};
+ghost use Rattle.minelib_reading.specs.ModelText.{model_in};
 ghost use Rattle.pit_units.specs.OrMemory.{Gives};
 ghost use Rattle.pit_parts.specs.declared.ranges.TheConstants.{MAX_BLOCKS};
 
@@ -18,7 +18,7 @@ use text_lines::text_fault::LineFault;
 /// # Errors
 ///
 /// The first faulty line, or `OutOfMemory`.
-#[tactic(auto, using(crate::proofs::models::ModelShapes::lines_are_all))]
+#[tactic(auto, using(crate::proofs::plain::TextForms::lines_admitted))]
 pub fn read_model(
     alloc: Global,
     problem: Problem,

@@ -1,5 +1,6 @@
 use Rattle.std.proofs.Common.{◌≡◌, ◌≤◌, ◌+◌, ◌-◌, [], length}
-use Rattle.text_lines.specs.FieldValues.{all_by, decimal_in}
+use Rattle.text_lines.specs.FieldValues.{all_by}
+use Rattle.text_lines.specs.StatedFields.{decimal_in}
 use Rattle.text_lines.specs.TextLines.{fields_of}
 use Rattle.minelib_reading.proofs.model.items.read_decimals.Given as goal
 

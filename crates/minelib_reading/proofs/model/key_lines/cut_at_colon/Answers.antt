@@ -1,5 +1,5 @@
 use Rattle.std.proofs.Common.{sym, ◌∙◌, ap, drop, take, ◌+◌}
-use Rattle.minelib_reading.specs.ModelLines.{is_colon}
+use Rattle.minelib_reading.specs.ModelKeys.{is_colon}
 use Rattle.minelib_reading.proofs.models.ModelFacts.{place_found, place_not_found}
 use Rattle.minelib_reading.proofs.model.key_lines.cut_at_colon.Goals as goal
 

@@ -1,7 +1,7 @@
 use Rattle.std.proofs.Common.{◌≡◌, true, length}
 use Rattle.std.proofs.lemmas.List.Elements.{All-nil}
 use Rattle.minelib_reading.specs.HeaderNumbers.{count_in, with_key}
-use Rattle.minelib_reading.specs.ModelLines.{is_heading}
+use Rattle.minelib_reading.specs.ModelDraft.{is_heading}
 use Rattle.minelib_lines.specs.declared.header_key.HeaderKey.TheVariants as key
 use Rattle.minelib_reading.proofs.keys.HeaderFacts.{numbers_below}
 use Rattle.minelib_reading.proofs.model.draft.ModelDraft.admit_header.Goals as goal

@@ -4,7 +4,8 @@ use Rattle.forms.specs.Words.{AllState}
 use Rattle.text_lines.specs.TextLines.{Line}
 use Rattle.minelib_lines.specs.declared.problem.Problem.{Problem}
 use Rattle.minelib_reading.specs.HeaderNumbers.{count_in}
-use Rattle.minelib_reading.specs.ModelLines.{ModelDraftView, blank_model, is_whole, model_grammar}
+use Rattle.minelib_reading.specs.ModelDraft.{ModelDraftView, blank_model, is_whole}
+use Rattle.minelib_reading.specs.shapes.ModelLines.{model_grammar}
 use Rattle.minelib_lines.specs.LineValues.{StatedHeader}
 use Rattle.minelib_reading.specs.StatedModel.{StatedModel}
 use Rattle.minelib_reading.specs.declared.model.key.Header.{Header}

@@ -1,22 +1,13 @@
--- The predecessors that a precedence file states.
-use Rattle.std.specs.Prelude.{◌≡◌, ◌≢◌, ℕ, ◌==◌, ◌&&◌, not, Bool, true, List, [], ◌∷◌, ◌++◌, length, map, drop, Result, Ok, Err, if◌then◌else◌}
-use Rattle.std.specs.List.{list_any}
+-- The lines of a precedence file by their forms, for the laws that tell what is spelled.
+use Rattle.std.specs.Prelude.{◌≡◌, ◌≢◌, ℕ, ◌==◌, not, List, [], ◌∷◌, ◌++◌, length, map, drop, Result}
 use Rattle.forms.specs.Words.{Field, Value, below, whole_at, whole_stated, Grammar, read_all, AllState, Shape, check, ◌>>=◌}
+use Rattle.minelib_reading.specs.PrecText.{all_differ, finish_preds, lines_missing, stands_in}
 use Rattle.text_lines.specs.ItemGrammar.{items_grammar}
 use Rattle.text_lines.specs.LineKinds.{text_kinds}
 use Rattle.text_lines.specs.TextLines.{Line, end_of, fields_of, lines_in}
 use Rattle.text_lines.specs.declared.text_fault.LineFault.{LineFault}
 use Rattle.text_lines.specs.declared.text_fault.TextKind.{TextKind}
-use Rattle.text_lines.specs.declared.text_fault.TextKind.TheVariants.{Order, Count, Twice, Missing}
-
--- the number stands in the list
-abbrev pub stands_in : List ℕ → ℕ → Bool
-stands_in ids id = list_any (λ other. other == id) ids
-
--- no number stands twice
-abbrev pub all_differ : List ℕ → Bool
-all_differ [] = true
-all_differ (id ∷ ids) = not (stands_in ids id) && all_differ ids
+use Rattle.text_lines.specs.declared.text_fault.TextKind.TheVariants.{Order, Count, Twice}
 
 -- `id k p1 .. pk` of n blocks: two fields, and as many as stand behind them
 abbrev pub preds_form : ℕ → List (List ℕ) → List Field
@@ -46,17 +37,9 @@ preds_shape n own line = record {
 abbrev pub prec_grammar : ℕ → Grammar Line (List (List ℕ)) TextKind LineFault
 prec_grammar n = items_grammar (preds_shape n)
 
--- the fault of too few lines, or too many, at the line behind the last
-abbrev pub lines_missing : ℕ → LineFault
-lines_missing end = record { line = end; kind = Missing }
-
--- the lists once all lines are read: each of n blocks has one
-abbrev pub finish_preds : ℕ → ℕ → List (List ℕ) → Result (List (List ℕ)) LineFault
-finish_preds n end lists = if length lists == n then Ok lists else Err (lines_missing end)
-
--- the predecessors of a text, of n blocks, or its first faulty line
-abbrev pub preds_in : ℕ → List ℕ → Result (List (List ℕ)) LineFault
-preds_in n text = read_all (prec_grammar n) 1 [] (lines_in text) >>= finish_preds n (end_of text)
+-- the predecessors of a text by them, of n blocks, or its first faulty line
+abbrev pub preds_by_shapes : ℕ → List ℕ → Result (List (List ℕ)) LineFault
+preds_by_shapes n text = read_all (prec_grammar n) 1 [] (lines_in text) >>= finish_preds n (end_of text)
 
 -- all lines state predecessors, but not of so many blocks
 pub record LacksLines (n : ℕ) (text : List ℕ) (fault : LineFault) : Type 0 where

@@ -1,4 +1,4 @@
--- The blocks that a block file states.
+-- The lines of a block file by their forms, for the laws that tell what is spelled.
 use Rattle.std.specs.Prelude.{ℕ, ◌*◌, ◌/◌, ◌==◌, List, [], ◌∷◌, unsigned_abs, Result}
 use Rattle.forms.specs.Words.{Field, Value, below, number_at, up_to, whole_at, Grammar, read_all, Shape, check}
 use Rattle.pit_parts.specs.Block.{block_with}
@@ -39,6 +39,6 @@ block_shape before line = record {
 abbrev pub block_grammar : Grammar Line (List Block) TextKind LineFault
 block_grammar = items_grammar block_shape
 
--- the blocks of a text, or its first faulty line
-abbrev pub blocks_in : List ℕ → Result (List Block) LineFault
-blocks_in text = read_all block_grammar 1 [] (lines_in text)
+-- the blocks of a text by them, or its first faulty line
+abbrev pub blocks_by_shapes : List ℕ → Result (List Block) LineFault
+blocks_by_shapes text = read_all block_grammar 1 [] (lines_in text)

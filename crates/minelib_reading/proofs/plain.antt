@@ -1,0 +1,5 @@
+pub mod BlockForms
+pub mod ItemForms
+pub mod KeyForms
+pub mod PrecForms
+pub mod TextForms

@@ -1,0 +1,188 @@
+-- Lines of values, coefficients and limits, which are said outright, go by their forms.
+use Rattle.std.specs.Prelude.{◌≡◌, ℕ, ◌+◌, ◌==◌, not, Bool, true, false, List, [], ◌∷◌, length, drop, ℤ, codes, Result, Ok, Err, if◌then◌else◌}
+use Rattle.std.specs.Str.{bytes_eq}
+use Rattle.std.proofs.Common.{refl, sym, ◌∙◌, ap, arith}
+use Rattle.std.proofs.lemmas.Bool.{eqb-true}
+use Rattle.forms.specs.Words.{Millionths, below, whole, ◌>>=◌}
+use Rattle.pit_parts.specs.declared.limit.Bound.{Bound}
+use Rattle.pit_parts.specs.declared.limit.Bound.TheVariants.{AtMost, AtLeast, Between}
+use Rattle.pit_parts.specs.declared.limit.Limit.{Limit}
+use Rattle.minelib_lines.specs.declared.problem.Problem.{Problem}
+use Rattle.minelib_lines.specs.declared.problem.Problem.TheVariants.{Pcpsp, Cpit}
+use Rattle.minelib_reading.proofs.lines.CoefLineFacts.{said_again}
+use Rattle.minelib_reading.proofs.lines.FormFields.{any_reads}
+use Rattle.minelib_reading.proofs.lines.LimitLineFacts.{limit_same}
+use Rattle.minelib_reading.proofs.lines.ValuesLineFacts.{uncounted_values, values_counted, values_width}
+use Rattle.minelib_reading.specs.ModelText.{bound_stated, coef_stated, has_letter, limit_stated, values_stated}
+use Rattle.minelib_reading.specs.inner.ModelParts.{coef_of_line, limit_of_line, values_of_line}
+use Rattle.minelib_reading.specs.inner.UncountedItems.{bound_in, limit_width}
+use Rattle.minelib_reading.specs.shapes.Fields.{any}
+use Rattle.minelib_reading.specs.shapes.ItemForms.{coef_form}
+use Rattle.text_lines.proofs.FieldSteps.{all_each, count_step, end_step, place_step, whole_reads}
+use Rattle.text_lines.specs.FieldValues.{all_by, first_by}
+use Rattle.text_lines.specs.StatedFields.{below_in, decimal_in, each_in, field_at}
+use Rattle.text_lines.specs.declared.text_fault.TextKind.{TextKind}
+use Rattle.text_lines.specs.declared.text_fault.TextKind.TheVariants.{Fields, Name, Order}
+
+pub values_are_stated : (n destinations before : ℕ) (fields : List (List ℕ))
+    → values_stated n destinations before fields ≡ values_of_line n destinations before fields
+unfolding values_stated values_of_line
+values_are_stated n destinations before fields = by (length fields == destinations + 1) refl
+  where
+    ordered : ℕ → List ℤ → Result (List ℤ) TextKind
+    ordered b values = if not (b == before) then Err Order else Ok values
+
+    behind : ℕ × List (List ℕ) → Result (List ℤ) TextKind
+    behind b = all_by decimal_in [] b.1 >>= ordered b.0
+
+    steps : (fields : List (List ℕ)) → length fields ≡ destinations + 1
+        → (below_in n (field_at fields 0) >>= λ b. each_in decimal_in (drop 1 fields) >>= ordered b) ≡ uncounted_values n before fields
+    steps [] count = absurd (omega (arith, count))
+    steps (field ∷ rest) count = first (below_in n field)
+      where
+        pair : ℕ → Result (ℕ × List (List ℕ)) TextKind
+        pair b = Ok (b, rest)
+
+        first : (r : Result ℕ TextKind)
+            → (r >>= λ b. each_in decimal_in rest >>= ordered b) ≡ ((r >>= pair) >>= behind)
+        first (Ok b) = sym (all_each decimal_in [] rest (ordered b))
+        first (Err kind) = refl
+
+    by : (t : Bool) → (length fields == destinations + 1) ≡ t
+        → values_stated n destinations before fields ≡ values_of_line n destinations before fields
+    by true e =
+        let count = eqb-true (length fields) (destinations + 1) e in
+        rw e (steps fields count) ∙ sym (values_counted n destinations before fields count)
+    by false e = rw (values_width n destinations, e) refl
+
+pub coef_is_stated : (problem : Problem) (n destinations resources : ℕ) (fields : List (List ℕ))
+    → coef_stated problem n destinations resources fields ≡ coef_of_line problem n destinations resources fields
+unfolding coef_stated coef_of_line
+coef_is_stated Pcpsp n destinations resources fields =
+    count_step (coef_form Pcpsp n destinations resources) fields _ _ (
+    place_step (below n) _ (below_in n) whole _ _ _ _ (whole_reads n) (λ b.
+    place_step (below destinations) _ (below_in destinations) whole _ _ _ _ (whole_reads destinations) (λ d.
+    place_step (below resources) _ (below_in resources) whole _ _ _ _ (whole_reads resources) (λ r.
+    place_step any _ decimal_in Millionths _ _ _ _ any_reads (λ v.
+    end_step _ _ (ap Ok (sym (said_again Pcpsp (record { b = b; d = d; r = r; v = v }) tt))))))))
+coef_is_stated Cpit n destinations resources fields =
+    count_step (coef_form Cpit n destinations resources) fields _ _ (
+    place_step (below n) _ (below_in n) whole _ _ _ _ (whole_reads n) (λ b.
+    place_step (below resources) _ (below_in resources) whole _ _ _ _ (whole_reads resources) (λ r.
+    place_step any _ decimal_in Millionths _ _ _ _ any_reads (λ v.
+    end_step _ _ (ap Ok (sym (said_again Cpit (record { b = b; d = 0; r = r; v = v }) refl)))))))
+
+-- the bound of an interval's five fields, and of the four of another limit
+five_fields : (r t letter v w : List ℕ) → bound_stated (r ∷ t ∷ letter ∷ v ∷ w ∷ []) ≡ bound_in (letter ∷ v ∷ w ∷ [])
+five_fields r t letter v w =
+    by (bytes_eq letter (codes "L")) (bytes_eq letter (codes "G")) (bytes_eq letter (codes "I")) (decimal_in v) (decimal_in w) refl
+  where
+    pair : ℤ → Result (ℤ × List (List ℕ)) TextKind
+    pair m = Ok (m, w ∷ [])
+
+    last : ℤ → Result (ℤ × List (List ℕ)) TextKind
+    last m = Ok (m, [])
+
+    second : (v : ℤ) (r : Result ℤ TextKind) → (r >>= λ w. Ok (Between v w)) ≡ ((r >>= last) >>= λ w. Ok (Between v w.0))
+    second v (Ok w) = refl
+    second v (Err kind) = refl
+
+    by : (at_most at_least interval : Bool) (one other : Result ℤ TextKind) → other ≡ decimal_in w
+        → (if at_most then (one >>= λ v. Ok (AtMost v)) else (if at_least then (one >>= λ v. Ok (AtLeast v))
+        else (if interval then (one >>= λ v. other >>= λ w. Ok (Between v w)) else Err Name)))
+        ≡ (if at_most then ((one >>= pair) >>= λ v. Ok (AtMost v.0)) else (if at_least then ((one >>= pair) >>= λ v. Ok (AtLeast v.0))
+        else (if interval then ((one >>= pair) >>= λ v. first_by decimal_in v.1 >>= λ w. Ok (Between v.0 w.0)) else Err Name)))
+    by true at_least interval (Ok v) other e = refl
+    by true at_least interval (Err kind) other e = refl
+    by false true interval (Ok v) other e = refl
+    by false true interval (Err kind) other e = refl
+    by false false true (Ok v) other e = second v other ∙ ap (λ r. (r >>= last) >>= λ w. Ok (Between v w.0)) e
+    by false false true (Err kind) other e = refl
+    by false false false one other e = refl
+
+four_fields : (r t letter v : List ℕ) → bytes_eq letter (codes "I") ≡ false
+    → bound_stated (r ∷ t ∷ letter ∷ v ∷ []) ≡ bound_in (letter ∷ v ∷ [])
+four_fields r t letter v none = rw none (by (bytes_eq letter (codes "L")) (bytes_eq letter (codes "G")) (decimal_in v))
+  where
+    pair : ℤ → Result (ℤ × List (List ℕ)) TextKind
+    pair m = Ok (m, [])
+
+    by : (at_most at_least : Bool) (one : Result ℤ TextKind)
+        → (if at_most then (one >>= λ v. Ok (AtMost v)) else (if at_least then (one >>= λ v. Ok (AtLeast v)) else Err Name))
+        ≡ (if at_most then ((one >>= pair) >>= λ v. Ok (AtMost v.0)) else (if at_least then ((one >>= pair) >>= λ v. Ok (AtLeast v.0)) else Err Name))
+    by true at_least (Ok v) = refl
+    by true at_least (Err kind) = refl
+    by false true (Ok v) = refl
+    by false true (Err kind) = refl
+    by false false one = refl
+
+-- the fields of a limit at their places, and one by one
+abbrev placed : ℕ → ℕ → List (List ℕ) → Result Limit TextKind
+placed resources periods fields = do
+  resource ← below_in resources (field_at fields 0)
+  period ← below_in periods (field_at fields 1)
+  bound ← bound_stated fields
+  Ok (record { resource = resource; period = period; bound = bound })
+
+abbrev stepped : ℕ → ℕ → List (List ℕ) → Result Limit TextKind
+stepped resources periods fields =
+    first_by (below_in resources) fields >>= λ r. first_by (below_in periods) r.1 >>= λ t. bound_in t.1
+    >>= λ bound. Ok (record { resource = r.0; period = t.0; bound = bound })
+
+behind_two : (resources periods : ℕ) (r t : List ℕ) (rest : List (List ℕ)) → bound_stated (r ∷ t ∷ rest) ≡ bound_in rest
+    → placed resources periods (r ∷ t ∷ rest) ≡ stepped resources periods (r ∷ t ∷ rest)
+behind_two resources periods r t rest same = by (below_in resources r) (below_in periods t) refl
+  where
+    limit_with : ℕ → ℕ → Bound → Result Limit TextKind
+    limit_with resource period bound = Ok (record { resource = resource; period = period; bound = bound })
+
+    one : ℕ → Result (ℕ × List (List ℕ)) TextKind
+    one x = Ok (x, t ∷ rest)
+
+    two : ℕ → Result (ℕ × List (List ℕ)) TextKind
+    two x = Ok (x, rest)
+
+    bounded : ℕ → ℕ × List (List ℕ) → Result Limit TextKind
+    bounded resource t = bound_in t.1 >>= limit_with resource t.0
+
+    second : (resource : ℕ) (next : Result ℕ TextKind)
+        → (next >>= λ period. bound_stated (r ∷ t ∷ rest) >>= limit_with resource period) ≡ ((next >>= two) >>= bounded resource)
+    second resource (Ok period) = ap (λ bound. bound >>= limit_with resource period) same
+    second resource (Err kind) = refl
+
+    by : (first next : Result ℕ TextKind) → next ≡ below_in periods t
+        → (first >>= λ resource. next >>= λ period. bound_stated (r ∷ t ∷ rest) >>= limit_with resource period)
+        ≡ ((first >>= one) >>= λ r. first_by (below_in periods) r.1 >>= bounded r.0)
+    by (Ok resource) next e = second resource next ∙ ap (λ r. (r >>= two) >>= bounded resource) e
+    by (Err kind) next e = refl
+
+five : (resources periods : ℕ) (fields : List (List ℕ)) → length fields ≡ 5 → placed resources periods fields ≡ stepped resources periods fields
+five resources periods (r ∷ t ∷ letter ∷ v ∷ w ∷ []) count = behind_two resources periods r t (letter ∷ v ∷ w ∷ []) (five_fields r t letter v w)
+five resources periods fields count = absurd (omega (arith, count))
+
+four : (resources periods : ℕ) (fields : List (List ℕ)) → bytes_eq (field_at fields 2) (codes "I") ≡ false → length fields ≡ 4
+    → placed resources periods fields ≡ stepped resources periods fields
+four resources periods (r ∷ t ∷ letter ∷ v ∷ []) none count = behind_two resources periods r t (letter ∷ v ∷ []) (four_fields r t letter v none)
+four resources periods fields none count = absurd (omega (arith, count))
+
+pub limit_is_stated : (resources periods : ℕ) (fields : List (List ℕ))
+    → limit_stated resources periods fields ≡ limit_of_line resources periods fields
+unfolding limit_stated
+limit_is_stated resources periods fields =
+    by (bytes_eq (field_at fields 2) (codes "I")) refl ∙ sym (limit_same resources periods fields)
+  where
+    counted : (width : ℕ) → (length fields ≡ width → placed resources periods fields ≡ stepped resources periods fields)
+        → (if not (length fields == width) then Err Fields else placed resources periods fields)
+        ≡ (if not (length fields == width) then Err Fields else stepped resources periods fields)
+    counted width same = at (length fields == width) (eqb-true (length fields) width)
+      where
+        at : (t : Bool) → (t ≡ true → length fields ≡ width)
+            → (if not t then Err Fields else placed resources periods fields) ≡ (if not t then Err Fields else stepped resources periods fields)
+        at true count = same (count refl)
+        at false count = refl
+
+    by : (t : Bool) → bytes_eq (field_at fields 2) (codes "I") ≡ t
+        → (if not (length fields == (if t then 5 else 4)) then Err Fields else placed resources periods fields)
+        ≡ (if not (length fields == (if t then 5 else 4)) then Err Fields else stepped resources periods fields)
+    by true e = counted 5 (five resources periods fields)
+    by false e = counted 4 (four resources periods fields e)

@@ -1,0 +1,122 @@
+-- What a line of a model file states behind those before it, field by field, or the kind of its first fault; and what a file states.
+use Rattle.std.specs.Prelude.{ℕ, ◌+◌, ◌==◌, ◌||◌, not, Bool, List, [], ◌∷◌, ◌++◌, length, drop, ℤ, codes, Option, Some, None, Result, Ok, Err, if◌then◌else◌}
+use Rattle.std.specs.List.{list_any, before_first, after_first}
+use Rattle.std.specs.Str.{bytes_eq}
+use Rattle.forms.specs.Words.{◌>>=◌}
+use Rattle.pit_parts.specs.PlanKept.{is_turned, stands_before}
+use Rattle.pit_parts.specs.declared.limit.Bound.{Bound}
+use Rattle.pit_parts.specs.declared.limit.Bound.TheVariants.{AtMost, AtLeast, Between}
+use Rattle.pit_parts.specs.declared.limit.Limit.{Limit}
+use Rattle.mine_instance.specs.Order.{coef_before}
+use Rattle.mine_instance.specs.declared.coefs.coef.Coef.{Coef}
+use Rattle.minelib_lines.specs.declared.header_key.HeaderKey.{HeaderKey}
+use Rattle.minelib_lines.specs.declared.header_key.HeaderKey.TheVariants as key
+use Rattle.minelib_lines.specs.declared.problem.Problem.{Problem}
+use Rattle.minelib_lines.specs.declared.problem.Problem.TheVariants.{Pcpsp, Cpit}
+use Rattle.minelib_reading.specs.HeaderNumbers.{count_in, is_given, with_key}
+use Rattle.minelib_reading.specs.ModelDraft.{ModelDraftView, blank_model, is_behind, is_heading, is_next, is_ready, is_whole, last_of, name_with}
+use Rattle.minelib_reading.specs.ModelKeys.{is_colon, key_of, number_stated}
+use Rattle.minelib_reading.specs.declared.model.key.ModelKey.{ModelKey}
+use Rattle.minelib_reading.specs.declared.model.key.ModelKey.TheVariants as model_key
+use Rattle.minelib_reading.specs.declared.model.key.Section.{Section}
+use Rattle.minelib_reading.specs.declared.model.key.Section.TheVariants.{Heading, Objective, Coefs, Limits}
+use Rattle.text_lines.specs.Reading.{read_lines}
+use Rattle.text_lines.specs.StatedFields.{below_in, decimal_in, each_in, field_at}
+use Rattle.text_lines.specs.TextLines.{end_of, fields_of, lines_in}
+use Rattle.text_lines.specs.declared.text_fault.LineFault.{LineFault}
+use Rattle.text_lines.specs.declared.text_fault.TextKind.{TextKind}
+use Rattle.text_lines.specs.declared.text_fault.TextKind.TheVariants.{Fields, Order, Twice, Key, Missing, Name}
+
+-- `KEY: value`, before the first section, each key once
+unfoldable pub key_stated : ModelDraftView → HeaderKey → List (List ℕ) → Result ModelDraftView TextKind
+key_stated d k fields =
+    if not (is_heading d.section) then Err Key
+    else (if is_given k d.header then Err Twice
+    else (if not (length fields == 1) then Err Fields else do
+      number ← number_stated d.problem d.blocks k (field_at fields 0)
+      Ok (record d { header = with_key d.header k number; name = name_with k (field_at fields 0) d.name })))
+
+-- `KEY:` of the next section
+unfoldable pub section_stated : ModelDraftView → Section → List (List ℕ) → Result ModelDraftView TextKind
+section_stated d section fields =
+    if not (is_next d.section section) then Err Key
+    else (if not (length fields == 0) then Err Fields
+    else (if not (is_ready d d.section) then Err Missing
+    else Ok (record d { section = section })))
+
+-- a line with a colon: its key, and the fields behind the colon
+abbrev pub keyed_stated : ModelDraftView → Option ModelKey → List (List ℕ) → Result ModelDraftView TextKind
+keyed_stated d None fields = Err Key
+keyed_stated d (Some (model_key.Header k)) fields = key_stated d k fields
+keyed_stated d (Some (model_key.Section section)) fields = section_stated d section fields
+
+-- `b v0 v1 ..` of the next block, of n: a value for each destination
+unfoldable pub values_stated : ℕ → ℕ → ℕ → List (List ℕ) → Result (List ℤ) TextKind
+values_stated n destinations before fields =
+    if not (length fields == destinations + 1) then Err Fields else do
+      b ← below_in n (field_at fields 0)
+      values ← each_in decimal_in (drop 1 fields)
+      if not (b == before) then Err Order else Ok values
+
+-- `b d r v` of a coefficient; `b r v` in a CPIT, which has one destination
+unfoldable pub coef_stated : Problem → ℕ → ℕ → ℕ → List (List ℕ) → Result Coef TextKind
+coef_stated Pcpsp n destinations resources fields =
+    if not (length fields == 4) then Err Fields else do
+      b ← below_in n (field_at fields 0)
+      d ← below_in destinations (field_at fields 1)
+      r ← below_in resources (field_at fields 2)
+      v ← decimal_in (field_at fields 3)
+      Ok (record { b = b; d = d; r = r; v = v })
+coef_stated Cpit n destinations resources fields =
+    if not (length fields == 3) then Err Fields else do
+      b ← below_in n (field_at fields 0)
+      r ← below_in resources (field_at fields 1)
+      v ← decimal_in (field_at fields 2)
+      Ok (record { b = b; d = 0; r = r; v = v })
+
+-- `r t L v`, `r t G v` or `r t I v w` of a limit
+abbrev pub has_letter : List (List ℕ) → List ℕ → Bool
+has_letter fields letter = bytes_eq (field_at fields 2) letter
+
+abbrev pub bound_stated : List (List ℕ) → Result Bound TextKind
+bound_stated fields =
+    if has_letter fields (codes "L") then (decimal_in (field_at fields 3) >>= λ v. Ok (AtMost v))
+    else (if has_letter fields (codes "G") then (decimal_in (field_at fields 3) >>= λ v. Ok (AtLeast v))
+    else (if has_letter fields (codes "I") then (decimal_in (field_at fields 3) >>= λ v. decimal_in (field_at fields 4) >>= λ w. Ok (Between v w))
+    else Err Name))
+
+unfoldable pub limit_stated : ℕ → ℕ → List (List ℕ) → Result Limit TextKind
+limit_stated resources periods fields =
+    if not (length fields == (if has_letter fields (codes "I") then 5 else 4)) then Err Fields else do
+      resource ← below_in resources (field_at fields 0)
+      period ← below_in periods (field_at fields 1)
+      bound ← bound_stated fields
+      Ok (record { resource = resource; period = period; bound = bound })
+
+-- a line without a colon, in its section: coefficients and limits come behind the last one, and no interval is turned
+abbrev pub item_stated : ModelDraftView → Section → List (List ℕ) → Result ModelDraftView TextKind
+item_stated d Heading fields = Err Key
+item_stated d Objective fields = do
+  values ← values_stated d.blocks (count_in d.header key.Destinations) (length d.values) fields
+  Ok (record d { values = d.values ++ values ∷ [] })
+item_stated d Coefs fields = do
+  c ← coef_stated d.problem d.blocks (count_in d.header key.Destinations) (count_in d.header key.Resources) fields
+  if is_behind coef_before (last_of d.coefs) c then Ok (record d { coefs = d.coefs ++ c ∷ [] }) else Err Order
+item_stated d Limits fields = do
+  l ← limit_stated (count_in d.header key.Resources) (count_in d.header key.Periods) fields
+  if is_turned l.bound || not (is_behind stands_before (last_of d.limits) l) then Err Order else Ok (record d { limits = d.limits ++ l ∷ [] })
+
+-- a line of the file: its key is what stands before the first colon
+unfoldable pub line_stated : ModelDraftView → List ℕ → Result ModelDraftView TextKind
+line_stated d line =
+    if list_any is_colon line
+    then keyed_stated d (key_of d.problem (fields_of (before_first is_colon line))) (fields_of (after_first is_colon line))
+    else item_stated d d.section (fields_of line)
+
+-- the file once all lines are read
+abbrev pub finish_model : ℕ → ModelDraftView → Result ModelDraftView LineFault
+finish_model end d = if is_whole d then Ok d else Err (record { line = end; kind = Missing })
+
+-- what the model file of a problem states, of n blocks, or its first faulty line
+abbrev pub model_in : Problem → ℕ → List ℕ → Result ModelDraftView LineFault
+model_in problem n text = read_lines line_stated (blank_model problem n) (lines_in text) >>= finish_model (end_of text)
