@@ -7,7 +7,7 @@ ghost use Rattle.fewer_arcs.specs.inner.LeftIds.{ids_left};
 
 use crate::leaving::add_left;
 use crate::left::LeftBlock;
-use precedence::{AskPreds, IdRun, PredLists};
+use precedence::{AskPreds, IdRun, PredLists, add_runs_of_ids};
 use std::alloc::{AllocError, Global};
 use std::cell::Cell;
 use std::marker::Model;
@@ -92,11 +92,11 @@ fn add_fewer<L: AskPreds>(
     room.enough.clear();
     let told = lists.add_enough(&mut room.enough, id)?;
     if told {
-        add_ids(runs, room.enough.as_slice())?;
+        add_runs_of_ids(runs, room.enough.as_slice())?;
         return Ok(());
     }
     fill(room, lists, id)?;
-    add_each(runs, room.left.as_slice())?;
+    add_runs_of_blocks(runs, room.left.as_slice())?;
     Ok(())
 }
 
@@ -114,7 +114,7 @@ fn fill<L: AskPreds>(room: &mut Room, lists: &L, id: u32) -> Result<(), AllocErr
 }
 
 // Appends a run for each block.
-fn add_each(runs: &mut Vec<IdRun>, blocks: &[LeftBlock]) -> Result<(), AllocError>
+fn add_runs_of_blocks(runs: &mut Vec<IdRun>, blocks: &[LeftBlock]) -> Result<(), AllocError>
     ensures { OnOk result (ids_of runs.new.items ≡ ids_of runs.old.items ++ ids_left blocks.now) }
 {
     for block in blocks {
@@ -122,16 +122,6 @@ fn add_each(runs: &mut Vec<IdRun>, blocks: &[LeftBlock]) -> Result<(), AllocErro
             first: block.id,
             len: 1,
         })?;
-    }
-    Ok(())
-}
-
-// Appends a run for each identifier.
-fn add_ids(runs: &mut Vec<IdRun>, ids: &[u32]) -> Result<(), AllocError>
-    ensures { OnOk result (ids_of runs.new.items ≡ ids_of runs.old.items ++ ids.now) }
-{
-    for id in ids {
-        runs.push(IdRun { first: *id, len: 1 })?;
     }
     Ok(())
 }

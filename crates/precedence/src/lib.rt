@@ -12,6 +12,7 @@ pub use lists::ask_preds::AskPreds;
 pub use lists::counted_preds::CountedPreds;
 pub use lists::found_preds::{FoundPreds, preds};
 pub use lists::id_run::IdRun;
+pub use lists::ids_as_runs::add_runs_of_ids;
 pub use lists::pred_lists::PredLists;
 pub use lists::predecessors::Preds;
 pub use lists::take_preds::TakePreds;

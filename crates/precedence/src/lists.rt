@@ -3,11 +3,11 @@
 pub mod ask_preds;
 pub mod beside;
 pub mod counted_preds;
-pub mod cut_runs;
 pub mod found_preds;
 pub mod id_run;
+pub mod ids_as_runs;
 pub mod pred_lists;
 pub mod predecessors;
-pub mod runs;
+pub mod row_runs;
 pub mod runs_from;
 pub mod take_preds;

@@ -5,7 +5,7 @@ ghost use Rattle.precedence.specs.inner.Beside.{AreNoWider};
 ghost use Rattle.precedence.specs.inner.Rows.{pasts};
 
 use crate::cones::cone_rows::{Row, Widths};
-use crate::lists::runs::Hint;
+use crate::lists::row_runs::Hint;
 use std::cell::Cell;
 
 /// What covers a piece of a cone: the row of the same cone above the block at a spot. A guess. Of a piece that is a spot itself it has the

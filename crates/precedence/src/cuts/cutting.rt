@@ -8,7 +8,7 @@ ghost use Rattle.precedence.specs.declared.cuts.cutting.TheConstants.{MOST_SPOTS
 use crate::cones::cone_rows::Row;
 use crate::cones::widths::widths_of;
 use crate::cuts::cut_cone::{Cover, CutCone};
-use crate::lists::runs::NOTHING_KNOWN;
+use crate::lists::row_runs::NOTHING_KNOWN;
 use crate::places::start_of::start_of;
 use std::alloc::{AllocError, Global};
 use std::cell::Cell;

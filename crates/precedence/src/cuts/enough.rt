@@ -9,7 +9,7 @@ ghost use Rattle.precedence.specs.declared.places.code.TheConstants.{CODES};
 use crate::cones::cone_rows::Row;
 use crate::cuts::cut_cone::CutCone;
 use crate::lists::beside::{ByChunk, PassBlocks};
-use crate::lists::runs::{Hint, NOTHING_KNOWN, find_run, next_row};
+use crate::lists::row_runs::{Hint, NOTHING_KNOWN, find_run, next_row};
 use crate::places::Places;
 use std::alloc::AllocError;
 

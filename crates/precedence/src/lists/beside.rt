@@ -7,7 +7,7 @@ ghost use Rattle.precedence.specs.declared.cones.cone_rows.Row.{Row};
 ghost use Rattle.precedence.specs.declared.places.spans.TheConstants.{CHUNK};
 
 use crate::cones::cone_rows::Widths;
-use crate::lists::runs::Hint;
+use crate::lists::row_runs::Hint;
 use crate::places::Places;
 use crate::places::code::ROW;
 use crate::places::spans::{CHUNK, FEW_ROWS};

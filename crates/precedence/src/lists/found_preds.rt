@@ -16,11 +16,12 @@ use crate::cuts::cut_cone::CutCone;
 use crate::cuts::cutting::cut_cone;
 use crate::cuts::enough::add_enough;
 use crate::lists::ask_preds::AskPreds;
-use crate::lists::cut_runs::add_ids;
+use crate::lists::beside::{ByChunk, ByRow};
 use crate::lists::id_run::IdRun;
+use crate::lists::ids_as_runs::add_ids_of_runs;
 use crate::lists::pred_lists::PredLists;
 use crate::lists::predecessors::Preds;
-use crate::lists::runs::{Hint, NOTHING_KNOWN, add_above};
+use crate::lists::row_runs::{Hint, NOTHING_KNOWN, add_runs_in_rows};
 use crate::lists::runs_from::run_in_rows;
 use crate::numbering::Numbering;
 use crate::places::{Places, places_of};
@@ -109,7 +110,7 @@ impl FoundPreds {
         for id in 0..count as u32 {
             runs.clear();
             self.add_runs(&mut runs, id)?;
-            add_ids(&mut flat, runs.as_slice())?;
+            add_ids_of_runs(&mut flat, runs.as_slice())?;
             ends.push(flat.len())?;
         }
         Ok(Preds::of_parts(flat, ends))
@@ -129,7 +130,7 @@ impl PredLists for FoundPreds {
         let index = id as usize;
         let zone = self.zones[index];
         let from = self.places.codes[index];
-        add_in_cone(
+        add_runs_in_cone(
             runs,
             &self.places,
             &self.tables,
@@ -199,7 +200,7 @@ fn no_hints(alloc: Global, count: usize) -> Result<Vec<Cell<Hint>>, AllocError> 
 
 // Appends the runs of the blocks in the rows of a zone's cone, seen from the code `from`.
 #[inline(always)]
-fn add_in_cone(
+fn add_runs_in_cone(
     runs: &mut Vec<IdRun>,
     places: &Places,
     tables: &ZoneTables,
@@ -216,16 +217,15 @@ fn add_in_cone(
         places.now.codes.items zone from) }
 {
     let table = tables.of(zone);
-    let start = table.start.min(hints.len());
-    add_above(
-        runs,
-        places,
-        table.rows.as_slice(),
-        table.past.as_slice(),
-        &table.widths,
-        &hints[start..],
-        from,
-    )
+    let rows = table.rows.as_slice();
+    let past = table.past.as_slice();
+    let widths = &table.widths;
+    let hints = &hints[table.start.min(hints.len())..];
+    if places.sparse {
+        add_runs_in_rows(&ByChunk, runs, places, rows, past, widths, hints, from)
+    } else {
+        add_runs_in_rows(&ByRow, runs, places, rows, past, widths, hints, from)
+    }
 }
 
 // How many identifiers from `pred` on, at most `most`, have codes in a row of a zone's cone, seen from the code `from`.

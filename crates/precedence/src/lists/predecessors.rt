@@ -3,8 +3,8 @@
 ghost use Rattle.std.specs.Prelude.{◌≡◌, ◌-◌, ◌<◌, ◌≤◌, ◌++◌, [], ◌∷◌, OnOk, OnErr, Some, drop, length, slice_get, sum_by, take};
 ghost use Rattle.precedence.specs.inner.PredsFields.{pieces, start_at, AreEnds};
 
-use crate::lists::cut_runs::add_cut;
 use crate::lists::id_run::IdRun;
+use crate::lists::ids_as_runs::add_runs_of_ids;
 use crate::lists::pred_lists::PredLists;
 use std::alloc::{AllocError, Global};
 use std::marker::Model;
@@ -99,7 +99,7 @@ impl PredLists for Preds {
     }
 
     fn add_runs(&self, runs: &mut Vec<IdRun>, id: u32) -> Result<(), AllocError> {
-        add_cut(runs, self.of(id))
+        add_runs_of_ids(runs, self.of(id))
     }
 }
 

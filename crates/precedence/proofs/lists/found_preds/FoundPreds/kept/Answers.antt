@@ -16,7 +16,7 @@ loop-id-preserved c =
     let found : ids_of c.as_slice.result.now ≡ list =
     ap ids_of c.as_slice.ensures.value ∙ c.in_ok-add_runs.ensures.list ∙ ap (λ runs. ids_of runs ++ list) c.clear.ensures.items in
     let next = pushed c.loop-id.flat.items list _ c.loop-id.ends.items _ c.len.result c.loop-id.invariant.ends
-    (rw found at c.in_ok-add_ids.ensures) c.in_ok-push.ensures.items (omega (arith, c.len.ensures, c.add_ids.new.list.ok)) in
+    (rw found at c.in_ok-add_ids_of_runs.ensures) c.in_ok-push.ensures.items (omega (arith, c.len.ensures, c.add_ids_of_runs.new.list.ok)) in
     record {
       ends = next.0;
       lists = next.1 ∙ ap (λ front. front ++ list ∷ []) c.loop-id.invariant.lists ∙ sym (take_more lists id [] within);

@@ -2,7 +2,7 @@ use Rattle.std.proofs.Common.{◌≡◌, ◌+◌, ◌<◌, ◌++◌, ◌∷◌, 
 use Rattle.std.specs.List.{range_with_len}
 use Rattle.std.proofs.lemmas.List.{take_more}
 use Rattle.precedence.proofs.runs.RunsOfRows.{range_more}
-use Rattle.precedence.proofs.lists.cut_runs.first_run.Goals as goal
+use Rattle.precedence.proofs.lists.ids_as_runs.front_run.Goals as goal
 
 pub loop-len-init : goal.loop-len-init
 loop-len-init c = record {

@@ -1,6 +1,6 @@
 use Rattle.std.proofs.Common.{◌+◌, ◌++◌, ◌∷◌, [], ◌∙◌, ap, sym, arith, append_assoc}
 use Rattle.precedence.proofs.runs.RunsOfRows.{range_more}
-use Rattle.precedence.proofs.lists.cut_runs.add_run_ids.Goals as goal
+use Rattle.precedence.proofs.lists.ids_as_runs.add_ids_of_run.Goals as goal
 
 pub loop-k-preserved : goal.loop-k-preserved
 loop-k-preserved c =

@@ -1,4 +1,4 @@
-//! From lists of identifiers to runs, and back.
+//! Lists of identifiers as runs, and runs as lists.
 
 ghost use Rattle.std.specs.Prelude.{◌≡◌, ◌<◌, ◌≤◌, ◌++◌, OnOk, length, take};
 ghost use Rattle.precedence.specs.IdRuns.{ids_of, ids_of_run};
@@ -6,21 +6,21 @@ ghost use Rattle.precedence.specs.IdRuns.{ids_of, ids_of_run};
 use crate::lists::id_run::IdRun;
 use std::alloc::AllocError;
 
-/// Appends runs that tell a list.
-pub fn add_cut(runs: &mut Vec<IdRun>, ids: &[u32]) -> Result<(), AllocError>
+/// Appends runs that tell a list of identifiers.
+pub fn add_runs_of_ids(runs: &mut Vec<IdRun>, ids: &[u32]) -> Result<(), AllocError>
     ensures { OnOk result (ids_of runs.new.items ≡ ids_of runs.old.items ++ ids.now) }
 {
     let mut rest = ids;
     while !rest.is_empty() {
-        let run = first_run(rest);
+        let run = front_run(rest);
         runs.push(run)?;
         rest = &rest[run.len as usize..];
     }
     Ok(())
 }
 
-// The identifiers that follow one another, from the first on.
-fn first_run(ids: &[u32]) -> IdRun
+// The identifiers that follow one another, from the front on.
+fn front_run(ids: &[u32]) -> IdRun
     requires { 0 < length ids.now }
     ensures some { 0 < result.len }
     ensures within { result.len ≤ length ids.now }
@@ -39,16 +39,16 @@ fn first_run(ids: &[u32]) -> IdRun
 }
 
 /// Appends the identifiers of runs.
-pub fn add_ids(list: &mut Vec<u32>, runs: &[IdRun]) -> Result<(), AllocError>
+pub fn add_ids_of_runs(list: &mut Vec<u32>, runs: &[IdRun]) -> Result<(), AllocError>
     ensures { OnOk result (list.new.items ≡ list.old.items ++ ids_of runs.now) }
 {
     for run in runs {
-        add_run_ids(list, *run)?;
+        add_ids_of_run(list, *run)?;
     }
     Ok(())
 }
 
-fn add_run_ids(list: &mut Vec<u32>, run: IdRun) -> Result<(), AllocError>
+fn add_ids_of_run(list: &mut Vec<u32>, run: IdRun) -> Result<(), AllocError>
     ensures { OnOk result (list.new.items ≡ list.old.items ++ ids_of_run run) }
 {
     for k in 0..run.len {

@@ -1,7 +1,6 @@
 //! The identifiers of the blocks above a block, by runs.
 
 ghost use Rattle.std.specs.Prelude.{◌≡◌, ℕ, ◌+◌, ◌-◌, ◌<◌, ◌≤◌, ◌++◌, OnOk, IfOk, length, slice_index};
-ghost use Rattle.std.specs.List.{range_with_len};
 ghost use Rattle.std.specs.List.Sorted.{IsStrictlyIncreasing};
 ghost use Rattle.precedence.specs.Cone.{places_where};
 ghost use Rattle.precedence.specs.IdRuns.{ids_of};
@@ -11,7 +10,7 @@ ghost use Rattle.precedence.specs.inner.Search.{run};
 ghost use Rattle.precedence.specs.declared.places.code.TheConstants.{CODES};
 
 use crate::cones::cone_rows::{Row, Widths};
-use crate::lists::beside::{BEFORE_ALL, ByChunk, ByRow, PassBlocks};
+use crate::lists::beside::{BEFORE_ALL, PassBlocks};
 use crate::lists::id_run::IdRun;
 use crate::places::Places;
 use crate::places::start_of::start_of;
@@ -30,34 +29,9 @@ pub const NOTHING_KNOWN: Hint = Hint { first: 0, past: 0 };
 
 /// Appends the runs of the identifiers whose codes lie in the rows, seen from the code `from`, in rising order. `past` has the end of
 /// each row, and the rows are no wider than `widths`. The hints, one for each row, are guesses, such as where the rows' runs were found
-/// for a smaller code: they change the time and not the answer.
-#[inline(always)]
-pub fn add_above(
-    runs: &mut Vec<IdRun>,
-    places: &Places,
-    rows: &[Row],
-    past: &[u64],
-    widths: &Widths,
-    hints: &[Cell<Hint>],
-    from: u64,
-) -> Result<(), AllocError>
-    requires in_order { AreInOrder rows.now }
-    requires past { past.now ≡ pasts rows.now }
-    requires widths { AreNoWider widths.now rows.now }
-    requires from { from < CODES }
-    ensures { OnOk result (ids_of runs.new.items
-        ≡ ids_of runs.old.items ++ places_where (is_in_rows from rows.now) 0 places.now.codes.items) }
-{
-    if places.sparse {
-        add_rows(&ByChunk, runs, places, rows, past, widths, hints, from)
-    } else {
-        add_rows(&ByRow, runs, places, rows, past, widths, hints, from)
-    }
-}
-
-// The same, where `pass` tells which blocks are passed over behind an empty run.
+/// for a smaller code: they change the time and not the answer. `pass` tells which blocks are passed over behind an empty run.
 #[inline(never)]
-fn add_rows<P: PassBlocks>(
+pub fn add_runs_in_rows<P: PassBlocks>(
     pass: &P,
     runs: &mut Vec<IdRun>,
     places: &Places,
@@ -77,7 +51,7 @@ fn add_rows<P: PassBlocks>(
     let mut i = 0;
     let mut behind = BEFORE_ALL;
     while i < rows.len() {
-        let run = add_run(runs, places, rows[i], hint_at(hints, i, behind.id), from)?;
+        let run = add_run_in_row(runs, places, rows[i], hint_at(hints, i, behind.id), from)?;
         keep_hint(hints, i, run);
         behind = pass.id_behind(places, past, widths, i, run, behind.retry, from);
         i = next_row(places, past, i, behind.id as usize, from);
@@ -105,10 +79,10 @@ fn keep_hint(hints: &[Cell<Hint>], i: usize, run: Hint) {
     }
 }
 
-// Appends the run of the identifiers whose codes lie in a row, and tells the first of them and the one past the last.
-#[tactic(auto, using(crate::proofs::runs::Starts::runs))]
+// Appends the run of the identifiers whose codes lie in a row, where there are any, and tells the first of them and the one past the last.
+#[tactic(auto, using(crate::proofs::runs::Starts::runs, crate::proofs::runs::RunLists::pushed_run))]
 #[inline(always)]
-fn add_run(
+fn add_run_in_row(
     runs: &mut Vec<IdRun>,
     places: &Places,
     row: Row,
@@ -123,7 +97,12 @@ fn add_run(
     ensures within { IfOk result (λ found. found.past ≤ length places.now.codes.items) }
 {
     let found = find_run(places, row, hint, from);
-    push_run(runs, found.first, found.past)?;
+    if found.first < found.past {
+        runs.push(IdRun {
+            first: found.first,
+            len: found.past - found.first,
+        })?;
+    }
     Ok(found)
 }
 
@@ -139,35 +118,18 @@ pub fn find_run(places: &Places, row: Row, hint: Hint, from: u64) -> Hint
 {
     let codes = places.codes.as_slice();
     let first = start_of(codes, hint.first as usize, from + row.first);
-    let past = run_end(codes, first, hint.past as usize, from + row.past);
+    let past = end_of_run(codes, first, hint.past as usize, from + row.past);
     Hint {
         first: first as u32,
         past: past as u32,
     }
 }
 
-// Appends the run from `first` on and before `past`, where it has an identifier.
-#[tactic(auto, using(crate::proofs::runs::RunLists::pushed_run))]
-#[inline(always)]
-fn push_run(runs: &mut Vec<IdRun>, first: u32, past: u32) -> Result<(), AllocError>
-    requires { first ≤ past }
-    ensures { OnOk result (ids_of runs.new.items
-        ≡ ids_of runs.old.items ++ range_with_len first (past - first)) }
-{
-    if first < past {
-        runs.push(IdRun {
-            first,
-            len: past - first,
-        })?;
-    }
-    Ok(())
-}
-
 // Where the codes from the place `first` on are no longer below `past`. Most rows of scattered blocks have no code, and need no
 // search for it.
 #[tactic(auto, using(crate::proofs::runs::Starts::starts))]
 #[inline(always)]
-fn run_end(codes: &[u64], first: usize, hint: usize, past: u64) -> usize
+fn end_of_run(codes: &[u64], first: usize, hint: usize, past: u64) -> usize
     requires rising { IsStrictlyIncreasing codes.now }
     requires first { first ≤ start_of past codes.now }
     ensures { result ≡ start_of past codes.now }

@@ -3,7 +3,7 @@ use Rattle.std.proofs.lemmas.List.{drop_all, length-map}
 use Rattle.precedence.specs.declared.cones.cone_rows.Row.{Row}
 use Rattle.precedence.proofs.runs.Beside.{in_no_rows}
 use Rattle.precedence.proofs.runs.RunsOfRows.{adds_run, no_rows, pasts_rise}
-use Rattle.precedence.proofs.lists.runs.add_rows.Goals as goal
+use Rattle.precedence.proofs.lists.row_runs.add_runs_in_rows.Goals as goal
 
 pub next_row-i-requires-clause-rising : goal.next_row-i-requires-clause-rising
 next_row-i-requires-clause-rising g c =

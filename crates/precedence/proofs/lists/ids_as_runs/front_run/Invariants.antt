@@ -1,6 +1,6 @@
 use Rattle.std.proofs.Common.{◌≡◌, ◌+◌, ◌-◌, ◌^◌, ◌<◌, ◌≤◌, get_or, length, take}
 use Rattle.std.specs.List.{range_with_len}
-use Rattle.precedence.proofs.lists.cut_runs.first_run.Given as goal
+use Rattle.precedence.proofs.lists.ids_as_runs.front_run.Given as goal
 
 abbrev pub invariant-loop-len : goal.invariant-loop-len
 invariant-loop-len l = record {

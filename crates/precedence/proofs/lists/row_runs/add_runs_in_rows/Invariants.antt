@@ -2,7 +2,7 @@ use Rattle.std.proofs.Common.{◌≡◌, ◌≤◌, ◌-◌, ◌++◌, length, d
 use Rattle.precedence.specs.Cone.{places_where}
 use Rattle.precedence.specs.IdRuns.{ids_of}
 use Rattle.precedence.specs.inner.Rows.{is_in_rows}
-use Rattle.precedence.proofs.lists.runs.add_rows.Given as goal
+use Rattle.precedence.proofs.lists.row_runs.add_runs_in_rows.Given as goal
 
 abbrev pub invariant-loop-i : goal.invariant-loop-i
 invariant-loop-i g l = record {
