@@ -7,7 +7,7 @@ use Rattle.minelib_reading.proofs.counts.CountedLater.{block_then, seven_end}
 use Rattle.minelib_reading.specs.BlockText.{block_stated}
 use Rattle.minelib_reading.specs.shapes.BlockLines.{block_form, block_shape}
 use Rattle.text_lines.proofs.FieldSteps.{count_step, end_step, place_step, size_reads, whole_reads}
-use Rattle.text_lines.specs.StatedFields.{below_in, field_at, size_in}
+use Rattle.text_lines.specs.StatedFields.{below_in, size_in}
 use Rattle.text_lines.specs.TextLines.{fields_of}
 
 pub block_is : (before : ℕ) (line : List ℕ) → block_stated before (fields_of line) ≡ said (block_shape before line)

@@ -13,9 +13,9 @@ use Rattle.minelib_reading.proofs.lines.CoefLineFacts.{said_again}
 use Rattle.minelib_reading.proofs.lines.FormFields.{any_reads}
 use Rattle.minelib_reading.proofs.lines.LimitLineFacts.{limit_same}
 use Rattle.minelib_reading.proofs.lines.ValuesLineFacts.{uncounted_values, values_counted, values_width}
-use Rattle.minelib_reading.specs.ModelText.{bound_stated, coef_stated, has_letter, limit_stated, values_stated}
+use Rattle.minelib_reading.specs.ModelText.{bound_stated, coef_stated, limit_stated, values_stated}
 use Rattle.minelib_reading.specs.inner.ModelParts.{coef_of_line, limit_of_line, values_of_line}
-use Rattle.minelib_reading.specs.inner.UncountedItems.{bound_in, limit_width}
+use Rattle.minelib_reading.specs.inner.UncountedItems.{bound_in}
 use Rattle.minelib_reading.specs.shapes.Fields.{any}
 use Rattle.minelib_reading.specs.shapes.ItemForms.{coef_form}
 use Rattle.text_lines.proofs.FieldSteps.{all_each, count_step, end_step, place_step, whole_reads}

@@ -3,7 +3,7 @@ use Rattle.std.specs.Prelude.{◌≡◌, ℕ, ◌/◌, ◌^◌, ◌==◌, not, B
 use Rattle.std.specs.Str.{bytes_eq}
 use Rattle.std.proofs.Common.{refl, sym, ◌∙◌, ap, arith}
 use Rattle.std.proofs.lemmas.Bool.{ne_eqb}
-use Rattle.forms.specs.Words.{Bytes, Value, millionths, ◌>>=◌}
+use Rattle.forms.specs.Words.{Bytes, millionths, ◌>>=◌}
 use Rattle.pit_parts.specs.Name.{is_name}
 use Rattle.pit_parts.specs.declared.ranges.TheConstants.{MAX_BLOCKS, MAX_DESTINATIONS, MAX_PERIODS, MAX_RATE, MAX_RESOURCES}
 use Rattle.minelib_lines.specs.HeaderKeys.{type_text}

@@ -4,7 +4,7 @@ use Rattle.std.proofs.Common.{refl, sym, ◌∙◌, ap, arith, le-ltb}
 use Rattle.forms.specs.Words.{said, ◌>>=◌}
 use Rattle.minelib_reading.proofs.counts.CountedLater.{preds_by_count, preds_steps, uncounted_preds_read}
 use Rattle.minelib_reading.specs.PrecText.{all_differ, preds_stated, stands_in}
-use Rattle.minelib_reading.specs.inner.LinesTaken.{preds_said, uncounted_preds}
+use Rattle.minelib_reading.specs.inner.LinesTaken.{preds_said}
 use Rattle.minelib_reading.specs.shapes.PrecLines.{preds_shape}
 use Rattle.text_lines.proofs.FieldSteps.{all_each}
 use Rattle.text_lines.specs.FieldValues.{all_by, first_by}

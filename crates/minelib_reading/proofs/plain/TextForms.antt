@@ -3,7 +3,6 @@ use Rattle.std.specs.Prelude.{◌≡◌, ℕ, ◌++◌, ◌∷◌, [], Bool, tru
 use Rattle.std.specs.List.{list_any, before_first, after_first}
 use Rattle.std.proofs.Common.{refl, sym, ◌∙◌, ap}
 use Rattle.forms.specs.Words.{said, ◌>>=◌}
-use Rattle.pit_parts.specs.declared.block.Block.{Block}
 use Rattle.minelib_lines.specs.declared.header_key.HeaderKey.TheVariants as key
 use Rattle.minelib_lines.specs.declared.problem.Problem.{Problem}
 use Rattle.minelib_reading.proofs.models.ModelShapes.{coef_takes, limit_takes, lines_are_all, stray_takes, values_takes}
@@ -30,7 +29,6 @@ use Rattle.text_lines.proofs.ReadSteps.{lines_same}
 use Rattle.text_lines.specs.Reading.{read_lines}
 use Rattle.text_lines.specs.TextLines.{Line, end_of, fields_of, lines_in}
 use Rattle.text_lines.specs.declared.text_fault.LineFault.{LineFault}
-use Rattle.text_lines.specs.declared.text_fault.TextKind.{TextKind}
 
 pub same_again : {A : Type 0} (r : Result A LineFault) → (r >>= λ all. Ok all) ≡ r
 same_again (Ok all) = refl

@@ -1,5 +1,5 @@
 -- The lines of a model file by their forms, each by what those before it state, for the laws that tell what is spelled.
-use Rattle.std.specs.Prelude.{ℕ, unsigned_abs, ◌+◌, ◌==◌, ◌&&◌, not, false, List, [], ◌∷◌, ◌++◌, length, Option, Some, None, slice_index_or, Result, if◌then◌else◌}
+use Rattle.std.specs.Prelude.{ℕ, unsigned_abs, ◌==◌, ◌&&◌, not, false, List, [], ◌∷◌, ◌++◌, length, Option, Some, None, slice_index_or, Result, if◌then◌else◌}
 use Rattle.std.specs.List.{list_any, before_first, after_first}
 use Rattle.forms.specs.Words.{Value, millionths, Bytes, whole_at, whole_stated, word_of, Grammar, read_all, Check, Shape, check, ◌>>=◌}
 use Rattle.pit_parts.specs.PlanKept.{is_turned, stands_before}
@@ -12,7 +12,6 @@ use Rattle.minelib_reading.specs.ModelText.{finish_model}
 use Rattle.minelib_reading.specs.shapes.ItemForms.{coef_form, coef_said, limit_form, limit_said, row_said, values_form}
 use Rattle.text_lines.specs.LineKinds.{text_kinds}
 use Rattle.text_lines.specs.TextLines.{Line, fields_of, lines_in, end_of}
-use Rattle.minelib_reading.specs.declared.model.key.Header.{Header}
 use Rattle.minelib_lines.specs.declared.header_key.HeaderKey.{HeaderKey}
 use Rattle.minelib_lines.specs.declared.header_key.HeaderKey.TheVariants as key
 use Rattle.minelib_reading.specs.declared.model.key.ModelKey.{ModelKey}
