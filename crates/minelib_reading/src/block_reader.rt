@@ -17,7 +17,7 @@ use std::alloc::Global;
 use std::marker::Model;
 use text_lines::line_by_line::{Admit, read_lines};
 use text_lines::text_fault::{LineFault, TextKind};
-use text_lines::text_fields::{first_size, first_whole, has_field, kind_by_count};
+use text_lines::text_fields::{fault_kind_of_line, first_size, first_whole, has_field};
 
 // The fields of a line: the identifier, three indices, tonnes, grade and zone.
 const FIELDS: usize = 7;
@@ -71,7 +71,7 @@ fn block_said(line: &[u8], before: usize) -> Result<Block, TextKind>
 {
     match uncounted_block(line, before) {
         Ok(block) => Ok(block),
-        Err(kind) => Err(kind_by_count(line, FIELDS, kind)),
+        Err(kind) => Err(fault_kind_of_line(line, FIELDS, kind)),
     }
 }
 

@@ -48,13 +48,13 @@ impl<'a, T: Line> Parted for Lines<'a, T> {
     }
 
     fn append(&self, alloc: Global, index: usize, out: &mut Vec<u8>) -> Result<usize, AllocError> {
-        item(self.items, index).put(alloc, index, out)?;
+        item_of_line(self.items, index).put(alloc, index, out)?;
         Ok(1)
     }
 }
 
-// The item at a place.
-fn item<T>(items: &[T], index: usize) -> &T
+// The item whose line has this place.
+fn item_of_line<T>(items: &[T], index: usize) -> &T
     requires { index < length items.now }
     ensures { result.now ≡ slice_index_or items.now index result.now }
 {

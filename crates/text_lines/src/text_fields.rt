@@ -62,7 +62,7 @@ pub fn count_fields(line: &[u8]) -> usize
 /// The kind of the fault of a line in whose fields the fault `met` was met: `met` where the line has `width` fields,
 /// and else `Fields`.
 #[inline(never)]
-pub fn kind_by_count(line: &[u8], width: usize, met: TextKind) -> TextKind
+pub fn fault_kind_of_line(line: &[u8], width: usize, met: TextKind) -> TextKind
     ensures { result ≡ kind_by (length (fields_of line.now) == width) met }
 {
     if count_fields(line) == width {

@@ -36,8 +36,8 @@ impl<'a> BlockValues<'a> {
         ensures { result ≡ slice_index_or (values_in self.now) destination result }
     {
         match self {
-            BlockValues::Hundreds(values) => *item(values, destination),
-            BlockValues::Cents(cents) => in_hundreds(*item(cents, destination)),
+            BlockValues::Hundreds(values) => *at_destination(values, destination),
+            BlockValues::Cents(cents) => in_hundreds(*at_destination(cents, destination)),
         }
     }
 
@@ -65,11 +65,11 @@ impl<'a> BlockValues<'a> {
     }
 }
 
-// The item at a place.
+// What stands for a destination.
 #[inline(always)]
-fn item<T>(items: &[T], place: usize) -> &T
-    requires { place < length items.now }
-    ensures { result.now ≡ slice_index_or items.now place result.now }
+fn at_destination<T>(each: &[T], destination: usize) -> &T
+    requires { destination < length each.now }
+    ensures { result.now ≡ slice_index_or each.now destination result.now }
 {
-    &items[place]
+    &each[destination]
 }

@@ -22,7 +22,7 @@ use pit_units::{Dec, OrMemory};
 use text_lines::field_values::decimal_in;
 use text_lines::text_fault::TextKind;
 use text_lines::text_fields::{
-    count_fields, first_millionths, first_whole, has_field, kind_by_count, next_field,
+    count_fields, fault_kind_of_line, first_millionths, first_whole, has_field, next_field,
 };
 
 /// Reads the values of a block, one for each destination, into `row`, from a line behind so many others.
@@ -47,7 +47,7 @@ pub fn values_of_line(
         Ok(()) => Ok(()),
         Err(OrMemory::Fault(kind)) => {
             let width = usize::from(destinations) + 1;
-            Err(OrMemory::Fault(kind_by_count(line, width, kind)))
+            Err(OrMemory::Fault(fault_kind_of_line(line, width, kind)))
         }
         Err(OrMemory::OutOfMemory) => Err(OrMemory::OutOfMemory),
     }
@@ -115,7 +115,7 @@ pub fn coef_of_line(
 {
     match uncounted_coef(problem, blocks, destinations, resources, line) {
         Ok(coef) => Ok(coef),
-        Err(kind) => Err(kind_by_count(line, coef_width(problem), kind)),
+        Err(kind) => Err(fault_kind_of_line(line, coef_width(problem), kind)),
     }
 }
 

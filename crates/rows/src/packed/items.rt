@@ -14,7 +14,7 @@ use crate::keeps::Keeps;
 use crate::long_lists::make_room_for;
 use crate::mark::Mark;
 use crate::packed::entry::Entry;
-use crate::packed::worths::{PackedWorths, own_worths};
+use crate::packed::worths::{PackedWorths, worths_of_item};
 use pit_parts::block::Block;
 use std::alloc::{AllocError, Allocator, Global};
 use std::marker::Model;
@@ -79,7 +79,7 @@ impl<A: Allocator> PackedItems<A> {
         requires { position < length self.now.items }
         ensures { slice_get self.now.items position ≡ Some result }
     {
-        let own = own_worths(&self.worths, position, self.width);
+        let own = worths_of_item(&self.worths, position, self.width);
         self.entries[position].item(own)
     }
 

@@ -17,13 +17,13 @@ impl PackedWorths {
         requires { position * self.now.width + self.now.width ≤ length self.now.worths.items }
         ensures { result.now ≡ own_at self.now position }
     {
-        own_worths(&self.worths, position, self.width)
+        worths_of_item(&self.worths, position, self.width)
     }
 }
 
 /// The worths at a position, where each has so many.
 #[inline(always)]
-pub fn own_worths(worths: &[i64], position: usize, width: usize) -> &[i64]
+pub fn worths_of_item(worths: &[i64], position: usize, width: usize) -> &[i64]
     requires { position * width + width ≤ length worths.now }
     ensures { result.now ≡ take width (drop (position * width) worths.now) }
 {

@@ -8,4 +8,4 @@ returns-in-Ok-clause-value c = sym (block_counted c.args.before c.args.line.now 
 pub returns-in-Err-clause-value : goal.returns-in-Err-clause-value
 returns-in-Err-clause-value c =
     let kind = block_kind c.args.before c.args.line.now c.in-Err.kind (sym c.in-Err.ensures.value) in
-    rw c.kind_by_count.ensures (sym kind)
+    rw c.fault_kind_of_line.ensures (sym kind)

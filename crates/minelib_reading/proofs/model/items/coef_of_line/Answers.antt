@@ -12,4 +12,4 @@ pub returns-in-Err-clause-value : goal.returns-in-Err-clause-value
 returns-in-Err-clause-value c =
     let kind = coef_kind c.args.problem c.args.blocks c.args.destinations c.args.resources
     (fields_of c.args.line.now) c.in-Err.kind (sym c.in-Err.ensures.value) in
-    rw (c.kind_by_count.ensures, c.coef_width.ensures c.args.blocks c.args.destinations c.args.resources) (sym kind)
+    rw (c.fault_kind_of_line.ensures, c.coef_width.ensures c.args.blocks c.args.destinations c.args.resources) (sym kind)
