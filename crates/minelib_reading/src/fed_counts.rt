@@ -18,8 +18,7 @@ use minelib_lines::problem::Problem;
 use pit_units::OrMemory;
 use precedence::{CountedPreds, TakePreds};
 use std::alloc::Global;
-use text_lines::fed_lines::read_fed;
-use text_lines::text_fault::LineFault;
+use text_lines::fed_lines::{FedResult, read_fed};
 
 /// How many blocks the text of a feed states, or its first faulty line, in the lenient grammar of docs/formats.md. The
 /// feed is read to its end in either case, and memory grows with the longest line, not with the text.
@@ -28,11 +27,7 @@ use text_lines::text_fault::LineFault;
 ///
 /// Those of `read_fed`.
 #[tactic(auto, using(crate::proofs::counts::FedAnswers::blocks_told, crate::proofs::counts::FedAnswers::blocks_faulty))]
-pub fn count_blocks<F: Feed>(
-    alloc: Global,
-    feed: &mut F,
-    limit: u64,
-) -> Result<Result<usize, LineFault>, SlurpFault>
+pub fn count_blocks<F: Feed>(alloc: Global, feed: &mut F, limit: u64) -> FedResult<usize>
     requires { limit ≤ GREATEST_LIMIT }
 
     // What an answer tells of the text.
@@ -70,7 +65,7 @@ pub fn count_arcs<F: Feed>(
     blocks: usize,
     feed: &mut F,
     limit: u64,
-) -> Result<Result<usize, LineFault>, SlurpFault>
+) -> FedResult<usize>
     requires few { blocks ≤ MAX_BLOCKS }
     requires limit { limit ≤ GREATEST_LIMIT }
 
@@ -113,7 +108,7 @@ pub fn count_model<F: Feed>(
     blocks: usize,
     feed: &mut F,
     limit: u64,
-) -> Result<Result<(usize, usize), LineFault>, SlurpFault>
+) -> FedResult<(usize, usize)>
     requires few { blocks ≤ MAX_BLOCKS }
     requires limit { limit ≤ GREATEST_LIMIT }
 

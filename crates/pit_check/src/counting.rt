@@ -10,12 +10,12 @@ ghost use Rattle.text_lines.specs.Fed.{FailsAsFed};
 
 use crate::counts::Counts;
 use devices::feeds::feed::Feed;
-use devices::feeds::slurp::{GREATEST_LIMIT, SlurpFault};
+use devices::feeds::slurp::GREATEST_LIMIT;
 use minelib_lines::problem::Problem;
 use minelib_reading::{count_arcs, count_blocks, count_model};
 use std::alloc::Global;
-use text_lines::fed_lines::pass_text;
-use text_lines::text_fault::{LineFault, TextFault, TextFile};
+use text_lines::fed_lines::{FedResult, pass_text};
+use text_lines::text_fault::{TextFault, TextFile};
 
 /// What the files before and the text of this one are counted as, or the first faulty line of them. The text is read to
 /// its end in either case.
@@ -29,7 +29,7 @@ pub fn count_on<F: Feed>(
     file: TextFile,
     so_far: Result<Counts, TextFault>,
     feed: &mut F,
-) -> Result<Result<Counts, TextFault>, SlurpFault>
+) -> FedResult<Counts, TextFault>
     requires { IfOk so_far (λ counts. counts.blocks ≤ MAX_BLOCKS) }
 
     // What an answer tells of the text.
@@ -68,7 +68,7 @@ fn count_in<F: Feed>(
     file: TextFile,
     counts: Counts,
     feed: &mut F,
-) -> Result<Result<Counts, LineFault>, SlurpFault>
+) -> FedResult<Counts>
     requires { counts.blocks ≤ MAX_BLOCKS }
 
     // What an answer tells of the text.

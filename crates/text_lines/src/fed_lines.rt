@@ -14,6 +14,9 @@ use devices::feeds::slurp::SlurpFault;
 use pit_units::OrMemory;
 use std::alloc::Global;
 
+/// What comes of a text that a feed gives: what it states or its first faulty line, where the feed gives it whole.
+pub type FedResult<T, F = LineFault> = Result<Result<T, F>, SlurpFault>;
+
 /// Takes the lines of a feed's text that are not skipped, while the feed gives it, and answers the number of the line
 /// after the last, or the first faulty line. The feed is read to its end in either case: its bytes behind a faulty line
 /// go by. At most `limit + 1` bytes are read. Memory grows with the longest line, and not with the text.
@@ -30,7 +33,7 @@ pub fn read_fed<S: Admit, F: Feed>(
     state: &mut S,
     feed: &mut F,
     limit: u64,
-) -> Result<Result<u64, LineFault>, SlurpFault>
+) -> FedResult<u64>
     requires { limit ≤ GREATEST_LIMIT }
 
     // What an answer says of the text, and that the feed is used up then.

@@ -9,6 +9,7 @@ ghost use Rattle.text_lines.specs.TextLines.{lines_of, numbered_lines};
 ghost use Rattle.text_lines.specs.inner.Waiting.{AreWholeLines, Gave, GaveAll, Held, IsLastReading, NoLineEnd, TakesEnded, front_end, front_lines, none_held, unmarked};
 
 use crate::cut_lines::without_mark;
+use crate::fed_lines::FedResult;
 use crate::line_by_line::{Admit, read_on};
 use crate::text_fault::LineFault;
 use devices::feeds::feed::Feed;
@@ -165,7 +166,7 @@ impl Waiting {
     }
 
     /// Takes the lines of what is held, where the text ends there, and answers the number of the line after the last.
-    pub fn take_last<S: Admit>(&self, state: &mut S) -> Result<Result<u64, LineFault>, SlurpFault>
+    pub fn take_last<S: Admit>(&self, state: &mut S) -> FedResult<u64>
         requires few { self.now.number + length self.now.held < 2 ^ 64 }
         ensures read { IfOk result (IsLastReading S.admit_line state.old state.new self.now) }
         ensures memory { IfErr result (λ fault. fault ≡ SlurpFault.OutOfMemory) }
