@@ -174,23 +174,44 @@ fn has_preds(instance: &Instance, id: usize, list: &[u32]) -> bool {
     id < instance.preds.len() && id < 2 && instance.preds.of(id as u32) == list
 }
 
+// Whether an instance of the two lends their lists.
+fn lends_lists(instance: &Instance) -> Option<bool> {
+    let (blocks, coefs, limits) = (ores()?, all_coefs()?, limits()?);
+    Some(
+        instance.blocks.as_slice() == blocks.as_slice()
+            && has_preds(instance, 0, &[1])
+            && has_preds(instance, 1, &[])
+            && has_values(instance, 0, &[12_000_000_000, -2_000_000_000])
+            && has_values(instance, 1, &[24_000_000_000, -4_000_000_000])
+            && instance.coefs.as_slice() == coefs.as_slice()
+            && instance.limits.as_slice() == limits.as_slice(),
+    )
+}
+
+fn lends_cpit_lists(cpit: &Cpit) -> Option<bool> {
+    let (coefs, limits) = (mill_coefs()?, limits()?);
+    Some(
+        are_millionths(cpit.values(), &[12_000_000_000, 24_000_000_000])
+            && cpit.coefs() == coefs.as_slice()
+            && cpit.limits() == limits.as_slice(),
+    )
+}
+
+fn built_of_two_ores(alloc: Global) -> Result<Instance, Fail>
+    ensures { IfOk result IsValid }
+{
+    let plan = read_plan(alloc, BOTH)?;
+    let rows = two_ores(&plan).ok_or("rows")?;
+    built_of(alloc, &plan, &rows)
+}
+
 // What is built lends each of its lists.
 #[test]
 fn built_lists_are_lent(rt: HostRuntime) -> Result<(), Fail> {
-    let alloc = rt.alloc();
-    let plan = read_plan(alloc, BOTH)?;
-    let rows = two_ores(&plan).ok_or("rows")?;
-    let instance = built_of(alloc, &plan, &rows)?;
-    assert!(rt; instance.blocks.as_slice() == ores().ok_or("blocks")?.as_slice());
-    assert!(rt; has_preds(&instance, 0, &[1]) && has_preds(&instance, 1, &[]));
-    assert!(rt; has_values(&instance, 0, &[12_000_000_000, -2_000_000_000]));
-    assert!(rt; has_values(&instance, 1, &[24_000_000_000, -4_000_000_000]));
-    assert!(rt; instance.coefs.as_slice() == all_coefs().ok_or("coefficients")?.as_slice());
-    assert!(rt; instance.limits.as_slice() == limits().ok_or("limits")?.as_slice());
-    let cpit = build_cpit(alloc, &instance)?;
-    assert!(rt; are_millionths(cpit.values(), &[12_000_000_000, 24_000_000_000]));
-    assert!(rt; cpit.coefs() == mill_coefs().ok_or("coefficients")?.as_slice());
-    assert!(rt; cpit.limits() == limits().ok_or("limits")?.as_slice());
+    let instance = built_of_two_ores(rt.alloc())?;
+    assert!(rt; lends_lists(&instance) == Some(true));
+    let cpit = build_cpit(rt.alloc(), &instance)?;
+    assert!(rt; lends_cpit_lists(&cpit) == Some(true));
     Ok(())
 }
 

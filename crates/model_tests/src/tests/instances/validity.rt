@@ -1,5 +1,7 @@
 //! Instances made by hand, of which only those that keep all ranges, lengths and orders are valid.
 
+ghost use Rattle.std.specs.Prelude.{◌≡◌, vec_len, IfOk};
+
 use crate::tests::texts::{LIMITED, instance_of};
 use mine_instance::blocks::Blocks;
 use mine_instance::coefs::coef::{Coef, Coefs};
@@ -78,13 +80,19 @@ fn blocks_of(alloc: Global, count: usize) -> Result<Blocks, Fail> {
     Ok(Blocks::new(blocks))
 }
 
+fn zeros(alloc: Global, count: usize) -> Result<Vec<Dec>, Fail>
+    ensures { IfOk result (λ all. vec_len all ≡ count) }
+{
+    let mut all = Vec::new(alloc);
+    all.resize(count, dec(0)?)?;
+    Ok(all)
+}
+
 fn values_of(alloc: Global, count: usize, width: usize) -> Result<Values, Fail> {
     let Some(len) = count.checked_mul(width) else {
         return Err("too many values")?;
     };
-    let mut all = Vec::new(alloc);
-    all.resize(len, dec(0)?)?;
-    Ok(Values::new(all, count, width))
+    Ok(Values::new(zeros(alloc, len)?, count, width))
 }
 
 fn with_counts(alloc: Global, blocks: usize, count: usize, width: usize) -> Result<bool, Fail> {

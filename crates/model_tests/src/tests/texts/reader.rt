@@ -109,15 +109,21 @@ fn has_parts(instance: &Instance, id: usize, list: &[u32]) -> bool {
         && are_millionths(instance.values.of(id), &[-15_000_000])
 }
 
+// Whether all blocks have their lists, and the counts and the NAME are as the texts state.
+fn is_nine_above(instance: &Instance) -> bool {
+    are_nine_above(instance.blocks.as_slice())
+        && LISTS
+            .iter()
+            .enumerate()
+            .all(|(id, list)| has_parts(instance, id, list))
+        && instance.name.as_str() == "one"
+        && (instance.blocks_len(), instance.arcs()) == (10, 5)
+}
+
 #[test]
 fn nine_above(rt: HostRuntime) -> Result<(), Fail> {
     let instance = instance_of(rt.alloc(), NINE_ABOVE)?;
-    assert!(rt; are_nine_above(instance.blocks.as_slice()));
-    for (id, list) in LISTS.iter().enumerate() {
-        assert!(rt; has_parts(&instance, id, list), "{id}");
-    }
-    assert!(rt; instance.name.as_str() == "one");
-    assert_eq!(rt; (instance.blocks_len(), instance.arcs()), (10, 5));
+    assert!(rt; is_nine_above(&instance));
     assert!(rt; are_texts(rt.alloc(), &instance, NINE_ABOVE)?);
     Ok(())
 }
@@ -222,14 +228,26 @@ fn cpit_coefs() -> Option<[Coef; 4]> {
     ])
 }
 
+fn has_edge_lists(instance: &Instance) -> Option<bool> {
+    let (coefs, limits) = (edge_coefs()?, edge_limits()?);
+    Some(
+        instance.coefs.as_slice() == coefs.as_slice()
+            && instance.limits.as_slice() == limits.as_slice(),
+    )
+}
+
+fn has_cpit_coefs(cpit: &Cpit) -> Option<bool> {
+    let coefs = cpit_coefs()?;
+    Some(cpit.coefs() == coefs.as_slice())
+}
+
 // What is read lends each of its lists; `nine_above` has blocks, predecessors and values.
 #[test]
 fn read_lists_are_lent(rt: HostRuntime) -> Result<(), Fail> {
     let instance = instance_of(rt.alloc(), AT_THE_EDGE)?;
-    assert!(rt; instance.coefs.as_slice() == edge_coefs().ok_or("coefficients")?.as_slice());
-    assert!(rt; instance.limits.as_slice() == edge_limits().ok_or("limits")?.as_slice());
+    assert!(rt; has_edge_lists(&instance) == Some(true));
     let cpit = cpit_of(rt.alloc(), with_coef!("1 0 0.0001"))?;
-    assert!(rt; cpit.coefs() == cpit_coefs().ok_or("coefficients")?.as_slice());
+    assert!(rt; has_cpit_coefs(&cpit) == Some(true));
     assert_eq!(rt; cpit.limits().len(), 0);
     Ok(())
 }
