@@ -7,7 +7,9 @@ PARTS = {
            "too, take them out, and value each block at each destination. Sinks take the texts, which depend on none of these threads.",
     "pipe": "One input holds the text of a plan and those of its zone files, cut at lines that are exactly `--`. A plan is a CSV text:\n"
             "the first cell of a record is its key. The texts of the instance are printed one after the other.",
-    "check": "The files of an instance are read back, and what they have is counted.",
+    "check": "The files BASE.blocks, BASE.prec, BASE.pcpsp and, where it is there, BASE.cpit are read back, and what they have is counted.\n"
+             "One that cannot be opened or read, or is too long, is told before any faulty line, also before one of a file that was read\n"
+             "earlier. `out` is standard output, `err` standard error.",
 }
 
 # Of the language of contracts and definitions.
@@ -24,7 +26,7 @@ LANGUAGE = {
     "record": "a type with fields, or a statement all of whose fields hold; `r.f`: a field; `record { f = x; }`: one with these fields; `record r { f = x; }`: r with this f",
     "data": "a type of these variants, or a statement that holds by one of them",
     "module _ (x : A) where": "what stands below takes x too",
-    "abbrev, unfoldable, pub, infix": "no part of what a word means: what the prover opens, what other pages may use, how signs bind: those of a greater number bind closer, and * and / closer than +, + closer than ∷",
+    "abbrev, unfoldable, pub, infix": "no part of what a word means: what the prover opens, what other pages may use, how signs bind: those of a greater number bind closer, and * and / closer than +, + closer than ∷, ∷ closer than ++",
     "#[error(..)], Unit {0}, {I : _}": "how a fault is shown; the {..} behind a word can be passed over",
     "a name with ◌": "one that is written between its operands, each a ◌: `a + b`",
     "ensures, requires": "what holds when a call returns, and what its caller owes; `result`: what it returns",
