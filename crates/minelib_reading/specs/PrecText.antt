@@ -18,7 +18,7 @@ abbrev pub all_differ : List ℕ → Bool
 all_differ [] = true
 all_differ (id ∷ ids) = not (stands_in ids id) && all_differ ids
 
--- `id k p1 .. pk` of the next block, of n: the k predecessors, none twice and none the block itself
+-- `id k p1 .. pk` of the next block, of n: the k predecessors, none twice and none the block itself; a k of n or more is out of range
 unfoldable pub preds_stated : ℕ → ℕ → List (List ℕ) → Result (List ℕ) TextKind
 preds_stated n own fields =
     if nat_lt (length fields) 2 then Err Fields else do

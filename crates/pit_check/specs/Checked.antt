@@ -84,7 +84,8 @@ module _ (base : List ℕ) where
       pub before : AreReadBefore file old mid
       pub fails : FailsIn file mid new refused ⊎ IsMissing file mid new refused
 
-    -- why the files are not counted: a file is not read; or this is the first faulty line of the texts; or memory was refused
+    -- why the files are not counted: a file is not read, whatever stands in those before it; or all are read, and this is the first faulty
+    -- line of the texts; or memory was refused
     abbrev pub IsFoundIn : (old new : List Opening) → Refused → Type 0
     IsFoundIn old new refused =
         ((file : TextFile) × IsUnreadAt file old new refused)

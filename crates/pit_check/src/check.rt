@@ -23,7 +23,8 @@ use text_lines::text_fault::{TextFault, TextFile};
 
 /// Reads the files of an instance, `BASE.blocks`, `BASE.prec` and `BASE.pcpsp`, then `BASE.cpit` if it can be opened, and
 /// counts each text while its file is read. Appends the line of their counts to `out`, or the line of the first fault to `err`; only one
-/// of the two grows. Opens no other file. Returns the status that the program ends with:
+/// of the two grows. A file that cannot be opened or read, or is too long, is told before a faulty line of any file; of several the first.
+/// Opens no other file. Returns the status that the program ends with:
 ///
 /// - 0: the counts were appended;
 /// - 1: a text is too long, or has a faulty line;

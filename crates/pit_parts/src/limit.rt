@@ -5,7 +5,8 @@ ghost use Rattle.pit_parts.specs.PlanKept.{is_turned, stands_before};
 
 use pit_units::Dec;
 
-/// What a limit asks of the tonnes that a resource handles in a period; each number of tonnes is 0 to 10^12.
+/// What a limit asks of the tonnes that a resource handles in a period. In a plan each number of tonnes is 0 to 10^12, in a MineLib text any
+/// decimal.
 #[derive(Clone, Copy, Debug, PartialEq, Eq)]
 pub enum Bound {
     /// No more than so many tonnes.

@@ -15,7 +15,7 @@ pub const MAX_MILLIONTHS: u128 = 1_000_000_000_000_000_000_000_000;
 // How many values a half has: 2^64.
 const HALF: u128 = 18_446_744_073_709_551_616;
 
-/// A decimal number, counted in millionths: between -10^24 and 10^24 of them.
+/// A decimal number, counted in millionths: from -10^24 to 10^24 of them, which is 10^18 either side of zero.
 #[derive(Clone, Copy)]
 pub struct Dec {
     // The millionths and 10^24 more, as two digits of 64 bits: these may stand at places of 8 bytes, where one number of 128 bits may not.

@@ -18,18 +18,19 @@ number_said (Err dec.Number) = Err Number
 number_said (Err dec.TooFine) = Err TooFine
 number_said (Err dec.Range) = Err Range
 
--- a number with so many decimals, from the lowest to the highest millionths
+-- a number with at most so many decimals, zeros behind them not counted, from the lowest to the highest millionths
 abbrev pub number_in : ℕ → ℤ → ℤ → List ℕ → Result ℤ TextKind
 number_in decimals low high field = number_said (decimal_within decimals low high field)
 
--- a whole number from the lowest to the highest, and one below a limit
+-- a whole number from the lowest to the highest, both in
 abbrev pub whole_in : ℕ → ℕ → List ℕ → Result ℕ TextKind
 whole_in low high field = number_in 0 (pos (low * 10 ^ 6)) (pos (high * 10 ^ 6)) field >>= λ m. Ok (unsigned_abs m / 10 ^ 6)
 
+-- a whole number from 0 on, below a limit
 unfoldable pub below_in : ℕ → List ℕ → Result ℕ TextKind
 below_in limit field = number_in 0 (pos 0) (pos (limit * 10 ^ 6) -ℤ pos 1) field >>= λ m. Ok (unsigned_abs m / 10 ^ 6)
 
--- so many millionths, from 0 to the most, with so many decimals
+-- so many millionths, from 0 to the most, with at most so many decimals
 unfoldable pub size_in : ℕ → ℕ → List ℕ → Result ℕ TextKind
 size_in decimals most field = number_in decimals (pos 0) (pos most) field >>= λ m. Ok (unsigned_abs m)
 

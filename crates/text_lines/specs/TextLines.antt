@@ -5,7 +5,7 @@ use Rattle.std.specs.Str.{bytes_eq}
 use Rattle.std.specs.Str.Lines.{strip_carriage_return}
 use Rattle.records.specs.Cells.{is_blank, without_leading_blanks}
 
--- the lines of a text, each ended by LF or by the text's end, without the LF
+-- the lines of a text, each ended by LF or by the text's end, without the LF; behind a last LF no line begins
 abbrev pub lines_of : List ℕ → List (List ℕ)
 lines_of [] = []
 lines_of (b ∷ bytes) = if b == 10 then [] ∷ lines_of bytes else onto_first b (lines_of bytes)

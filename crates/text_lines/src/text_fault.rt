@@ -38,7 +38,7 @@ impl fmt::Display for TextFile {
 
 /// What is wrong with a line of a MineLib text. Where several kinds apply to a line, the first in this order is meant:
 ///
-/// - an unknown key, a key that stands twice, the number of fields;
+/// - an unknown key, a key that stands twice, the number of fields (of a limit 5 where the third is `I`, else 4);
 /// - the fields left to right, each by `Number`, `TooFine`, `Range` and `Name`;
 /// - `Order`, `Count`, predecessors that stand twice, `Missing`.
 #[derive(Clone, Copy, Debug, Error, PartialEq, Eq)]

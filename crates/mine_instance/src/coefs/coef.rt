@@ -16,7 +16,7 @@ pub struct Coef {
     pub d: u8,
     /// The number of the resource, from 0 in the order of the plan.
     pub r: u8,
-    /// The tonnes.
+    /// The tonnes; in a text that is read any decimal, also below 0.
     pub v: Dec,
 }
 

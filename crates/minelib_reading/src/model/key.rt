@@ -25,7 +25,8 @@ pub enum ModelKey {
     Section(Section),
 }
 
-/// The numbers that the header keys have stated so far. A key whose value only has to be right, such as NBLOCKS, has 0.
+/// The numbers that the header keys have stated so far (`numbers`), by the place of the key. A key whose value only has to be right, such as
+/// NBLOCKS, has 0.
 #[derive(Clone, Copy, Debug, PartialEq, Eq)]
 pub struct Header {
     // by the place of the key, in the order in which they are written
