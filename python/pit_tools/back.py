@@ -1,7 +1,7 @@
 """Takes a pit or a schedule back to where its blocks lie: as coordinates, and onto the rows of the export.
 
 A pit's file has a block on each line; a schedule's its period, then its destination, and then the share
-of the block, as far as they are given.
+of the block, as far as they are given. A line without a share, among others with one, has the share 1.
 """
 from __future__ import annotations
 
@@ -57,6 +57,8 @@ def read_mined(path: str, plan: Plan, blocks: int) -> Mined:
     if lines.empty:
         return Mined(np.empty(0, dtype=np.int64))
     table = lines.str.split(expand=True)
+    if table.shape[1] == len(FIELDS) + 1:
+        table = table.fillna({len(FIELDS): "1"})
     lacking = table.isna().any(axis=1)
     numbers = table.apply(pd.to_numeric, errors="coerce")
     ends = [blocks, plan.periods, len(plan.destinations)]

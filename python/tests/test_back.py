@@ -72,6 +72,16 @@ def test_blocks_come_back_to_their_centroids(base, tmp_path):
     assert len(rows) == 1 + len(ROWS) and [row[7] for row in rows[1:]].count("1") == 1 and rows[1][:4] == ["140", "220", "50", str(block)]
 
 
+def test_a_line_without_a_share_has_the_whole_block(base, tmp_path, capsys):
+    split, whole = block_number((2, 1, 0)), block_number((0, 0, 2))
+    schedule = written(tmp_path / "schedule", [f"{split} 1 1 0.25", f"{split} 1 2 0.75", f"{whole} 0 2"])
+    assert main(["back", base + ".plan", base, schedule, "--out", str(tmp_path / "out")]) == 0
+    assert [row[-2:] for row in read(tmp_path / "out")[1:]] == [["heap", "0.25"], ["dump", "0.75"], ["dump", "1"]]
+    schedule = written(tmp_path / "schedule", [f"{split} 1 1 0.25", f"{whole} 0"])
+    assert main(["back", base + ".plan", base, schedule, "--out", str(tmp_path / "out")]) == 2
+    assert "line 2: no line of a pit or a schedule" in capsys.readouterr().err
+
+
 def export_of(kind):
     """The lines of an export with a title row of units, noise, or turned or cut in two, and the words of import."""
     words = ["--tonnes", "T", "--grade", "AU", "--zone", "ROCK", "--x", "XC", "--y", "YC", "--z", "ZC"]
