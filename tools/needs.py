@@ -46,7 +46,7 @@ NEEDS = [
 MODULES = ["pandas", "numpy", "scipy", "matplotlib", "openpyxl", "pytest"]
 
 # What no package brings.
-DEVICES = ["/dev/full", "/proc/self/task"]
+DEVICES = ["/dev/full", "/proc/self/task", "/proc/self/io"]
 
 LOOK = f"import importlib.util as u; print(*[name for name in {MODULES} if not u.find_spec(name)])"
 
