@@ -1,8 +1,8 @@
 -- Blocks that are left, one by one.
-use Rattle.std.proofs.Common.{◌≡◌, ℕ, ◌+◌, ◌<◌, ◌||◌, true, false, List, [], ◌∷◌, ◌++◌, fold, get_or, length, sym, ap, ◌∙◌, arith, if◌then◌else◌}
+use Rattle.std.proofs.Common.{◌≡◌, ℕ, ◌+◌, ◌<◌, true, List, [], fold, get_or, length, sym, ap, ◌∙◌, arith}
 use Rattle.std.specs.List.{range_with_len}
-use Rattle.std.proofs.lemmas.List.{get_or-map, length-map, map-append}
-use Rattle.std.proofs.lemmas.List.Folds.{list_any_at, list_any-append}
+use Rattle.std.proofs.lemmas.List.{get_or-map, length-map}
+use Rattle.std.proofs.lemmas.List.Folds.{list_any_at}
 use Rattle.std.proofs.lemmas.List.Sums.{fold-append}
 use Rattle.precedence.specs.IdRuns.{is_in}
 use Rattle.fewer_arcs.specs.Fewer.{is_behind, left_with}
@@ -16,20 +16,6 @@ pub behind_one : (lists : List (List ℕ)) (blocks : List LeftBlock) (place c : 
 behind_one lists blocks place c block lt at is =
     list_any_at (λ d. is_in (get_or lists d []) c) (ids_left blocks) place 0 (omega (arith, length-map blocks (λ (b : LeftBlock). b.id)))
     (ap (λ d. is_in (get_or lists d []) c) (get_or-map (λ (b : LeftBlock). b.id) blocks place block 0 lt ∙ ap (λ (b : LeftBlock). b.id) (sym at)) ∙ is)
-
--- blocks in two parts
-pub behind_parts : (lists : List (List ℕ)) (before after : List LeftBlock) (c : ℕ)
-    → is_behind lists (ids_left (before ++ after)) c ≡ (is_behind lists (ids_left before) c || is_behind lists (ids_left after) c)
-behind_parts lists before after c =
-    ap (λ ids. is_behind lists ids c) (map-append (λ (b : LeftBlock). b.id) before after)
-    ∙ list_any-append (λ d. is_in (get_or lists d []) c) (ids_left before) (ids_left after)
-
--- one block more
-pub one_left : (lists : List (List ℕ)) (blocks : List LeftBlock) (block : LeftBlock) → is_behind lists (ids_left blocks) block.id ≡ false
-    → ids_left (blocks ++ block ∷ []) ≡ fold (left_with lists) (ids_left blocks) (range_with_len block.id 1)
-one_left lists blocks block free =
-    map-append (λ (b : LeftBlock). b.id) blocks (block ∷ [])
-    ∙ sym (ap (λ b. if b then ids_left blocks else ids_left blocks ++ block.id ∷ []) free)
 
 -- some identifiers more
 pub more_left : (lists : List (List ℕ)) (left before after : List ℕ) (first done n next : ℕ) → done + n ≡ next

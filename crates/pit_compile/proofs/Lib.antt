@@ -1,4 +1,5 @@
 pub mod Apart
+pub mod BehindFacts
 pub mod Collected
 pub mod Compiles
 pub mod HandedOn
@@ -9,4 +10,3 @@ pub mod RowFacts
 pub mod RunFacts
 pub mod SentRows
 pub mod SettingsFacts
-pub mod StartsFacts

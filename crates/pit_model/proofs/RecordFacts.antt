@@ -203,12 +203,6 @@ bands_long : (n : ℕ) → length (bands_form n) ≡ 2 * n
 bands_long zero = refl
 bands_long (suc n) = omega (arith, bands_long n)
 
--- the numbers of what cells name
-number_named : (o : Option ℕ) (cell : List ℕ)
-    → ((if is_some o then Ok (Bytes cell) else Err Name) >>= λ value. Ok (unwrap_or o 0)) ≡ number_of o
-number_named (Some n) cell = refl
-number_named None cell = refl
-
 covers_are : (formulas : List NamedFormula) (cells : List (List ℕ))
     → (read_fields (λ place. plan_kind) (replicate (length cells) (a_destination formulas)) cells >>= λ values. Ok (covers_of formulas values))
     ≡ covers_in formulas cells

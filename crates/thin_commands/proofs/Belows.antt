@@ -1,11 +1,10 @@
 -- What is left of lists has no identifiers but theirs.
-use Rattle.std.proofs.Common.{◌≡◌, ℕ, ◌<◌, ◌≤◌, Bool, true, false, List, [], ◌∷◌, ◌++◌, All, fold, get_or, if◌then◌else◌, length, map, subst, sym, arith}
+use Rattle.std.proofs.Common.{◌≡◌, ℕ, ◌<◌, Bool, true, false, List, [], ◌∷◌, ◌++◌, All, fold, get_or, if◌then◌else◌, length, map, subst, sym, arith}
 use Rattle.std.proofs.lemmas.List.{get_or_default, length-map}
 use Rattle.std.proofs.lemmas.List.Elements.{All-append, All-cons, All-head, All-map, All-tail}
 use Rattle.fewer_arcs.specs.Fewer.{fewer, is_behind, left_of, left_with}
 use Rattle.mine_instance.specs.Instance.{Instance}
 use Rattle.mine_instance.specs.Valid.{IsValid}
-use Rattle.pit_parts.specs.declared.ranges.TheConstants.{MAX_BLOCKS}
 
 none : (P : ℕ → Type 0) → All P []
 none P k d lt = absurd (omega (arith, lt))
@@ -38,9 +37,3 @@ pub valid_fewer : (i : Instance) → IsValid i
 valid_fewer i valid =
     subst (λ n. All (λ ids. All (λ id. id < n) ids) (fewer i.preds)) (sym (length-map i.preds (left_of i.preds)))
     (fewer_below i.preds (length i.preds) (valid_below i valid))
-
-pub few_lists : (i : Instance) → IsValid i → length i.preds ≤ MAX_BLOCKS
-few_lists i valid = omega (arith, valid.lengths.preds, valid.lengths.few)
-
-pub few_left : (i : Instance) → IsValid i → length (fewer i.preds) ≤ MAX_BLOCKS
-few_left i valid = omega (arith, valid.lengths.preds, valid.lengths.few, length-map i.preds (left_of i.preds))

@@ -1,6 +1,6 @@
 -- Why nothing is told: not all files could be opened; or the run on them is refused; or the sink was cut off; or memory was refused for the
 -- line of the counts.
-use Rattle.std.proofs.Common.{◌≡◌, ◌+◌, ℕ, Bool, List, [], ◌∷◌, ◌++◌, Option, inl, inr, length, map, subst}
+use Rattle.std.proofs.Common.{◌≡◌, ◌+◌, ℕ, Bool, List, Option, inl, inr, length, map, subst}
 use Rattle.devices.specs.files.Opening.{Opening}
 use Rattle.devices.specs.sinks.SinkState.{SinkState, IsWritten}
 use Rattle.mine_instance.specs.Instance.{Instance}
@@ -19,9 +19,7 @@ use Rattle.pit_parts.specs.declared.formulas.formula.Formula.{Formula}
 use Rattle.pit_parts.specs.declared.settings.Settings.{Settings as Chosen}
 use Rattle.run_threads.specs.Refusing.{HasFailed}
 use Rattle.run_threads.specs.Starts.{AreSpent, StartsView}
-use Rattle.thin_commands.specs.CountsText.{counts_words}
-use Rattle.thin_commands.specs.Thin.{IsNotThinned, IsRead, IsStopped, IsThinned, TellsThinned, counts_of, thin_text}
-use Rattle.thin_commands.specs.declared.counts.Counts.{Counts}
+use Rattle.thin_commands.specs.Thin.{IsNotThinned, IsRead, IsStopped, thin_text}
 
 module _ (plan : PlanParts) (paths : List (List ℕ)) (opened_old opened_new : List Opening) (starts_old starts_new : StartsView) (old new : SinkState) where
   -- the instance that was compiled of the files that were opened

@@ -1,8 +1,7 @@
 //! Writing what is left of the predecessors of an instance.
 
 ghost use Rattle.std.specs.Prelude.{◌≡◌, length, IfErr, IfOk, MatchResult, OnOk};
-ghost use Rattle.devices.specs.sinks.SinkState.{IsCutOff, IsWritten};
-ghost use Rattle.devices.specs.sinks.SinkSteps.{refusals};
+ghost use Rattle.devices.specs.sinks.SinkState.{IsWritten};
 ghost use Rattle.mine_instance.specs.Valid.{IsValid};
 ghost use Rattle.thin_commands.specs.Thin.{IsStopped, counts_of, thin_text};
 ghost use Rattle.thin_commands.specs.inner.Answered.{in_sink};

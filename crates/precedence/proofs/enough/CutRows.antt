@@ -1,10 +1,8 @@
 -- Pieces of rows.
-use Rattle.std.proofs.Common.{◌≡◌, ℕ, zero, suc, ◌+◌, ◌<◌, ◌≤◌, ◌&&◌, ◌||◌, Bool, false, List, [], ◌∷◌, ◌++◌, length, get_or, nat_lt, nat_le, sym, ap, ◌∙◌, arith, ⊎_elim}
-use Rattle.std.proofs.Math.Bool.{or-false, or_assoc}
-use Rattle.std.proofs.lemmas.Bool.{cases_lt}
+use Rattle.std.proofs.Common.{◌≡◌, ℕ, zero, suc, ◌+◌, ◌<◌, ◌≤◌, ◌&&◌, ◌||◌, Bool, List, [], ◌∷◌, ◌++◌, length, get_or, nat_lt, nat_le, sym, ap, ◌∙◌, arith}
+use Rattle.std.proofs.Math.Bool.{or_assoc}
 use Rattle.std.proofs.lemmas.Bool.Decides.{nat_tests}
-use Rattle.std.proofs.lemmas.List.{get_or-map, get_or_append_left, get_or_at, length-append}
-use Rattle.precedence.specs.inner.Cut.{AreApart}
+use Rattle.std.proofs.lemmas.List.{get_or-map}
 use Rattle.precedence.specs.inner.Rows.{is_in_row, is_in_rows, pasts, LieApart}
 use Rattle.precedence.specs.declared.cones.cone_rows.Row.{Row}
 use Rattle.precedence.proofs.Tables.{in_rows_push}
@@ -25,28 +23,6 @@ told_more old pieces piece low from c le told =
     in_rows_push from pieces piece c
     ∙ ap (λ b. b || is_in_row from piece c) told
     ∙ joined (is_in_rows from old c) (from + low) (from + piece.first) (from + piece.past) c (omega arith) (omega arith)
-
--- none so far
-pub told_none : (old : List Row) (low from c : ℕ) → is_in_rows from old c ≡ (is_in_rows from old c || (nat_le (from + low) c && nat_lt c (from + low)))
-told_none old low from c =
-    let none : (nat_le (from + low) c && nat_lt c (from + low)) ≡ false = grind (arith, nat_tests) in
-    sym (ap (λ b. is_in_rows from old c || b) none ∙ or-false (is_in_rows from old c))
-
--- one spot more
-pub spot_more : (rows : List Row) (spots : List ℕ) (pos : ℕ) → AreApart rows spots
-    → ((k : ℕ) → k < length spots → is_in_rows (get_or spots k 0) rows pos ≡ false) → AreApart rows (spots ++ pos ∷ [])
-spot_more rows spots pos apart free i j lt within =
-    let long = length-append spots (pos ∷ []) in
-    let one = get_or_append_left spots (pos ∷ []) 0 i (omega arith) in
-    ⊎_elim
-    (λ old.
-    let two = get_or_append_left spots (pos ∷ []) 0 j old in
-    (λ t. is_in_rows (one t) rows (two t)) ∙ apart i j lt old)
-    (λ new.
-    let last : length spots ≡ j = omega arith in
-    let two = get_or_at spots pos [] 0 j last in
-    (λ t. is_in_rows (one t) rows (two t)) ∙ free i (omega arith))
-    (cases_lt j (length spots))
 
 -- where the rows before a row are past
 pub gap_at : (low : ℕ) (rows : List Row) (high i : ℕ) (d : Row) → LieApart low rows high → i < length rows

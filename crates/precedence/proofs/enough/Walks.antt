@@ -125,19 +125,6 @@ seen_alike from a b (row ∷ rows) =
     let rest = seen_alike from a b rows in
     λ j. (low j && up j) || rest j
 
--- ---- nothing is found yet
-
-pub nothing_walked : (codes zones of_zone : List ℕ) (table from : ℕ) (rows pieces : List Row) (spots : List ℕ)
-    → IsWalked codes zones of_zone table from rows pieces spots 0 0 []
-nothing_walked codes zones of_zone table from rows pieces spots = record {
-  rising = λ k lt. absurd (omega arith);
-  own = λ x h. absurd (let no : ⊥ = cc in no);
-  among = λ x h. absurd (let no : ⊥ = cc in no);
-  before = λ x y h l. absurd (let no : ⊥ = cc in no);
-  passed = λ x h. inl h;
-  apart = λ x d h hd lt. absurd (let no : ⊥ = cc in no);
-}
-
 -- ---- one piece more: its run goes before what is left
 
 module _ (codes zones of_zone : List ℕ) (table from : ℕ) (rows pieces : List Row) (spots : List ℕ) (rise : IsStrictlyIncreasing codes)

@@ -2,8 +2,8 @@
 
 ghost use Rattle.std.specs.Prelude.{◌≡◌, ◌+◌, ◌<◌, ◌≤◌, ℕ, true, [], IfOk, IfSome, IsTrue, length, slice_index};
 ghost use Rattle.precedence.specs.IdRuns.{is_in};
-ghost use Rattle.precedence.specs.inner.Cut.{lying, table_of, IsCut, IsWalked};
-ghost use Rattle.precedence.specs.inner.Rows.{is_in_rows, start_of, AreInOrder};
+ghost use Rattle.precedence.specs.inner.Cut.{table_of, IsCut, IsWalked};
+ghost use Rattle.precedence.specs.inner.Rows.{is_in_rows, start_of};
 ghost use Rattle.precedence.specs.declared.places.code.TheConstants.{CODES};
 
 use crate::cones::cone_rows::Row;

@@ -14,7 +14,7 @@ use Rattle.pit_compile.proofs.Compiles.{Compiles, compiles, repeat_refused}
 use Rattle.pit_compile.proofs.PlainRows.{blocks_are}
 use Rattle.pit_compile.proofs.Readers.{all_read, as_many, not_read}
 use Rattle.pit_compile.proofs.RowFacts.{AreZoneFiles, few_sents}
-use Rattle.pit_compile.proofs.StartsFacts.{read_behind, repeat_behind}
+use Rattle.pit_compile.proofs.BehindFacts.{read_behind, repeat_behind}
 use Rattle.pit_compile.proofs.compiling.compiled_of.Goals as goal
 use Rattle.pit_compile.proofs.compiling.compiled_of.Goals.{In_err-require_read, In_ok-rows}
 use Rattle.pit_compile.proofs.compiling.compiled_of.Given.{Over}
