@@ -4,10 +4,9 @@
 //! output. `pitc compile` does so from files to files. `pitc check BASE` reads the files of an instance and prints its counts.
 #![tactic(auto)]
 
-ghost use Rattle.std.specs.Prelude.{◌≡◌, ◌≤◌};
+ghost use Rattle.std.specs.Prelude.{◌≡◌};
 ghost use Rattle.pit_parts.specs.formulas.Formula.{IsRuled};
-ghost use Rattle.pit_parts.specs.formulas.Worth.{worth, mill, dump};
-ghost use Rattle.pit_parts.specs.declared.ranges.TheConstants.{MAX_COST, MAX_PRICE, MAX_RECOVERY};
+ghost use Rattle.pit_parts.specs.formulas.Worth.{worth};
 
 use devices::feeds::read_feed::ReadFeed;
 use devices::files::file_opener::FileOpener;
@@ -30,8 +29,6 @@ use pit_jobs::job::{Job, JobFault, append_error};
 use pit_jobs::stated_job::job;
 use pit_model::block::Block;
 use pit_model::destination::{Destination, Valuer};
-use pit_model::formula::Formula;
-use pit_model::worth::{dump_worth, mill_worth};
 use pit_parts::settings::Settings;
 use std::alloc::{Alloc, AllocError, Global};
 use std::env;
@@ -170,55 +167,15 @@ fn run<R: Threads + Wait + Sync, O: Opener, S: Sink + Drop>(
 ) -> Result<u8, AllocError> {
     let mut destinations = Vec::new(alloc);
     for named in task.plan().formulas() {
-        let destination = match &named.formula {
-            Formula::Mill {
-                recovery,
-                price,
-                cost,
-            } => {
-                let (recovery, price, cost) = (*recovery, *price, *cost);
-                let valuer: Valuer = Box::new(
-                    alloc,
-                    move |block: Block| -> i128
-                        requires recovery { recovery ≤ MAX_RECOVERY }
-                        requires price { price ≤ MAX_PRICE }
-                        requires cost { cost ≤ MAX_COST }
-                        ensures { result ≡ mill block recovery price cost }
-                    { mill_worth(block, recovery, price, cost) },
-                )?;
-                let formula = Formula::Mill {
-                    recovery,
-                    price,
-                    cost,
-                };
-                Destination::new(formula, valuer)
-            }
-            Formula::Dump { cost } => {
-                let cost = *cost;
-                let valuer: Valuer = Box::new(
-                    alloc,
-                    move |block: Block| -> i128
-                        requires { cost ≤ MAX_COST }
-                        ensures { result ≡ dump block cost }
-                    { dump_worth(block, cost) },
-                )?;
-                Destination::new(Formula::Dump { cost }, valuer)
-            }
-            // Any other formula is kept whole, and asked itself.
-            _ => {
-                let kept = named.formula.copy(alloc)?;
-                let formula = named.formula.copy(alloc)?;
-                let valuer: Valuer = Box::new(
-                    alloc,
-                    move |block: Block| -> i128
-                        requires { IsRuled kept }
-                        ensures { result ≡ worth kept block }
-                    { kept.worth(block) },
-                )?;
-                Destination::new(formula, valuer)
-            }
-        };
-        destinations.push(destination)?;
+        let kept = named.formula.copy(alloc)?;
+        let valuer: Valuer = Box::new(
+            alloc,
+            move |block: Block| -> i128
+                requires { IsRuled kept }
+                ensures { result ≡ worth kept block }
+            { kept.worth(block) },
+        )?;
+        destinations.push(Destination::new(named.formula.copy(alloc)?, valuer))?;
     }
     Ok(task.run(
         rt,
