@@ -1,0 +1,487 @@
+"""Evaluates the definitions of crates/*/specs as they stand.
+
+Each function of a page becomes one of Python, by its clauses in their order; a word that it brings in is that of the page that it is brought
+in from, a constant of the code is read there, and a word of the library is found in `library`, by hand. Lists are chains `(head, rest)`, `()`
+being the empty one; natural numbers and integers are numbers, `pos n` and `negsuc n` those of 0 and more and below 0.
+"""
+import functools
+import glob
+import os
+import re
+from typing import Any, Callable, Dict, Iterator, List, NamedTuple, Optional, Tuple
+
+import shared
+
+TOKEN = re.compile(r'"[^"]*"|[(){};,]|\.\w+(?<=[)\w])|[^\s(){};,"]+')
+# How closely signs bind, and those that bind to the right.
+BINDING = {"^": 80, "*": 70, "/": 70, "%": 70, "*ℤ": 70, "+": 65, "-": 65, "+ℤ": 65, "-ℤ": 65, "∷": 60, "++": 55, "==": 50, "&&": 35, "||": 30,
+           ">>=": 10}
+TO_THE_RIGHT = {"∷", "^"}
+SIGNS = {"+": "({} + {})", "*": "({} * {})", "^": "({} ** {})", "-": "minus({}, {})", "/": "over({}, {})", "%": "rest({}, {})",
+         "+ℤ": "({} + {})", "-ℤ": "({} - {})", "*ℤ": "({} * {})", "∷": "({}, {})", "++": "joined({}, {})", "==": "({} == {})",
+         "&&": "({} and {})", "||": "({} or {})"}
+# The constructors of numbers and truth values: as a value, as a test, and what it holds.
+NUMBERS = {"zero": ("0", "{} == 0", ""), "suc": ("({} + 1)", "{} > 0", "{} - 1"), "pos": ("{}", "{} >= 0", "{}"),
+           "negsuc": ("(-{} - 1)", "{} < 0", "-{} - 1"), "true": ("True", "{} is True", ""), "false": ("False", "{} is False", "")}
+LIBRARY_VARIANTS = {"Some", "None", "Ok", "Err"}
+
+
+class Made(NamedTuple):
+    """A variant with what it holds."""
+
+    tag: str
+    held: Tuple[Any, ...] = ()
+
+
+class Function:
+    """A function of so many arguments, and those that it has."""
+
+    def __init__(self, count: int, call: Callable, held: Tuple[Any, ...] = ()):
+        self.count, self.call, self.held = count, call, held
+
+
+# A proof that a field carries: what it is made of is of no matter.
+PROOF = Made("proof")
+
+
+def applied(function: Any, *arguments: Any) -> Any:
+    """A function or a variant with these arguments more."""
+    if function is PROOF:
+        return PROOF
+    if isinstance(function, Made):
+        return Made(function.tag, function.held + arguments)
+    held = function.held + arguments
+    if len(held) < function.count:
+        return Function(function.count, function.call, held)
+    answer = function.call(*held[: function.count])
+    return applied(answer, *held[function.count :]) if held[function.count :] else answer
+
+
+def chain(values) -> Tuple:
+    """A list of the pages."""
+    found: Tuple = ()
+    for value in reversed(list(values)):
+        found = (value, found)
+    return found
+
+
+def each(values: Tuple) -> Iterator[Any]:
+    """The elements of a list of the pages."""
+    while values:
+        head, values = values
+        yield head
+
+
+# Terms
+
+
+class Token(NamedTuple):
+    text: str
+    begins: bool
+    column: int
+
+
+def tokens_of(lines: List[str]) -> List[Token]:
+    found = []
+    for line in lines:
+        for at, match in enumerate(TOKEN.finditer(line)):
+            found.append(Token(match[0], at == 0, match.start()))
+    return found
+
+
+class Reader:
+    """Reads a term; a statement of a `do` ends where a line begins no further right."""
+
+    def __init__(self, tokens: List[Token]):
+        self.tokens, self.at, self.columns = tokens, 0, [-1]
+
+    def peek(self) -> str:
+        if self.at == len(self.tokens):
+            return ""
+        token = self.tokens[self.at]
+        return "" if token.begins and token.column <= self.columns[-1] else token.text
+
+    def take(self, wanted: str = "") -> str:
+        text = self.peek()
+        if not text or wanted and text != wanted:
+            raise SyntaxError(f"{text or 'the end'} in place of {wanted or 'a term'}")
+        self.at += 1
+        return text
+
+    def term(self, least: int = 0):
+        found = self.operand()
+        while BINDING.get(self.peek(), -1) >= least:
+            sign = self.take()
+            found = ("sign", sign, found, self.term(BINDING[sign] + (sign not in TO_THE_RIGHT)))
+        return found
+
+    def operand(self):
+        head = self.peek()
+        if head == "λ":
+            return self.function()
+        if head == "let":
+            self.take()
+            name = self.take()
+            while self.take() != "=":
+                pass
+            value = self.term()
+            self.take("in")
+            return "let", name, value, self.term()
+        if head == "if":
+            self.take()
+            test = self.term()
+            self.take("then")
+            yes = self.term()
+            self.take("else")
+            return "if", test, yes, self.term()
+        if head == "do":
+            return self.steps()
+        found = self.atom()
+        arguments = []
+        while self.peek() and self.peek() not in BINDING and self.peek() not in ("then", "else", "in", ")", ",", "}", ";", "="):
+            if self.peek() == "{":
+                self.braces()
+            elif self.peek() in ("λ", "let", "if", "do"):
+                arguments.append(self.operand())
+            else:
+                arguments.append(self.atom())
+        return ("call", found, arguments) if arguments else found
+
+    def function(self):
+        self.take("λ")
+        names = [self.take()]
+        while not names[-1].endswith("."):
+            names.append(self.take())
+        names[-1] = names[-1][:-1]
+        return "function", names, self.term()
+
+    def steps(self):
+        self.take("do")
+        column, found = self.tokens[self.at].column, []
+        while True:
+            self.columns.append(column - 1)
+            bound = ""
+            if self.tokens[self.at + 1 : self.at + 2] and self.tokens[self.at + 1].text == "←":
+                bound = self.take()
+                self.take("←")
+            self.columns[-1] = column
+            begun, self.tokens[self.at] = self.tokens[self.at], self.tokens[self.at]._replace(begins=False)
+            value = self.term()
+            self.columns.pop()
+            if not bound:
+                for name, step in reversed(found):
+                    value = ("sign", ">>=", step, ("function", [name], value))
+                return value
+            found.append((bound, value))
+
+    def braces(self) -> None:
+        self.take("{")
+        while self.take() != "}":
+            pass
+
+    def atom(self):
+        found = self.bare()
+        while re.match(r"\.\w", self.peek()):
+            for field in self.take()[1:].split("."):
+                found = ("field", found, field)
+        return found
+
+    def bare(self):
+        text = self.take()
+        if text == "(":
+            parts = [self.term()]
+            while self.peek() == ",":
+                self.take()
+                parts.append(self.term())
+            self.take(")")
+            return parts[0] if len(parts) == 1 else ("tuple", parts)
+        if text == "record":
+            base = None if self.peek() == "{" else self.atom()
+            return "record", base, self.fields()
+        if text.startswith('"'):
+            return "text", text[1:-1]
+        return ("number", int(text)) if text.isdigit() else ("name", text)
+
+    def fields(self):
+        self.take("{")
+        found = []
+        while self.peek() != "}":
+            name = self.take()
+            self.take("=")
+            found.append((name, self.term()))
+            if self.peek() == ";":
+                self.take()
+        self.take("}")
+        return found
+
+
+# Pages
+
+
+class Page:
+    """A page: the clauses of its functions, its variants, and what it brings in by which name."""
+
+    def __init__(self, path: str):
+        self.name = ".".join(["Rattle", path.split("/")[1], "specs", *path[: -len(".antt")].split("/")[3:]])
+        self.clauses: Dict[str, List[List[str]]] = {}
+        self.variants: set = set()
+        self.brought: Dict[str, Tuple[str, str]] = {}
+        self.others: Dict[str, str] = {}
+        chunks: List[List[str]] = []
+        for line in shared.read(path).splitlines():
+            if line.startswith("--") or not line.strip() or re.match(r"\s+--", line):
+                continue
+            if line[0] not in " })" or not chunks:
+                chunks.append([])
+            chunks[-1].append(line)
+        for chunk in chunks:
+            self.take(chunk)
+
+    def take(self, chunk: List[str]) -> None:
+        """Takes a clause, a type or an import."""
+        head = chunk[0]
+        if brought := re.match(r"(?:pub )?use (Rattle\.[\w.]+)(?:\.\{(.*)\}| as (\w+))$", head):
+            source, names, other = brought.groups()
+            if other:
+                self.others[other] = source
+            for name in names.split(", ") if names else []:
+                word, _, own = name.partition(" as ")
+                self.brought[own or word] = source, word
+        elif re.match(r"(?:pub )?data ", head):
+            self.variants |= {name for line in chunk[1:] for name in re.findall(r"^ +(?:pub )?(\w+) :", line)}
+        elif not re.match(r"(?:(?:abbrev|unfoldable|pub) )*(?:use|mod|record|module|infix\w*|\S+ :)(?: |$)", head):
+            self.clauses.setdefault(self.defined_by(head), []).append(chunk)
+
+    @staticmethod
+    def defined_by(head: str) -> str:
+        """The word that a clause defines: its first one, or the sign between two patterns."""
+        left = Reader(tokens_of([head])).term()
+        return left[1] if left[0] == "sign" else (left[1] if left[0] == "call" else left)[1]
+
+
+class Pages:
+    """All pages, and what a page's words are as Python."""
+
+    def __init__(self, library: Dict[str, Any]):
+        found = [Page(path) for path in sorted(glob.glob("crates/*/specs/**/*.antt", recursive=True))]
+        self.pages = {page.name: page for page in found}
+        self.library, self.ready = library, {}
+        self.scope: Dict[str, Any] = {"Made": Made, "Function": Function, "applied": applied, "joined": joined, "minus": minus, "over": over,
+                                      "rest": rest, "with_fields": with_fields, "field": field, "chain": chain}
+
+    def word(self, page: str, name: str) -> Any:
+        """What a word of a page is."""
+        if (page, name) not in self.ready:
+            self.ready[page, name] = self.made(page, name)
+        return self.ready[page, name]
+
+    def call(self, page: str, name: str, *arguments: Any) -> Any:
+        """A function of a page by the short name of its page, as `zone_csv.Row`, of these arguments."""
+        crate, _, rest_of_it = page.partition(".")
+        found = self.word(f"Rattle.{crate}.specs.{rest_of_it}", name)
+        return applied(found, *arguments) if arguments else found
+
+    def source(self, page: str, name: str) -> Optional[Tuple[str, str]]:
+        """The page that has a word which this page uses, and its name there; None of what it does not bring in."""
+        if page not in self.pages:
+            return page, name
+        for word in (name, name.strip("◌")):
+            if word in self.pages[page].clauses or word in self.pages[page].variants:
+                return page, word
+        brought = self.pages[page].brought.get(name)
+        return self.source(*brought) if brought else None
+
+    def is_variant(self, page: str, name: str) -> bool:
+        """Whether a word is a variant, by how the page names it."""
+        first, _, rest_of_it = name.partition(".")
+        if rest_of_it:
+            return first in self.pages[page].others
+        place = self.source(page, name)
+        if place is None:
+            return False
+        owner, word = place
+        return owner.endswith("TheVariants") or owner in self.pages and word in self.pages[owner].variants or word in LIBRARY_VARIANTS
+
+    def made(self, page: str, name: str) -> Any:
+        """Makes a word: a function or a value by its clauses, a constant of the code, or a word of the library."""
+        if page not in self.pages:
+            if page.endswith("TheConstants"):
+                return constant(page, name)
+            if ".proofs." in page:
+                return PROOF
+            if name not in self.library:
+                raise NameError(f"{name} of {page} is no word of the library that stands here")
+            return self.library[name]
+        clauses = [Clause(self, page, chunk) for chunk in self.pages[page].clauses[name]]
+        count = len(clauses[0].patterns)
+        lines = [f"def it({', '.join(f'a{n}' for n in range(count))}):"]
+        for clause in clauses:
+            lines += clause.lines()
+        lines.append(f"    raise LookupError({name!r})")
+        exec("\n".join(lines), self.scope, made := {})
+        return Function(count, made["it"]) if count else made["it"]()
+
+
+class Clause:
+    """A clause of a function: its patterns, and what it answers, as Python."""
+
+    def __init__(self, pages: Pages, page: str, chunk: List[str]):
+        self.pages, self.page, self.steps = pages, page, []
+        tokens = tokens_of(chunk)
+        depth = middle = 0
+        for at, token in enumerate(tokens):
+            depth += (token.text in "({") - (token.text in ")}")
+            if token.text == "=" and depth == 0:
+                middle = at
+                break
+        left = Reader(tokens[:middle]).term()
+        if left[0] == "sign":
+            self.patterns = [left[2], left[3]]
+        else:
+            self.patterns = left[2] if left[0] == "call" else []
+        self.body = Reader([token._replace(begins=token.begins and at > 0) for at, token in enumerate(tokens[middle + 1 :])]).term()
+
+    def lines(self) -> List[str]:
+        """A loop that is left where a pattern does not fit, and that answers where all do."""
+        names: Dict[str, str] = {}
+        for number, pattern in enumerate(self.patterns):
+            self.match(pattern, f"a{number}", names)
+        return ["    while True:", *(f"        {step}" for step in self.steps), f"        return {self.python(self.body, names)}"]
+
+    def match(self, pattern, value: str, names: Dict[str, str]) -> None:
+        """Tests a value, and names its parts."""
+        kind = pattern[0]
+        if kind == "name" and pattern[1] == "[]":
+            self.steps.append(f"if {value}: break")
+        elif kind == "sign" and pattern[1] == "∷":
+            self.steps.append(f"if not {value}: break")
+            self.match(pattern[2], f"{value}[0]", names)
+            self.match(pattern[3], f"{value}[1]", names)
+        elif kind == "number":
+            self.steps.append(f"if {value} != {pattern[1]}: break")
+        elif kind == "tuple":
+            for number, part in enumerate(pattern[1]):
+                self.match(part, f"{value}[{number}]", names)
+        else:
+            head, parts = (pattern[1][1], pattern[2]) if kind == "call" else (pattern[1], [])
+            if head in NUMBERS:
+                self.steps.append(f"if not ({NUMBERS[head][1].format(value)}): break")
+                for part in parts:
+                    self.match(part, f"({NUMBERS[head][2].format(value)})", names)
+            elif self.pages.is_variant(self.page, head):
+                self.steps.append(f"if {value}.tag != {head.split('.')[-1]!r}: break")
+                for number, part in enumerate(parts):
+                    self.match(part, f"{value}.held[{number}]", names)
+            elif head != "_":
+                names[head] = f"v{len(self.steps)}"
+                self.steps.append(f"{names[head]} = {value}")
+
+    def python(self, term, names: Dict[str, str]) -> str:
+        """A term as an expression of Python."""
+        return getattr(self, "as_" + term[0])(names, *term[1:])
+
+    def as_number(self, names, number):
+        return str(number)
+
+    def as_text(self, names, text):
+        return f"chain({text.encode()!r})"
+
+    def as_tuple(self, names, parts):
+        return f"({', '.join(self.python(part, names) for part in parts)},)"
+
+    def as_field(self, names, value, name):
+        return f"field({self.python(value, names)}, {name!r})"
+
+    def as_record(self, names, base, fields):
+        told = ", ".join(f"{name!r}: {self.python(value, names)}" for name, value in fields)
+        return f"{{{told}}}" if base is None else f"with_fields({self.python(base, names)}, {{{told}}})"
+
+    def as_if(self, names, test, yes, no):
+        return f"({self.python(yes, names)} if {self.python(test, names)} else {self.python(no, names)})"
+
+    def as_let(self, names, name, value, body):
+        inner = {**names, name: f"l{len(names)}"}
+        return f"(lambda {inner[name]}: {self.python(body, inner)})({self.python(value, names)})"
+
+    def as_function(self, names, bound, body):
+        inner = dict(names)
+        for name in bound:
+            inner[name] = f"l{len(inner)}_{len(names)}"
+        return f"Function({len(bound)}, lambda {', '.join(inner[name] for name in bound)}: {self.python(body, inner)})"
+
+    def as_sign(self, names, sign, left, right):
+        told = self.python(left, names), self.python(right, names)
+        return SIGNS[sign].format(*told) if sign in SIGNS else f"applied({self.global_word(f'◌{sign}◌')}, {told[0]}, {told[1]})"
+
+    def as_name(self, names, name):
+        first, *fields = name.split(".")
+        if name == "[]":
+            return "()"
+        if first in names:
+            return functools.reduce(lambda value, part: f"field({value}, {part!r})", fields, names[first])
+        if name in NUMBERS:
+            return NUMBERS[name][0] if "{}" not in NUMBERS[name][0] else f"Function(1, lambda n: {NUMBERS[name][0].format('n')})"
+        if self.pages.is_variant(self.page, name):
+            return f"Made({name.split('.')[-1]!r})"
+        return functools.reduce(lambda value, part: f"field({value}, {part!r})", fields, self.global_word(first))
+
+    def as_call(self, names, head, arguments):
+        told = [self.python(argument, names) for argument in arguments]
+        if head == ("name", "cond") and len(told) == 3:
+            return f"({told[1]} if {told[0]} else {told[2]})"
+        if head == ("name", "codes"):
+            return told[0]
+        if head[0] == "name" and head[1] in NUMBERS:
+            return NUMBERS[head[1]][0].format(told[0])
+        if head[0] == "name" and head[1] not in names and self.pages.is_variant(self.page, head[1]):
+            return f"Made({head[1].split('.')[-1]!r}, ({', '.join(told)},))"
+        return f"applied({self.python(head, names)}, {', '.join(told)})"
+
+    def global_word(self, name: str) -> str:
+        """The expression of a word of a page, which is made when it is first asked for."""
+        place = self.pages.source(self.page, name)
+        if place is None:
+            raise NameError(f"{name} of {self.page} is brought in from nowhere")
+        owner, word = place
+        key = f"w{len(self.pages.scope)}"
+        self.pages.scope.setdefault("places", {})
+        known = self.pages.scope["places"].get((owner, word))
+        if known is None:
+            self.pages.scope["places"][owner, word] = known = key
+            self.pages.scope[key] = lambda: self.pages.word(owner, word)
+        return f"{known}()"
+
+
+def joined(left: Tuple, right: Tuple) -> Tuple:
+    for value in reversed(list(each(left))):
+        right = (value, right)
+    return right
+
+
+def minus(left: int, right: int) -> int:
+    return max(left - right, 0)
+
+
+def over(left: int, right: int) -> int:
+    return left // right if right else 0
+
+
+def rest(left: int, right: int) -> int:
+    return left % right if right else left
+
+
+def field(value: Any, name: str) -> Any:
+    if value is PROOF:
+        return PROOF
+    return value[int(name)] if name.isdigit() else value[name]
+
+
+def with_fields(value: Dict[str, Any], fields: Dict[str, Any]) -> Dict[str, Any]:
+    return {**value, **fields}
+
+
+def constant(page: str, name: str) -> int:
+    """A constant of the code, in the file that the page's name tells."""
+    crate, path = page.split(".")[1], "/".join(page.split(".")[4:-1])
+    value = re.search(rf"(?m)^pub const {name}: \w+ = ([^;]+);", shared.read(f"crates/{crate}/src/{path}.rt"))
+    return eval(re.sub(r"[A-Z_]{2,}", lambda other: str(constant(page, other[0])), value[1].replace("as usize", "")))
