@@ -6,14 +6,12 @@ mod collecting;
 mod cones;
 mod decimals;
 mod feeds;
-mod fewer;
 mod instances;
 mod numbering;
 mod plans;
 mod signals;
 mod stored_rows;
 mod texts;
-mod worths;
 mod zone_reading;
 
 // A row of a file, of the block at this index along x, with these worths.

@@ -69,19 +69,3 @@ fn texts_in_pieces(rt: HostRuntime) -> Result<(), Fail> {
     }
     Ok(())
 }
-
-// The zone file of limits_and_coefficients.
-const ROWS: &str = "x,y,z,tonnes,grade\n0,0,0,1000,5000\n10,0,0,0,7\n";
-
-#[test]
-fn limits_and_coefficients(rt: HostRuntime) -> Result<(), Fail> {
-    for step in [1, 2, 7] {
-        let read = slurp(
-            rt.alloc(),
-            &mut cutting(rt.alloc(), ROWS, step)?,
-            268_435_456,
-        );
-        assert!(rt; is_read(read, ROWS, &Ok(())), "{step}");
-    }
-    Ok(())
-}

@@ -1,7 +1,6 @@
-//! Which plans are read, with which parts, and the first faulty record of the others.
+//! The parts that a plan lends, and which bytes are NAMEs.
 
 use pit_model::plan::Plan;
-use pit_model::plan_fault::{PlanFault, PlanFaultKind};
 use pit_model::read_plan;
 use pit_parts::cone::{Cone, Slope};
 use pit_parts::formulas::formula::{Formula, NamedFormula};
@@ -9,90 +8,9 @@ use pit_parts::grid::{Axis, Grid};
 use pit_parts::limit::{Bound, Limit};
 use pit_parts::name::Name;
 use pit_parts::resource::Resource;
-use pit_units::{Dec, OrMemory};
+use pit_units::Dec;
 use std::alloc::{AllocError, Global};
 use std::test::Fail;
-
-// The records of a plan, in parts: before the zone, the zone, behind it, and the last.
-const FRONT: &str = "name,one\ngrid,0,0,0,10,10,10\n";
-
-const ZONE: &str = "zone,1,1,1\n";
-
-const BACK: &str = "mill,mill,900,600,1500\nperiods,1\n";
-
-const RATE: &str = "rate,0.1\n";
-
-type Records = [&'static str; 5];
-
-// A plan, and its first faulty record.
-const FAULTS: [(Records, Option<(u32, PlanFaultKind)>); 12] = [
-    ([FRONT, ZONE, BACK, RATE, ""], None),
-    (
-        [FRONT, "zone,1,1,21\n", BACK, RATE, ""],
-        Some((3, PlanFaultKind::Range)),
-    ),
-    (
-        [FRONT, "zone,1,1\n", BACK, RATE, ""],
-        Some((3, PlanFaultKind::Width)),
-    ),
-    (
-        [FRONT, "zone,1,2,1,1\n", BACK, RATE, ""],
-        Some((3, PlanFaultKind::Width)),
-    ),
-    (
-        [FRONT, "pit,1\n", BACK, RATE, ""],
-        Some((3, PlanFaultKind::Key)),
-    ),
-    (
-        [FRONT, ZONE, BACK, RATE, "name,one\n"],
-        Some((7, PlanFaultKind::Twice)),
-    ),
-    (
-        [FRONT, ZONE, BACK, RATE, "leach,h,1,1,2,300,2,400\n"],
-        Some((7, PlanFaultKind::Order)),
-    ),
-    (
-        [FRONT, ZONE, BACK, RATE, "resource,r,heap\n"],
-        Some((7, PlanFaultKind::Name)),
-    ),
-    (
-        [FRONT, ZONE, BACK, RATE, "limit,r,0,L,1\n"],
-        Some((7, PlanFaultKind::Name)),
-    ),
-    (
-        [FRONT, ZONE, BACK, "", ""],
-        Some((6, PlanFaultKind::Missing)),
-    ),
-    ([FRONT, ZONE, BACK, "rate,0.1,,,\n", ""], None),
-    // an empty text
-    (["", "", "", "", ""], Some((1, PlanFaultKind::Missing))),
-];
-
-fn joined(alloc: Global, records: &Records) -> Result<Vec<u8>, Fail> {
-    let mut text = Vec::new(alloc);
-    for part in records {
-        text.extend_from_slice(part.as_bytes())?;
-    }
-    Ok(text)
-}
-
-fn fault_of(alloc: Global, text: &[u8]) -> Result<Option<(u32, PlanFaultKind)>, Fail> {
-    match read_plan(alloc, text) {
-        Ok(_) => Ok(None),
-        Err(OrMemory::Fault(PlanFault { row, kind })) => Ok(Some((row, kind))),
-        Err(OrMemory::OutOfMemory) => Err("memory")?,
-    }
-}
-
-// Each a change of one plan.
-#[test]
-fn plan_table(rt: HostRuntime) -> Result<(), Fail> {
-    for (place, (records, fault)) in FAULTS.iter().enumerate() {
-        let text = joined(rt.alloc(), records)?;
-        assert!(rt; fault_of(rt.alloc(), text.as_slice())? == *fault, "{place}");
-    }
-    Ok(())
-}
 
 // A plan in which each number stands once, so that none can stand in another's place.
 const PARTS: &[u8] =

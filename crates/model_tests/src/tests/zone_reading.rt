@@ -1,4 +1,4 @@
-//! The blocks of zone files, and their first fault, which is answered ever after.
+//! The end of a zone file or its first fault, which is answered ever after.
 
 use pit_model::plan::Plan;
 use pit_model::read_plan;
@@ -22,130 +22,25 @@ type File = (
     Option<(u32, Column, RowFaultKind)>,
 );
 
-const EMPTY_FILE: [File; 1] = [(b"", None, Some((1, Column::X, RowFaultKind::MissingColumn)))];
-
-const HEADER_ALONE: [File; 1] = [(b"x,y,z,tonnes,grade\n", None, None)];
-
-const QUOTED_AND_REORDERED: [File; 1] = [(
-    b"\xEF\xBB\xBF\"grade\",Z,rock,y,X,tonnes\r\n\" 5000 \",0,\"ox, hard\",0,0,1000.000\r\n",
-    Some((0, 1_000_000, 5_000_000_000)),
-    None,
-)];
-
-const TONNAGE_SPELLINGS: [File; 5] = [
+// A file without rows, one with a row, and files whose first or second record is faulty.
+const FILES: [File; 4] = [
+    (b"x,y,z,tonnes,grade\n", None, None),
     (
-        b"x,y,z,tonnes,grade\n0,0,0,2500.000000,0\n",
-        Some((0, 2_500_000, 0)),
+        b"x,y,z,tonnes,grade\n0,0,0,1000,5\n",
+        Some((0, 1_000_000, 5_000_000)),
         None,
     ),
-    (
-        b"x,y,z,tonnes,grade\n0,0,0,2500.0001,0\n",
-        None,
-        Some((2, Column::Tonnes, RowFaultKind::TooFine)),
-    ),
-    (
-        b"x,y,z,tonnes,grade\n0,0,0,-99,0\n",
-        None,
-        Some((2, Column::Tonnes, RowFaultKind::Range)),
-    ),
-    (
-        b"x,y,z,tonnes,grade\n0,0,0,1e3,0\n",
-        None,
-        Some((2, Column::Tonnes, RowFaultKind::Number)),
-    ),
-    (
-        b"x,y,z,tonnes,grade\n0,0,0,1000\n",
-        None,
-        Some((2, Column::Whole, RowFaultKind::Width)),
-    ),
-];
-
-const GRID_EDGES: [File; 5] = [
-    (
-        b"x,y,z,tonnes,grade\n5,0,0,1,0\n",
-        None,
-        Some((2, Column::X, RowFaultKind::OffGrid)),
-    ),
-    (
-        b"x,y,z,tonnes,grade\n-5,0,0,1,0\n",
-        None,
-        Some((2, Column::X, RowFaultKind::Range)),
-    ),
-    (
-        b"x,y,z,tonnes,grade\n99990,0,0,1,0\n",
-        Some((9_999, 1_000, 0)),
-        None,
-    ),
-    (
-        b"x,y,z,tonnes,grade\n99995,0,0,1,0\n",
-        None,
-        Some((2, Column::X, RowFaultKind::OffGrid)),
-    ),
-    (
-        b"x,y,z,tonnes,grade\n100000,0,0,1,0\n",
-        None,
-        Some((2, Column::X, RowFaultKind::Range)),
-    ),
-];
-
-const HEADER_FAULTS: [File; 2] = [
     (
         b"x,y,z,tonnes\n",
         None,
         Some((1, Column::Grade, RowFaultKind::MissingColumn)),
     ),
     (
-        b"x,y,X,tonnes\n",
-        None,
-        Some((1, Column::X, RowFaultKind::TwiceColumn)),
+        b"x,y,z,tonnes,grade\n99990,0,0,1,0\n5,0,0,1,0\n",
+        Some((9_999, 1_000, 0)),
+        Some((3, Column::X, RowFaultKind::OffGrid)),
     ),
 ];
-
-const AT_THE_EDGE: [File; 7] = [
-    (
-        b"x",
-        None,
-        Some((1, Column::Y, RowFaultKind::MissingColumn)),
-    ),
-    (
-        b"x,y,z,tonnes,grad",
-        None,
-        Some((1, Column::Grade, RowFaultKind::MissingColumn)),
-    ),
-    (
-        b"x,y,z,tonnes,grade\n0,0,0,1000",
-        None,
-        Some((2, Column::Whole, RowFaultKind::Width)),
-    ),
-    (
-        b"x,y,z,tonnes,grade\n0,0,0,1000,",
-        None,
-        Some((2, Column::Grade, RowFaultKind::Number)),
-    ),
-    (
-        b"x,y,z,tonnes,grade\n0,0,0,1000,5",
-        Some((0, 1_000_000, 5_000_000)),
-        None,
-    ),
-    (
-        b"x,y,z,tonnes,grade\n\xFF,0,0,1,0",
-        None,
-        Some((2, Column::X, RowFaultKind::Number)),
-    ),
-    (
-        b"x,y,z,tonnes,grade\n10000000000000000000000000000000000000000000000000000000000000000000000000000000000000000000000000000,0,0,1,0",
-        None,
-        Some((2, Column::X, RowFaultKind::Range)),
-    ),
-];
-
-// A text so often, between two others.
-type Repeated = (&'static [u8], &'static [u8], usize, &'static [u8]);
-
-// An index of a million zeros, and one row more than a file may have.
-const LONG_INDEX: Repeated = (b"x,y,z,tonnes,grade\n", b"0", 1_000_000, b",0,0,1,0\n");
-
-const MOST_ROWS: Repeated = (b"x,y,z,tonnes,grade\n", b"0,0,0,1,0\n", 1_000_001, b"");
 
 fn reader_by(alloc: Global, plan: &Plan, text: Vec<u8>) -> Result<ZoneReader, Fail> {
     if plan.cones().is_empty() {
@@ -186,84 +81,11 @@ fn is_read(alloc: Global, (text, row, fault): &File) -> Result<bool, Fail> {
     Ok(gives(&mut reader, *row) && ends(&mut reader, *fault))
 }
 
-fn are_read(alloc: Global, files: &[File]) -> Result<bool, Fail> {
-    for file in files {
-        if !is_read(alloc, file)? {
-            return Ok(false);
-        }
+// The program asks no more once a file has ended.
+#[test]
+fn ends_are_answered_again(rt: HostRuntime) -> Result<(), Fail> {
+    for (place, file) in FILES.iter().enumerate() {
+        assert!(rt; is_read(rt.alloc(), file)?, "{place}");
     }
-    Ok(true)
-}
-
-fn repeated(alloc: Global, (front, part, times, back): Repeated) -> Result<Vec<u8>, Fail> {
-    let mut text = front.to_vec(alloc)?;
-    for _time in 0..times {
-        text.extend_from_slice(part)?;
-    }
-    text.extend_from_slice(back)?;
-    Ok(text)
-}
-
-// Whether a reader answers the same block so often.
-fn gives_often(reader: &mut ZoneReader, row: Row, times: usize) -> bool {
-    for _time in 0..times {
-        if !gives(reader, Some(row)) {
-            return false;
-        }
-    }
-    true
-}
-
-#[test]
-fn empty_file(rt: HostRuntime) -> Result<(), Fail> {
-    assert!(rt; are_read(rt.alloc(), &EMPTY_FILE)?);
-    Ok(())
-}
-
-#[test]
-fn header_alone(rt: HostRuntime) -> Result<(), Fail> {
-    assert!(rt; are_read(rt.alloc(), &HEADER_ALONE)?);
-    Ok(())
-}
-
-#[test]
-fn quoted_and_reordered(rt: HostRuntime) -> Result<(), Fail> {
-    assert!(rt; are_read(rt.alloc(), &QUOTED_AND_REORDERED)?);
-    Ok(())
-}
-
-#[test]
-fn tonnage_spellings(rt: HostRuntime) -> Result<(), Fail> {
-    assert!(rt; are_read(rt.alloc(), &TONNAGE_SPELLINGS)?);
-    Ok(())
-}
-
-#[test]
-fn grid_edges(rt: HostRuntime) -> Result<(), Fail> {
-    assert!(rt; are_read(rt.alloc(), &GRID_EDGES)?);
-    Ok(())
-}
-
-#[test]
-fn header_faults(rt: HostRuntime) -> Result<(), Fail> {
-    assert!(rt; are_read(rt.alloc(), &HEADER_FAULTS)?);
-    Ok(())
-}
-
-#[test]
-fn zone_texts_at_the_edge(rt: HostRuntime) -> Result<(), Fail> {
-    assert!(rt; are_read(rt.alloc(), &AT_THE_EDGE)?);
-    let mut reader = reader_of(rt.alloc(), repeated(rt.alloc(), LONG_INDEX)?)?;
-    assert!(rt; gives(&mut reader, Some((0, 1_000, 0))) && ends(&mut reader, None));
-    Ok(())
-}
-
-// One row more than a file may have is a fault, behind all the others.
-#[test]
-fn a_row_too_many(rt: HostRuntime) -> Result<(), Fail> {
-    let mut reader = reader_of(rt.alloc(), repeated(rt.alloc(), MOST_ROWS)?)?;
-    let fault = (1_000_002, Column::Whole, RowFaultKind::TooManyRows);
-    assert!(rt; gives_often(&mut reader, (0, 1_000, 0), 1_000_000));
-    assert!(rt; ends(&mut reader, Some(fault)));
     Ok(())
 }

@@ -1,6 +1,5 @@
 //! The commands on files: what `compile` and `check` append, and their statuses.
 
-use crate::tests::headers::pcpsp;
 use crate::tests::models::destinations_of;
 use crate::tests::watch::{OPEN, Watch};
 use devices::feeds::file_feed::FileFeed;
@@ -103,39 +102,5 @@ fn files_that_are_not_there(rt: HostRuntime) -> Result<(), Fail> {
     assert!(rt; is_answer(&refused, (3, "", "pitc: file 0: FeedFailed\n")));
     let refused = checked(&rt, alloc, "not_there");
     assert!(rt; is_answer(&refused, (3, "", "pitc: blocks: FeedFailed\n")));
-    Ok(())
-}
-
-// The texts of nine_above, in whose precedence file one predecessor is counted that is not there.
-const COUNTED: [(&str, &str); 3] = [
-    (
-        "counted.blocks",
-        "0 1 1 0 1 0 0\n1 0 0 1 1 0 0\n2 1 0 1 1 0 0\n3 2 0 1 1 0 0\n4 0 1 1 1 0 0\n5 1 1 1 1 0 0\n6 2 1 1 1 0 0\n7 0 2 1 1 0 0\n8 1 2 1 1 0 0\n9 2 2 1 1 0 0\n",
-    ),
-    (
-        "counted.prec",
-        "0 6 2 4 5 6 8\n1 0\n2 0\n3 0\n4 0\n5 0\n6 0\n7 0\n8 0\n9 0\n",
-    ),
-    (
-        "counted.pcpsp",
-        pcpsp! {
-            name: "one", blocks: 10, periods: 1, destinations: 1, resources: 0, rate: 0.1,
-            values: ["0 -15", "1 -15", "2 -15", "3 -15", "4 -15", "5 -15", "6 -15", "7 -15", "8 -15", "9 -15"],
-            coefs: [],
-            limits: [],
-        },
-    ),
-];
-
-#[test]
-fn hand_made_instance(rt: HostRuntime) -> Result<(), Fail> {
-    for (path, text) in &COUNTED {
-        fs::write(&rt, *path, *text)?;
-    }
-    let refused = checked(&rt, rt.alloc(), "counted");
-    assert!(rt; is_answer(&refused, (1, "", "pitc: prec line 1: Count\n")));
-    for (path, _) in &COUNTED {
-        fs::remove_file(&rt, *path)?;
-    }
     Ok(())
 }

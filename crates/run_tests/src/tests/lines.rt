@@ -20,9 +20,6 @@ use zone_csv::row_fault::{Column, RowFault, RowFaultKind};
 const MILL: &[u8] =
     b"name,one\ngrid,0,0,0,10,10,10\nzone,1,1,1\nmill,mill,900,600,1500\nperiods,1\nrate,0.1\n";
 
-const WASTE: &[u8] =
-    b"name,waste\ngrid,0,0,0,10,10,10\nzone,1,1,1\ndump,dump,200\nperiods,1\nrate,0.1\n";
-
 // What stands in a vector before a call.
 const BEFORE: &[u8] = b"before\n";
 
@@ -123,15 +120,6 @@ fn lines_of_refusals(rt: HostRuntime) -> Result<(), Fail> {
         assert_eq!(rt; found, *status);
         assert!(rt; lines.as_slice() == *line);
     }
-    Ok(())
-}
-
-// The table of lines has that of the repetition.
-#[test]
-fn two_blocks_out_of_order(rt: HostRuntime) -> Result<(), Fail> {
-    let zone = b"x,y,z,tonnes,grade\n10,0,0,1,0\n0,0,0,2,0\n10,0,0,3,0\n";
-    let (answered, out) = piped(&rt, rt.alloc(), WASTE, zone)?;
-    assert!(rt; answered == Err(REPEATED) && out.as_slice() == BEFORE);
     Ok(())
 }
 

@@ -18,7 +18,6 @@ use std::sync::Wait;
 use std::test::Fail;
 use std::thread::Threads;
 
-mod examples;
 mod failing_sinks;
 mod random_runs;
 mod refused_runs;

@@ -11,10 +11,6 @@ pub const WHOLE_PCPSP: &str =
 pub const WHOLE_CPIT: &str =
     "NAME: one\nTYPE: CPIT\nNBLOCKS: 2\nNPERIODS: 2\nNRESOURCE_SIDE_CONSTRAINTS: 1\nDISCOUNT_RATE: 0.1\nOBJECTIVE_FUNCTION:\n0 12000\n1 0\nRESOURCE_CONSTRAINT_COEFFICIENTS:\n0 0 1000\nRESOURCE_CONSTRAINT_LIMITS:\n0 0 L 500.5\n0 1 I 0 900\n";
 
-/// The PCPSP of one block of ore, by hand: the keys in another order, a blank before a colon, a last line without its end.
-pub const HAND_MADE_PCPSP: &str =
-    "DISCOUNT_RATE: 0.1\nNGENERAL_SIDE_CONSTRAINTS: 0\nNRESOURCE_SIDE_CONSTRAINTS: 0\nNDESTINATIONS: 1\nNPERIODS: 1\nNBLOCKS: 1\nTYPE: PCPSP\nNAME : one\nOBJECTIVE_FUNCTION:\n0 12000\nRESOURCE_CONSTRAINT_COEFFICIENTS:\nRESOURCE_CONSTRAINT_LIMITS:";
-
 // The text of a PCPSP, by the values of its header and the lines of its sections.
 macro_rules! pcpsp {
     {

@@ -1,7 +1,7 @@
 ghost use Rattle.mine_instance.specs.Valid.{IsValid};
 
-use super::headers::{HAND_MADE_PCPSP, WHOLE_CPIT, cpit, pcpsp};
-use super::{CPIT, LIMITED, NINE_ABOVE, ONE_ORE_BLOCK, PCPSP, PREC, Texts, instance_of, is_text};
+use super::headers::{cpit, pcpsp};
+use super::{NINE_ABOVE, Texts, instance_of, is_text};
 use crate::tests::are_millionths;
 use devices::sinks::mem_sink::MemSink;
 use devices::sinks::write_fault::WriteFault;
@@ -16,20 +16,6 @@ use pit_parts::limit::{Bound, Limit};
 use pit_units::Dec;
 use std::alloc::Global;
 use std::test::Fail;
-
-// By hand: remarks, blank lines, runs of blanks, line ends of two bytes, header keys in another order, a last line without its end.
-const HAND_MADE: Texts = [
-    "% hand\r\n\n0\t0 0  0 1000.000 5000 0\r\n",
-    "0 0",
-    HAND_MADE_PCPSP,
-];
-
-// A mark in front, and numbers in other spellings.
-const SPELLED: Texts = [
-    "\u{feff}+0 0. 0 .0 01000.0000000 5000 0\n1 1 0 0 -0 7 0",
-    PREC,
-    PCPSP,
-];
 
 // Predecessors in no order, and the least and greatest of most numbers.
 const AT_THE_EDGE: Texts = [
@@ -54,25 +40,6 @@ fn are_texts(alloc: Global, instance: &Instance, texts: Texts) -> Result<bool, W
         }
     }
     Ok(true)
-}
-
-// Whether what is read of the texts is written again as these.
-fn comes_back(alloc: Global, texts: Texts, again: Texts) -> Result<bool, Fail> {
-    let instance = instance_of(alloc, texts)?;
-    Ok(are_texts(alloc, &instance, again)?)
-}
-
-#[test]
-fn hand_made_instance(rt: HostRuntime) -> Result<(), Fail> {
-    assert!(rt; comes_back(rt.alloc(), HAND_MADE, ONE_ORE_BLOCK)?);
-    Ok(())
-}
-
-#[test]
-fn limits_and_coefficients(rt: HostRuntime) -> Result<(), Fail> {
-    assert!(rt; comes_back(rt.alloc(), SPELLED, LIMITED)?);
-    assert!(rt; comes_back(rt.alloc(), AT_THE_EDGE, AT_THE_EDGE)?);
-    Ok(())
 }
 
 // The predecessors of the blocks of nine_above, by identifier.
@@ -138,15 +105,6 @@ fn is_cpit_text(alloc: Global, cpit: &Cpit, text: &str) -> Result<bool, WriteFau
     let mut sink = MemSink::new(alloc);
     write_cpit(alloc, cpit, &mut sink)?;
     Ok(sink.bytes() == text.as_bytes())
-}
-
-#[test]
-fn cpit_destinations(rt: HostRuntime) -> Result<(), Fail> {
-    let cpit = cpit_of(rt.alloc(), WHOLE_CPIT)?;
-    assert!(rt; are_millionths(cpit.values(), &[12_000_000_000, 0]));
-    assert_eq!(rt; (cpit.coefs_len(), cpit.limits().len()), (1, 2));
-    assert!(rt; is_cpit_text(rt.alloc(), &cpit, CPIT)?);
-    Ok(())
 }
 
 // A CPIT with this coefficient among others.
@@ -248,6 +206,7 @@ fn read_lists_are_lent(rt: HostRuntime) -> Result<(), Fail> {
     assert!(rt; has_edge_lists(&instance) == Some(true));
     let cpit = cpit_of(rt.alloc(), with_coef!("1 0 0.0001"))?;
     assert!(rt; has_cpit_coefs(&cpit) == Some(true));
+    assert!(rt; are_millionths(cpit.values(), &[0, 0]));
     assert_eq!(rt; cpit.limits().len(), 0);
     Ok(())
 }
