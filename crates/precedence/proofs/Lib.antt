@@ -1,4 +1,5 @@
 pub mod AllLists
+pub mod Arcs
 pub mod CountedLists
 pub mod Geometry
 pub mod Identifiers

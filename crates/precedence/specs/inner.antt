@@ -1,3 +1,4 @@
+pub mod Arcs
 pub mod Beside
 pub mod CountedFields
 pub mod Cut

@@ -1,5 +1,6 @@
 //! The lists of predecessors, kept, found or counted, and the runs of identifiers that they are told by.
 
+pub mod arc_counts;
 pub mod ask_preds;
 pub mod beside;
 pub mod counted_preds;

@@ -1,8 +1,9 @@
 //! Writing what is left of the predecessors of an instance.
 
-ghost use Rattle.std.specs.Prelude.{◌≡◌, length, IfErr, IfOk, MatchResult, OnOk};
+ghost use Rattle.std.specs.Prelude.{◌≡◌, ◌≤◌, length, sum_by, IfErr, IfOk, MatchResult, OnOk};
 ghost use Rattle.devices.specs.sinks.SinkState.{IsWritten};
 ghost use Rattle.mine_instance.specs.Valid.{IsValid};
+ghost use Rattle.pit_parts.specs.declared.ranges.TheConstants.{MAX_BLOCKS};
 ghost use Rattle.thin_commands.specs.Thin.{IsStopped, counts_of, thin_text};
 ghost use Rattle.thin_commands.specs.inner.Answered.{in_sink};
 
@@ -17,7 +18,7 @@ use minelib_writing::{count_arcs, write_lists};
 use pit_compile::refusal::Refusal;
 use pit_units::OrMemory;
 use precedence::FoundPreds;
-use std::alloc::Global;
+use std::alloc::{AllocError, Global};
 
 /// Begins the sink and writes what is left of the predecessors of an instance, which is used up.
 ///
@@ -40,11 +41,22 @@ pub fn write_fewer<S: Sink>(
         (IsStopped (thin_text instance) (S.state sink.old) (S.state sink.new)) }
 {
     let (rows, preds) = parts_of(instance);
-    let whole = count_arcs(alloc, &preds)?;
+    let whole = count_all(alloc, &preds)?;
     let cut = preds.cut(alloc)?;
     let fewer = FewerPreds::new(alloc, cut);
     let left = in_sink(write_lists(alloc, &fewer, sink))?;
     Ok(Counts { rows, left, whole })
+}
+
+// How many predecessors all blocks have: row by row of the cones, or list by list where that is faster.
+fn count_all(alloc: Global, preds: &FoundPreds) -> Result<u128, AllocError>
+    requires { length preds.now ≤ MAX_BLOCKS }
+    ensures { IfOk result (λ arcs. arcs ≡ sum_by length preds.now) }
+{
+    if preds.is_sparse() {
+        return count_arcs(alloc, preds);
+    }
+    Ok(u128::from(preds.arcs(alloc)?))
 }
 
 // How many blocks an instance has, and their predecessors.

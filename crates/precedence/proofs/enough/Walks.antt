@@ -49,7 +49,7 @@ push_cases xs y c h = ⊎_elim
     (λ new. ⊎_elim (λ is. inr (eqb-true _ _ is)) (λ none. absurd (let no : ⊥ = cc in no)) (or_cases (y == c) (is_in [] c) new))
     (append_cases xs (y ∷ []) c h)
 
-at_in : (xs : List ℕ) (k : ℕ) → k < length xs → is_in xs (get_or xs k 0) ≡ true
+pub at_in : (xs : List ℕ) (k : ℕ) → k < length xs → is_in xs (get_or xs k 0) ≡ true
 at_in xs k lt = list_any_at (λ y. y == get_or xs k 0) xs k 0 lt (eq-eqb _ _ refl)
 
 pub tail_rises : (x : ℕ) (xs : List ℕ) → IsStrictlyIncreasing (x ∷ xs) → IsStrictlyIncreasing xs

@@ -1,6 +1,6 @@
 //! Predecessors that are found when they are asked for.
 
-ghost use Rattle.std.specs.Prelude.{◌≡◌, ℕ, ◌+◌, ◌<◌, ◌≤◌, ◌++◌, [], true, false, IfOk, IsTrue, OnOk, All, length, map};
+ghost use Rattle.std.specs.Prelude.{◌≡◌, ℕ, ◌+◌, ◌<◌, ◌≤◌, ◌++◌, [], true, false, IfOk, IsTrue, OnOk, All, length, map, sum_by};
 ghost use Rattle.precedence.specs.Cone.{preds};
 ghost use Rattle.precedence.specs.Zones.{HasZones};
 ghost use Rattle.precedence.specs.IdRuns.{ids_of, is_in};
@@ -15,6 +15,7 @@ use crate::cones::zone_tables::{ZoneTables, tables_of};
 use crate::cuts::cut_cone::CutCone;
 use crate::cuts::cutting::cut_cone;
 use crate::cuts::enough::add_enough;
+use crate::lists::arc_counts::arcs_in_cones;
 use crate::lists::ask_preds::AskPreds;
 use crate::lists::beside::{ByChunk, ByRow};
 use crate::lists::id_run::IdRun;
@@ -96,6 +97,18 @@ impl FoundPreds {
             hints: self.hints,
             cuts,
         })
+    }
+
+    /// Whether many rows of a bench have few blocks. Then to find all lists takes less time than to go over all rows of a cone.
+    pub fn is_sparse(&self) -> bool {
+        self.places.sparse
+    }
+
+    /// How many identifiers stand in all lists. Fails only where memory is refused.
+    pub fn arcs(&self, alloc: Global) -> Result<u64, AllocError>
+        ensures { IfOk result (λ arcs. arcs ≡ sum_by length self.now) }
+    {
+        arcs_in_cones(alloc, &self.places, self.zones.as_slice(), &self.tables)
     }
 
     /// All lists, kept. Fails only where memory is refused.

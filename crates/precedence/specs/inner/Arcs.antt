@@ -1,0 +1,22 @@
+-- How many identifiers stand in lists, counted row by row of the cones.
+use Rattle.std.specs.Prelude.{ℕ, ◌+◌, ◌-◌, ◌==◌, List, [], ◌∷◌, length, nat_lt, slice_index, if◌then◌else◌}
+use Rattle.precedence.specs.inner.Rows.{start_of}
+use Rattle.precedence.specs.declared.cones.cone_rows.Row.{Row}
+
+-- how many codes lie in a row, as seen from a code
+abbrev pub count_in : List ℕ → Row → ℕ → ℕ
+count_in codes row from = start_of (from + row.past) codes - start_of (from + row.first) codes
+
+-- the codes of the blocks whose cone has a table, by the zones and codes of blocks
+abbrev pub codes_with : List ℕ → ℕ → List ℕ → List ℕ → List ℕ
+codes_with of_zone table [] codes = []
+codes_with of_zone table (z ∷ zones) [] = []
+codes_with of_zone table (z ∷ zones) (c ∷ codes) =
+    if slice_index of_zone z == table then c ∷ codes_with of_zone table zones codes else codes_with of_zone table zones codes
+
+-- how many identifiers stand in the lists of the blocks whose cone has one of the first tables
+abbrev pub arcs_before : (ℕ → ℕ → List ℕ) → List ℕ → ℕ → List ℕ → List ℕ → ℕ
+arcs_before list of_zone tables [] codes = 0
+arcs_before list of_zone tables (z ∷ zones) [] = 0
+arcs_before list of_zone tables (z ∷ zones) (c ∷ codes) =
+    (if nat_lt (slice_index of_zone z) tables then length (list z c) else 0) + arcs_before list of_zone tables zones codes

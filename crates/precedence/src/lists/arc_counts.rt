@@ -1,0 +1,133 @@
+//! How many identifiers stand in the lists of all blocks, counted row by row of their cones.
+
+ghost use Rattle.std.specs.Prelude.{◌≡◌, ◌+◌, ◌++◌, ◌==◌, ◌<◌, ◌≤◌, ℕ, [], ◌∷◌, if◌then◌else◌, All, IfOk, OnOk, length, slice_index, sum_by};
+ghost use Rattle.std.specs.List.Sorted.{IsStrictlyIncreasing};
+ghost use Rattle.precedence.specs.Cone.{places_where};
+ghost use Rattle.precedence.specs.inner.Arcs.{codes_with, count_in};
+ghost use Rattle.precedence.specs.inner.Lists.{in_cones};
+ghost use Rattle.precedence.specs.inner.Rows.{is_in_rows, AreInOrder};
+ghost use Rattle.precedence.specs.declared.places.code.TheConstants.{CODES};
+ghost use Rattle.pit_parts.specs.declared.ranges.TheConstants.{MAX_BLOCKS};
+
+use crate::cones::cone_rows::Row;
+use crate::cones::zone_tables::ZoneTables;
+use crate::lists::row_runs::{NOTHING_KNOWN, find_run};
+use crate::places::Places;
+use crate::places::start_of::start_of;
+use std::alloc::{AllocError, Global};
+
+/// How many identifiers stand in the lists of all blocks. Of each cone it goes over its rows, and of each row over the blocks with this
+/// cone, so that where a row's run begins and ends is mostly one further than for the block before. Fails only where memory is refused.
+pub fn arcs_in_cones(
+    alloc: Global,
+    places: &Places,
+    zones: &[u8],
+    tables: &ZoneTables,
+) -> Result<u64, AllocError>
+    requires each { length zones.now ≡ length places.now.codes.items }
+    requires zones { All (λ z. z < length tables.now.of_zone.items) zones.now }
+    requires below { All (λ t. t < length tables.now.tables.items) tables.now.of_zone.items }
+    requires in_order { All (λ t. AreInOrder t.rows.items) tables.now.tables.items }
+    ensures { IfOk result (λ arcs. arcs ≡ sum_by length (in_cones tables.now.tables.items
+        tables.now.of_zone.items places.now.codes.items zones.now places.now.codes.items)) }
+{
+    let mut arcs = 0;
+    for number in 0..tables.tables.len() {
+        let own = codes_with(alloc, places, zones, tables.of_zone.as_slice(), number)?;
+        let rows = tables.tables[number].rows.as_slice();
+        arcs += arcs_in_rows(places, own.as_slice(), rows);
+    }
+    Ok(arcs)
+}
+
+// The codes of the blocks whose cone has the table with this number.
+fn codes_with(
+    alloc: Global,
+    places: &Places,
+    zones: &[u8],
+    of_zone: &[usize],
+    number: usize,
+) -> Result<Vec<u64>, AllocError>
+    requires each { length zones.now ≡ length places.now.codes.items }
+    requires zones { All (λ z. z < length of_zone.now) zones.now }
+    ensures own { IfOk result (λ own. own.items
+        ≡ codes_with of_zone.now number zones.now places.now.codes.items) }
+    ensures small { IfOk result (λ own. All (λ c. c < CODES) own.items) }
+    ensures few { IfOk result (λ own. length own.items ≤ MAX_BLOCKS) }
+{
+    let mut own = Vec::new(alloc);
+    for k in 0..places.codes.len() {
+        let place = of_zone[zones[k] as usize];
+        push_own(&mut own, place, number, places.codes[k])?;
+    }
+    Ok(own)
+}
+
+// Appends a code where the two numbers are the same.
+#[inline(always)]
+fn push_own(own: &mut Vec<u64>, place: usize, number: usize, code: u64) -> Result<(), AllocError>
+    requires code { code < CODES }
+    requires small { All (λ c. c < CODES) own.old.items }
+    ensures own { OnOk result (own.new.items
+        ≡ own.old.items ++ (if place == number then code ∷ [] else [])) }
+    ensures small { OnOk result (All (λ c. c < CODES) own.new.items) }
+    ensures few { OnOk result (length own.new.items ≤ length own.old.items + 1) }
+{
+    if place == number {
+        own.push(code)?;
+    }
+    Ok(())
+}
+
+// How many identifiers lie in the rows, seen from each of these codes.
+fn arcs_in_rows(places: &Places, own: &[u64], rows: &[Row]) -> u64
+    requires in_order { AreInOrder rows.now }
+    requires rising { IsStrictlyIncreasing own.now }
+    requires small { All (λ c. c < CODES) own.now }
+    requires few { length own.now ≤ MAX_BLOCKS }
+    ensures { result ≡ sum_by (λ from. length (places_where (is_in_rows from rows.now) 0 places.now.codes.items)) own.now }
+{
+    let mut arcs = 0;
+    for row in rows {
+        arcs += arcs_in_row(places, own, *row);
+    }
+    arcs
+}
+
+// The same of one row. Blocks with nothing in it are passed over, many at a time.
+fn arcs_in_row(places: &Places, own: &[u64], row: Row) -> u64
+    requires rising { IsStrictlyIncreasing own.now }
+    requires small { All (λ c. c < CODES) own.now }
+    requires few { length own.now ≤ MAX_BLOCKS }
+    ensures { result ≡ sum_by (count_in places.now.codes.items row) own.now }
+{
+    let mut arcs = 0;
+    let mut run = NOTHING_KNOWN;
+    let mut k = 0;
+    while k < own.len() {
+        run = find_run(places, row, run, own[k]);
+        if run.first < run.past {
+            arcs += u64::from(run.past - run.first);
+            k += 1;
+        } else {
+            k = next_own(places, own, row, k, run.first as usize);
+        }
+    }
+    arcs
+}
+
+// The first of these codes behind the place `k` in whose row the identifier `id` can lie, or their number.
+fn next_own(places: &Places, own: &[u64], row: Row, k: usize, id: usize) -> usize
+    requires rising { IsStrictlyIncreasing own.now }
+    requires k { k < length own.now }
+    ensures later { k < result }
+    ensures within { result ≤ length own.now }
+    ensures none { (j : ℕ) → k < j → j < result → id < length places.now.codes.items
+        → slice_index own.now j + row.past ≤ slice_index places.now.codes.items id }
+{
+    if id >= places.codes.len() {
+        return own.len();
+    }
+    let far = places.codes[id].saturating_sub(row.past);
+    start_of(own, k, far + 1).max(k + 1)
+}
