@@ -11,6 +11,7 @@ from typing import IO, Optional
 import numpy as np
 import pandas as pd
 
+from pit_tools import outputs
 from pit_tools.errors import UserError
 from pit_tools.instance import Blocks
 from pit_tools.plan_file import Plan
@@ -133,9 +134,10 @@ def by_block(plan: Plan, mined: Mined, blocks: int) -> pd.DataFrame:
     return table
 
 
-def onto_rows(imported_path: str, plan: Plan, blocks: Blocks, mined: Mined, out: IO[str]) -> tuple[int, int]:
-    """Writes the export's own rows with what is told of their blocks behind: every row has its block's, sub-blocks
-    that of their parent. Answers how many rows there are, and how many have a block.
+def onto_rows(imported_path: str, plan: Plan, blocks: Blocks, mined: Mined, place: Optional[str]) -> tuple[int, int]:
+    """Writes the export's own rows with what is told of their blocks behind, or prints them where no place is given:
+    every row has its block's, sub-blocks that of their parent. Answers how many rows there are, and how many have a
+    block.
 
     `imported_path` is BASE.json of `pit-tools import`, by which the export is read again. Cells stay as they
     are; rows that are no block, as air, have empty cells. Raises UserError where the export cannot be read again,
@@ -148,6 +150,11 @@ def onto_rows(imported_path: str, plan: Plan, blocks: Blocks, mined: Mined, out:
     again = import_export(read.exports, read.words)
     block_at = _block_at(plan, blocks, again)
     told = by_block(plan, mined, len(blocks))
+    with outputs.opened_or_printed(place, "rows of a pit", "utf-8", "") as out:
+        return _rows_written(again, block_at, told, out)
+
+
+def _rows_written(again, block_at: np.ndarray, told: pd.DataFrame, out: IO[str]) -> tuple[int, int]:
     rows = found = 0
     for number, source in enumerate(again.sources):
         names = list(told.columns)

@@ -8,7 +8,7 @@ import re
 import sys
 from typing import Optional, Sequence
 
-from pit_tools import VERSION
+from pit_tools import VERSION, outputs
 from pit_tools.errors import UserError
 
 # The subcommands with one line on each, in the order of the work.
@@ -89,8 +89,17 @@ def parser_of(command: str) -> argparse.ArgumentParser:
         prog=f"pit-tools {command}", description=module.HELP, allow_abbrev=False,
         formatter_class=argparse.RawDescriptionHelpFormatter)
     module.add_arguments(parser)
-    parser.set_defaults(run=module.run)
+    if hasattr(module, "WRITES"):
+        parser.add_argument("--force", action="store_true", help="replaces files of another kind too")
+        parser.epilog = "\n\n".join(filter(None, [parser.epilog, replaced(module.WRITES)]))
+    parser.set_defaults(run=module.run, force=False)
     return parser
+
+
+def replaced(kinds: str) -> str:
+    """What a command's help says of the files that it replaces."""
+    return f"It replaces {kinds}, as it writes them, and empty files; another file that has such a name is refused,\n" \
+           "but with --force, and one that it reads always. All that it writes comes at the end, or nothing does."
 
 
 def joined(words: Sequence[str]) -> list[str]:
@@ -122,9 +131,10 @@ def main(words: Optional[Sequence[str]] = None) -> int:
         return 2
     try:
         args = parser_of(command).parse_args(joined(words[1:]))
-        status = args.run(args)
-        sys.stdout.flush()
-        return status
+        with outputs.of_command(args.force):
+            status = args.run(args)
+            sys.stdout.flush()
+            return status
     except UserError as error:
         print(f"pit-tools {command}: {error}", file=sys.stderr)
         return 2

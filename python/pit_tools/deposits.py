@@ -9,6 +9,7 @@ import os
 from dataclasses import dataclass
 from typing import Iterator, Optional
 
+from pit_tools import outputs
 from pit_tools.errors import UserError
 
 SHAPES = ("lens", "pipe", "vein")
@@ -149,7 +150,9 @@ class Deposit:
     def write(self, folder: str = ".") -> list[str]:
         """Writes NAME.plan and the zone files NAME-oxide.csv and so on; answers the names of all."""
         names = [f"{self.name}.plan", *(f"{self.name}-{zone}.csv" for zone in ZONES)]
-        for name, text in zip(names, [self.plan(), *self.zone_texts()]):
-            with open(os.path.join(folder, name), "w", encoding="ascii", newline="\n") as file:
-                file.write(text)
+        with outputs.together():
+            for name, text in zip(names, [self.plan(), *self.zone_texts()]):
+                kind = "plan" if name.endswith(".plan") else "zone file"
+                with outputs.opened(os.path.join(folder, name), kind, "ascii") as file:
+                    file.write(text)
         return names

@@ -9,7 +9,7 @@ from typing import Optional
 
 import pandas as pd
 
-from pit_tools import VERSION
+from pit_tools import VERSION, outputs
 from pit_tools.decimals import plain
 from pit_tools.errors import UserError
 from pit_tools.export_words import Words
@@ -70,8 +70,6 @@ class Imported:
     def write(self, base: str) -> list[str]:
         """Writes the zone files, and BASE.json with the words, the grid, the zones and the turn. It answers the zone files' paths."""
         paths = self.file_names(base)
-        for zone, path in enumerate(paths):
-            write_zone_file(path, self.zone_rows(zone))
         told = {
             "tool": f"pit-tools {VERSION}", "exports": [source.path for source in self.sources],
             "words": {key: value for key, value in asdict(self.words).items() if value not in ("", (), [], None, False)},
@@ -80,7 +78,10 @@ class Imported:
             "zones": [{"name": name, "file": os.path.basename(path), "K": self.benches.get(name)} for name, path in zip(self.zones, paths)],
             "turn": {"angle": self.turn.angle, "about": list(self.turn.about)} if self.turn else None,
         }
-        with open(base + ".json", "w", encoding="utf-8") as file:
-            json.dump(told, file, indent=1, ensure_ascii=False)
-            file.write("\n")
+        with outputs.together(source.path for source in self.sources):
+            for zone, path in enumerate(paths):
+                write_zone_file(path, self.zone_rows(zone))
+            with outputs.opened(base + ".json", "record of an import", "utf-8") as file:
+                json.dump(told, file, indent=1, ensure_ascii=False)
+                file.write("\n")
         return paths

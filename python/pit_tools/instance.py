@@ -23,7 +23,7 @@ import numpy as np
 import pandas as pd
 from scipy import sparse
 
-from pit_tools import spelling
+from pit_tools import outputs, spelling
 from pit_tools.errors import UserError
 
 TEXTS = ("blocks", "prec", "upit", "pcpsp", "cpit")
@@ -552,7 +552,7 @@ def write_blocks(blocks: Blocks, path: str) -> None:
     """A block file."""
     columns = [(np.arange(len(blocks)), 0), (blocks.x, 0), (blocks.y, 0), (blocks.z, 0),
                (spelling.scaled(blocks.tonnes, 3), 3), (spelling.scaled(blocks.grade, 6), 6), (blocks.zone, 0)]
-    _write(path, spelling.lines_of(columns))
+    _write(path, "blocks", spelling.lines_of(columns))
 
 
 def write_precedence(precedence: sparse.csr_matrix, path: str) -> None:
@@ -571,17 +571,17 @@ def write_precedence(precedence: sparse.csr_matrix, path: str) -> None:
             ends = np.full(len(fields), 32, dtype=np.uint8)
             ends[heads + counts + 1] = 10
             yield from spelling.lines_of([(fields, 0)], ends)
-    _write(path, pieces())
+    _write(path, "prec", pieces())
 
 
-def write_upit(upit: UltimatePit, path: str) -> None:
-    """A UPIT file."""
+def write_upit(upit: UltimatePit, path: str, end: bytes = b"") -> None:
+    """A UPIT file; `end` stands behind its last line."""
     head = f"NAME: {upit.name}\nTYPE: UPIT\nNBLOCKS: {len(upit.values)}\n{OBJECTIVE}:\n"
-    _write(path, chain([head.encode()], _objective_lines(upit.values[:, None])))
+    _write(path, "model", chain([head.encode()], _objective_lines(upit.values[:, None]), [end]))
 
 
-def write_problem(problem: Problem, path: str) -> None:
-    """A PCPSP or a CPIT file, by the problem's kind."""
+def write_problem(problem: Problem, path: str, end: bytes = b"") -> None:
+    """A PCPSP or a CPIT file, by the problem's kind; `end` stands behind its last line."""
     is_pcpsp = problem.kind == "PCPSP"
     keys = {"NAME": problem.name, "TYPE": problem.kind, "NBLOCKS": len(problem.values),
             "NPERIODS": problem.periods, "NDESTINATIONS": problem.destinations,
@@ -592,8 +592,8 @@ def write_problem(problem: Problem, path: str) -> None:
     head = "".join(f"{key}: {value}\n" for key, value in keys.items()) + f"{OBJECTIVE}:\n"
     limits = "".join(f"{limit.resource} {limit.period} {limit.letter} "
                      f"{' '.join(map(spelling.shortest, limit.ends))}\n" for limit in problem.limits)
-    _write(path, chain([head.encode()], _objective_lines(problem.values), [f"{COEFFICIENTS}:\n".encode()],
-                       _uses_lines(problem.uses, is_pcpsp), [f"{LIMITS}:\n{limits}".encode()]))
+    _write(path, "model", chain([head.encode()], _objective_lines(problem.values),
+                                [f"{COEFFICIENTS}:\n".encode()], _uses_lines(problem.uses, is_pcpsp), [f"{LIMITS}:\n{limits}".encode(), end]))
 
 
 def _objective_lines(values: np.ndarray) -> Iterator[bytes]:
@@ -609,20 +609,24 @@ def _uses_lines(uses: Uses, with_destination: bool) -> Iterator[bytes]:
                              (spelling.scaled(uses.amount, decimals), decimals)])
 
 
-def _write(path: str, pieces: Iterable[bytes]) -> None:
+def _write(path: str, kind: str, pieces: Iterable[bytes]) -> None:
     try:
-        with open(path, "wb") as file:
+        with outputs.opened(path, kind) as file:
             for piece in pieces:
                 file.write(piece)
     except OSError as error:
         raise BadInstance(f"cannot write {path}: {error.strerror}") from None
 
 
-def write_instance(instance: Instance, base: str) -> None:
-    """The parts of an instance that are there, to BASE.blocks and so on: the bytes of `pitc`."""
-    writers = {"blocks": (instance.blocks, write_blocks), "prec": (instance.precedence, write_precedence),
-               "upit": (instance.upit, write_upit), "pcpsp": (instance.pcpsp, write_problem),
-               "cpit": (instance.cpit, write_problem)}
-    for text, (part, write) in writers.items():
-        if part is not None:
-            write(part, f"{base}.{text}")
+def write_instance(instance: Instance, base: str, end: bytes = b"") -> None:
+    """The parts of an instance that are there, to BASE.blocks and so on: the bytes of `pitc`. They come
+    together, or none does; `end` stands behind each model."""
+    with outputs.together():
+        if instance.blocks is not None:
+            write_blocks(instance.blocks, base + ".blocks")
+        if instance.precedence is not None:
+            write_precedence(instance.precedence, base + ".prec")
+        if instance.upit is not None:
+            write_upit(instance.upit, base + ".upit", end)
+        for problem in filter(None, (instance.pcpsp, instance.cpit)):
+            write_problem(problem, f"{base}.{problem.kind.lower()}", end)

@@ -14,6 +14,7 @@ from typing import Iterator, Optional
 
 import pandas as pd
 
+from pit_tools import outputs
 from pit_tools.bounds import bounds_of
 from pit_tools.closure import ultimate_pit
 from pit_tools.commands.lp import fewer_arcs
@@ -140,15 +141,37 @@ def at_best_destinations(schedule: Schedule, problem: Problem) -> Schedule:
 
 def build(folder: str, seconds: float) -> None:
     """Makes the library anew: TABLE, SUMS and the schedules."""
-    os.makedirs(folder, exist_ok=True)
+    outputs.folder(folder)
     rows, sums = [], {}
     with tempfile.TemporaryDirectory() as made:
         for deposit in DEPOSITS:
             rows.append(row_of(deposit, made, seconds))
             sums |= sums_of(made, deposit.name)
-            for kind in ("cpit", "pcpsp"):
-                with open(schedule_path(deposit.name, kind, made)) as file, open(schedule_path(deposit.name, kind, folder), "w") as out:
-                    out.write(file.read())
-            pd.DataFrame(rows)[list(COLUMNS)].to_csv(os.path.join(folder, "TABLE"), sep=" ", index=False, lineterminator="\n")
-            with open(os.path.join(folder, "SUMS"), "w") as file:
-                file.writelines(f"{found}  {name}\n" for name, found in sums.items())
+            with outputs.together():
+                _copy_schedules(deposit.name, made, folder)
+                with outputs.opened(os.path.join(folder, "TABLE"), "table of the library", "ascii") as file:
+                    pd.DataFrame(rows)[list(COLUMNS)].to_csv(file, sep=" ", index=False, lineterminator="\n")
+                with outputs.opened(os.path.join(folder, "SUMS"), "sums", "ascii") as file:
+                    file.writelines(f"{found}  {name}\n" for name, found in sums.items())
+
+
+def _copy_schedules(name: str, source: str, folder: str) -> None:
+    """Copies the schedules of a deposit from one folder to another."""
+    for kind in ("cpit", "pcpsp"):
+        outputs.copied(schedule_path(name, kind, source), schedule_path(name, kind, folder), "schedule")
+
+
+def write_all(folder: str) -> None:
+    """Writes the plans, zone files, instances and schedules, the table and the sums into a folder."""
+    with tempfile.TemporaryDirectory() as made:
+        for deposit in DEPOSITS:
+            make(deposit, made)
+        with outputs.together():
+            outputs.folder(folder)
+            for name in sorted(os.listdir(made)):
+                kind = outputs.ENDINGS.get(os.path.splitext(name)[1], "zone file")
+                outputs.copied(os.path.join(made, name), os.path.join(folder, name), kind)
+            for deposit in DEPOSITS:
+                _copy_schedules(deposit.name, FOLDER, folder)
+            for name, kind in (("TABLE", "table of the library"), ("SUMS", "sums")):
+                outputs.copied(os.path.join(FOLDER, name), os.path.join(folder, name), kind)

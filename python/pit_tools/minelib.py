@@ -338,8 +338,4 @@ def write_published(mine: Instance, base: str, order: str = "bdr", with_end: boo
         uses = mine.pcpsp.uses
         rank = np.lexsort((uses.destination, uses.resource, uses.block))
         swapped = replace(mine, pcpsp=replace(mine.pcpsp, uses=Uses(uses.block[rank], uses.resource[rank], uses.destination[rank], uses.amount[rank])))
-    write_instance(swapped, base)
-    for ending in ("upit", "cpit", "pcpsp") if with_end else ():
-        if os.path.exists(f"{base}.{ending}"):
-            with open(f"{base}.{ending}", "a", encoding="ascii") as file:
-                file.write("EOF\n")
+    write_instance(swapped, base, b"EOF\n" if with_end else b"")

@@ -5,6 +5,7 @@ from typing import Optional
 
 import numpy as np
 
+from pit_tools import outputs
 from pit_tools.errors import UserError
 from pit_tools.instance import Blocks, cents
 
@@ -31,7 +32,8 @@ def read_pit(path: str, blocks: Optional[int] = None) -> np.ndarray:
 
 def write_pit(in_pit: np.ndarray, path: str) -> None:
     """Writes the identifiers of the blocks that are in the pit, bool (n,)."""
-    np.savetxt(path, np.flatnonzero(in_pit), fmt="%d")
+    with outputs.opened(path, "pit") as file:
+        np.savetxt(file, np.flatnonzero(in_pit), fmt="%d")
 
 
 def told(in_pit: np.ndarray, blocks: Blocks, values: np.ndarray) -> str:

@@ -13,6 +13,7 @@ import numpy as np
 import pandas as pd
 from scipy import sparse
 
+from pit_tools import outputs
 from pit_tools.errors import UserError
 from pit_tools.instance import Limit, Problem
 from pit_tools.spelling import shortest
@@ -92,7 +93,7 @@ def _refuse(path: str, lines: np.ndarray, bad: np.ndarray, table: pd.DataFrame, 
 
 def write_schedule(schedule: Schedule, path: str, is_pcpsp: bool) -> None:
     """Writes a schedule; a share stands where it is not 1."""
-    with open(path, "w", encoding="ascii") as file:
+    with outputs.opened(path, "schedule", "ascii") as file:
         for block, period, destination, share in zip(schedule.block, schedule.period, schedule.destination, schedule.share):
             cells = [block, period, *([destination] if is_pcpsp else []), *([] if abs(share - 1) < 1e-9 else [shortest(share, 9)])]
             file.write(" ".join(map(str, cells)) + "\n")

@@ -10,6 +10,7 @@ from typing import BinaryIO, Sequence
 import numpy as np
 import pandas as pd
 
+from pit_tools import outputs
 from pit_tools.decimals import parts_of
 from pit_tools.errors import UserError
 from pit_tools.source import widths_of
@@ -86,7 +87,7 @@ def read_zone_files(paths: Sequence[str]) -> pd.DataFrame:
 
 def write_zone_file(path: str, rows: pd.DataFrame) -> None:
     """Writes rows, as `read_zone_file` answers them: decimals as their shortest texts."""
-    with open(path, "wb") as file:
+    with outputs.opened(path, "zone file") as file:
         file.write((",".join(COLUMNS) + "\n").encode())
         append_rows(file, rows)
 

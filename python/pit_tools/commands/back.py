@@ -19,6 +19,8 @@ as they are given: they are columns then. On the export's rows stand the period 
 greatest share, and `mined` is the sum of shares.
 """
 
+WRITES = "rows of a pit"
+
 
 def add_arguments(parser: argparse.ArgumentParser) -> None:
     parser.add_argument("plan", help="the plan")
@@ -33,24 +35,21 @@ def add_arguments(parser: argparse.ArgumentParser) -> None:
 def run(args: argparse.Namespace) -> int:
     import sys
 
+    from pit_tools import outputs
     from pit_tools.back import onto_rows, placed, read_mined
     from pit_tools.instance import read_blocks
     from pit_tools.plan_file import read_plan
 
     plan, blocks = read_plan(args.plan), read_blocks(args.base + ".blocks")
     mined = read_mined(args.mined, plan, len(blocks))
-    out = open(args.out, "w", encoding="utf-8", newline="") if args.out else sys.stdout
-    try:
-        if args.onto:
-            rows, found = onto_rows(args.onto, plan, blocks, mined, out)
-            told = f"{rows:,} rows, of which {found:,} are blocks of the instance"
-            print(told, file=sys.stderr if out is sys.stdout else sys.stdout)
-        else:
-            turn = _turn(args.turned)
-            placed(plan, blocks, mined, args.all, turn).to_csv(out, index=False, lineterminator="\n")
-    finally:
-        if args.out:
-            out.close()
+    if args.onto:
+        rows, found = onto_rows(args.onto, plan, blocks, mined, args.out)
+        told = f"{rows:,} rows, of which {found:,} are blocks of the instance"
+        print(told, file=sys.stdout if args.out else sys.stderr)
+        return 0
+    table = placed(plan, blocks, mined, args.all, _turn(args.turned))
+    with outputs.opened_or_printed(args.out, "rows of a pit", "utf-8", "") as out:
+        table.to_csv(out, index=False, lineterminator="\n")
     return 0
 
 

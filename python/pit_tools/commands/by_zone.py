@@ -13,6 +13,8 @@ reads oxide.blocks and so on for zone 0 and sulphide.blocks and so on for zones 
 in the plan's order, and writes both.blocks, both.prec, both.upit, both.pcpsp and both.cpit. The plans
 have the same periods, destinations, resources and rate; names and limits are those of the first."""
 
+WRITES = "texts of an instance"
+
 
 def add_arguments(parser: argparse.ArgumentParser) -> None:
     parser.add_argument("out", metavar="OUT", help="the base of what is written")
@@ -20,8 +22,7 @@ def add_arguments(parser: argparse.ArgumentParser) -> None:
 
 
 def run(args: argparse.Namespace) -> int:
-    import shutil
-
+    from pit_tools import outputs
     from pit_tools.by_zone import by_zone
     from pit_tools.errors import UserError
     from pit_tools.instance import read_instance, write_instance
@@ -33,8 +34,9 @@ def run(args: argparse.Namespace) -> int:
             raise UserError(f"`{text}`: give an instance and its zones, as oxide:0,2")
         parts.append(([int(cell) for cell in zones.split(",")], read_instance(base, ("blocks", "upit", "pcpsp", "cpit"))))
     made = by_zone(parts)
-    write_instance(made, args.out)
-    shutil.copyfile(args.parts[0].rpartition(":")[0] + ".prec", args.out + ".prec")
+    with outputs.together():
+        write_instance(made, args.out)
+        outputs.copied(args.parts[0].rpartition(":")[0] + ".prec", args.out + ".prec", "prec")
     for text, (zones, _) in zip(args.parts, parts):
         count = sum(int((made.blocks.zone == zone).sum()) for zone in zones)
         print(f"{count:,} blocks of {text.rpartition(':')[0]}")

@@ -19,6 +19,8 @@ relaxations do: these are bounds and no schedules. A value of period t counts 1 
 is 1 where something is broken. What is off by a millionth is not counted.
 """
 
+WRITES = "schedules"
+
 
 def add_arguments(parser: argparse.ArgumentParser) -> None:
     parser.add_argument("problem", help="BASE.cpit or BASE.pcpsp")

@@ -17,6 +17,8 @@ reads. A name, a seed, a size and a shape always make the same files to the byte
 shapes: lens, flat, and dips to the east; pipe, upright and round; vein, steep and thin, along y.
 """
 
+WRITES = "plans, zone files and lists"
+
 
 def add_arguments(parser: argparse.ArgumentParser) -> None:
     parser.add_argument("--name", default=None, help="the name, `deposit` where none is given; before the seed where there are several")
@@ -42,6 +44,7 @@ def _seeds(text: str) -> list[int]:
 
 
 def run(args: argparse.Namespace) -> int:
+    from pit_tools import outputs
     from pit_tools.deposits import Deposit
 
     size = tuple(_numbers(args.size, "a size is three numbers of blocks, as 24,18,12"))
@@ -49,11 +52,12 @@ def run(args: argparse.Namespace) -> int:
     seeds = [None] if args.seed is None else _seeds(args.seed)
     is_one = len(seeds) == len(shapes) == 1
     lines = []
-    for seed in seeds:
-        for shape in shapes:
-            name = (args.name or "deposit") if is_one else f"{args.name or ''}{shape}{'' if seed is None else seed}"
-            lines.append(" ".join(Deposit(name, seed, size, shape).write(args.folder)))
-    if args.list:
-        with open(args.list, "w", encoding="ascii") as file:
-            file.write("".join(line + "\n" for line in lines))
+    with outputs.together():
+        for seed in seeds:
+            for shape in shapes:
+                name = (args.name or "deposit") if is_one else f"{args.name or ''}{shape}{'' if seed is None else seed}"
+                lines.append(" ".join(Deposit(name, seed, size, shape).write(args.folder)))
+        if args.list:
+            with outputs.opened(args.list, "list", "ascii") as file:
+                file.write("".join(line + "\n" for line in lines))
     return 0

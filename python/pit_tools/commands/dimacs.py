@@ -15,6 +15,8 @@ to blocks of worth, less the maximum flow, is what the pit is worth; the source'
 the pit. (LEMON's solver wants `-long`, without which it answers 0.)
 """
 
+WRITES = "flows"
+
 
 def add_arguments(parser: argparse.ArgumentParser) -> None:
     parser.add_argument("upit", help="BASE.upit")
@@ -25,6 +27,7 @@ def add_arguments(parser: argparse.ArgumentParser) -> None:
 def run(args: argparse.Namespace) -> int:
     import numpy as np
 
+    from pit_tools import outputs
     from pit_tools.instance import cents, read_precedence, read_upit
     from pit_tools.spelling import lines_of
 
@@ -35,7 +38,7 @@ def run(args: argparse.Namespace) -> int:
     tail = np.where(worth[some] > 0, n + 1, some + 1)
     head = np.where(worth[some] > 0, some + 1, n + 2)
     rows = np.repeat(np.arange(n), np.diff(precedence.indptr))
-    with open(args.out, "wb") as file:
+    with outputs.opened(args.out, "flow") as file:
         file.write(f"p max {n + 2} {len(some) + precedence.nnz}\nn {n + 1} s\nn {n + 2} t\n".encode())
         for tails, heads, most in ((tail, head, np.abs(worth[some])), (rows + 1, precedence.indices + 1, np.full(len(rows), no_limit))):
             for piece in lines_of([(tails, 0), (heads, 0), (most, 0)]):

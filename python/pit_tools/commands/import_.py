@@ -21,6 +21,8 @@ waste. Negative tonnes, densities and grades, as -99, are missing."""
 UNITS = """units: m ft; t kt kg st lt lb; m3 ft3 yd3; t/m3 kg/m3 lb/ft3 ft3/st; g/t ppm ppb % kg/t oz/st oz/tonne lb/st;
 USD/t of a grade is a net smelter return"""
 
+WRITES = "zone files and BASE.json"
+
 
 def add_arguments(parser: argparse.ArgumentParser) -> None:
     parser.epilog = UNITS

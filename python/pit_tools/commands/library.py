@@ -15,6 +15,8 @@ A value is in units of 100 cents, discounted but for period 0 (pit_value is not 
 worth more than its bound. The instances are those of `pitc`, to the byte.
 """
 
+WRITES = "plans, zone files, instances, schedules and tables"
+
 
 def add_arguments(parser: argparse.ArgumentParser) -> None:
     parser.add_argument("--write", metavar="FOLDER", help="makes all files there")
@@ -25,7 +27,6 @@ def add_arguments(parser: argparse.ArgumentParser) -> None:
 
 def run(args: argparse.Namespace) -> int:
     import os
-    import shutil
     import sys
     import tempfile
 
@@ -42,13 +43,7 @@ def run(args: argparse.Namespace) -> int:
         print(f"{len(library.DEPOSITS)} deposits, {len(faults)} differences")
         return 1 if faults else 0
     if args.write:
-        os.makedirs(args.write, exist_ok=True)
-        for deposit in library.DEPOSITS:
-            library.make(deposit, args.write)
-            for kind in ("cpit", "pcpsp"):
-                shutil.copy(library.schedule_path(deposit.name, kind), args.write)
-        for name in ("TABLE", "SUMS"):
-            shutil.copy(os.path.join(library.FOLDER, name), args.write)
+        library.write_all(args.write)
     with open(os.path.join(library.FOLDER, "TABLE"), encoding="ascii") as file:
         print(file.read(), end="")
     return 0

@@ -21,6 +21,8 @@ and a PCPSP y12_1_3, the share of it that goes to destination 1 in period 3. A v
 no answer changes.
 """
 
+WRITES = "programs"
+
 
 def add_arguments(parser: argparse.ArgumentParser) -> None:
     parser.add_argument("problem", help="BASE.upit, BASE.cpit or BASE.pcpsp")
@@ -33,18 +35,14 @@ def add_arguments(parser: argparse.ArgumentParser) -> None:
 
 
 def run(args: argparse.Namespace) -> int:
-    import sys
-
+    from pit_tools import outputs
     from pit_tools.programs import by_period, write_lp
 
     program = program_by(args)
     if args.by_period:
         program = by_period(program)
-    if args.out:
-        with open(args.out, "w", encoding="ascii") as file:
-            write_lp(program, file)
-    else:
-        write_lp(program, sys.stdout)
+    with outputs.opened_or_printed(args.out, "program", "ascii") as file:
+        write_lp(program, file)
     return 0
 
 

@@ -20,6 +20,8 @@ Outward each model ends with `EOF`.
 
 ENDINGS = ("blocks", "prec", "upit", "cpit", "pcpsp")
 
+WRITES = "texts of an instance"
+
 
 def add_arguments(parser: argparse.ArgumentParser) -> None:
     for ending in ENDINGS:

@@ -2,8 +2,13 @@
 from __future__ import annotations
 
 import argparse
+from typing import TYPE_CHECKING
 
 from pit_tools.commands import add_precedence_option
+
+if TYPE_CHECKING:
+    from pit_tools.instance import Instance
+    from pit_tools.plan_file import Plan
 
 HELP = """\
 Finds the ultimate pit of an instance: the blocks of greatest value in all, each with all that it
@@ -24,6 +29,8 @@ reads the arcs of deposit.thin, which pitc_thin wrote: the same pit, by fewer ar
 finds the pit for one K after the other, that of all zones, or the plan's own where `plan` stands. It
 reads no precedences, since they follow from the plan, and writes k1.pit, k2.pit and so on.
 """
+
+WRITES = "pits"
 
 
 def add_arguments(parser: argparse.ArgumentParser) -> None:
@@ -57,13 +64,9 @@ def run(args: argparse.Namespace) -> int:
 
 
 def _by_plan(args: argparse.Namespace) -> int:
-    from dataclasses import replace
-
-    from pit_tools.closure import is_compiled, pit_of_plan, ultimate_pit
-    from pit_tools.cones import precedence_of
+    from pit_tools import outputs
     from pit_tools.errors import UserError
     from pit_tools.instance import read_instance
-    from pit_tools.pits import told, write_pit
     from pit_tools.plan_file import read_plan
 
     plan = read_plan(args.plan)
@@ -72,9 +75,24 @@ def _by_plan(args: argparse.Namespace) -> int:
         raise UserError(f"cannot open {args.base}.upit: No such file or directory")
     if mine.blocks.zone.max() >= len(plan.zones):
         raise UserError(f"{args.base}.blocks has a zone {mine.blocks.zone.max()}, and the plan {len(plan.zones)} zones")
-    for K in args.K.split(","):
+    benches = args.K.split(",")
+    for K in benches:
         if K != "plan" and not (K.isdigit() and 1 <= int(K) <= 20):
             raise UserError(f"--K: `{K}` is neither 1 to 20 nor `plan`")
+    with outputs.together():
+        _pits_by_K(args, plan, mine, benches)
+    return 0
+
+
+def _pits_by_K(args: argparse.Namespace, plan: Plan, mine: Instance, benches: list[str]) -> None:
+    """The pit for each of these K, or the plan's own."""
+    from dataclasses import replace
+
+    from pit_tools.closure import is_compiled, pit_of_plan, ultimate_pit
+    from pit_tools.cones import precedence_of
+    from pit_tools.pits import told, write_pit
+
+    for K in benches:
         zones = plan.zones if K == "plan" else tuple(replace(zone, benches=int(K)) for zone in plan.zones)
         varied = replace(plan, zones=zones)
         if is_compiled():
@@ -84,4 +102,3 @@ def _by_plan(args: argparse.Namespace) -> int:
         if args.out:
             write_pit(in_pit, f"{args.out}{K}.pit")
         print(f"K = {K}: {told(in_pit, mine.blocks, mine.upit.values)}", flush=True)
-    return 0

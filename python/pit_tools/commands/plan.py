@@ -16,6 +16,8 @@ costs which goes there, with mining and haulage; --mining adds that to each. Slo
 p:q, for all sides, by side, or by sectors of azimuth (`west: 0-90 50, 90-360 45`), which become the
 sides of the zone. K is the one to take for walls as high as the model."""
 
+WRITES = "plans"
+
 
 def add_arguments(parser: argparse.ArgumentParser) -> None:
     add = parser.add_argument
@@ -37,6 +39,7 @@ def add_arguments(parser: argparse.ArgumentParser) -> None:
 
 
 def run(args: argparse.Namespace) -> int:
+    from pit_tools import outputs
     from pit_tools.errors import UserError
     from pit_tools.imported import read_imported
     from pit_tools.plan_words import Spoken, plan_from
@@ -52,7 +55,7 @@ def run(args: argparse.Namespace) -> int:
     print(explained.text())
     print()
     if args.out:
-        with open(args.out, "w", encoding="ascii", newline="\n") as file:
+        with outputs.opened(args.out, "plan", "ascii") as file:
             file.write(plan.text())
         print(f"written: {args.out}; the instance comes by")
         print(f"    pitc compile --plan {args.out} --out {plan.name} {' '.join(imported.files)}")

@@ -18,6 +18,8 @@ Reads the files of an instance into arrays and sparse matrices, and prints the c
 A program of your own calls pit_tools.instance.read_instance.
 """
 
+WRITES = "texts of an instance and arrays"
+
 
 def add_arguments(parser: argparse.ArgumentParser) -> None:
     parser.add_argument("base", help="the instance: BASE.blocks, BASE.prec, BASE.upit, BASE.pcpsp, BASE.cpit")
@@ -32,25 +34,29 @@ def add_arguments(parser: argparse.ArgumentParser) -> None:
 def run(args: argparse.Namespace) -> int:
     from dataclasses import replace
 
+    from pit_tools import outputs
     from pit_tools.instance import read_instance, write_instance
 
     mine = read_instance(args.base, precedence=args.prec)
     print(mine.counts())
-    if args.write:
-        write_instance(mine, args.write)
-    if args.arrays:
-        _write_arrays(mine, args.arrays)
-    if args.immediate:
-        from pit_tools.closure import immediate
+    with outputs.together():
+        if args.write:
+            write_instance(mine, args.write)
+        if args.arrays:
+            _write_arrays(mine, args.arrays)
+        if args.immediate:
+            from pit_tools.closure import immediate
 
-        fewer = replace(mine, precedence=immediate(mine.precedence))
-        print(fewer.counts())
-        write_instance(fewer, args.immediate)
+            fewer = replace(mine, precedence=immediate(mine.precedence))
+            print(fewer.counts())
+            write_instance(fewer, args.immediate)
     return 0
 
 
 def _write_arrays(mine, path: str) -> None:
     import numpy as np
+
+    from pit_tools import outputs
 
     parts = {f"block_{name}": array for name, array in vars(mine.blocks).items()}
     parts |= {"precedence_indptr": mine.precedence.indptr, "precedence_indices": mine.precedence.indices}
@@ -62,4 +68,5 @@ def _write_arrays(mine, path: str) -> None:
         parts |= {f"{name}_values": problem.values, f"{name}_rate": problem.rate, f"{name}_periods": problem.periods,
                   f"{name}_limits": np.array(limits, dtype=float).reshape(-1, 4)}
         parts |= {f"{name}_use_{part}": array for part, array in vars(problem.uses).items()}
-    np.savez(path, **parts)
+    with outputs.opened(path if path.endswith(".npz") else path + ".npz", "arrays") as file:
+        np.savez(file, **parts)

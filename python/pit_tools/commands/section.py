@@ -15,6 +15,8 @@ metal. The picture is a PNG, or an SVG or a PDF by the ending of --out. The firs
 
 COLOURS = ("#0b3c8c", "#111111", "#7b1fa2", "#00695c", "#b34700")
 
+WRITES = "pictures of its kind"
+
 
 def add_arguments(parser: argparse.ArgumentParser) -> None:
     parser.add_argument("plan", help="the plan")
@@ -72,6 +74,7 @@ def _draw(facts, normal: str, index: int, pits: list, args: argparse.Namespace) 
     import matplotlib
     from matplotlib.lines import Line2D
 
+    from pit_tools import outputs
     from pit_tools.pictures import draw_plane, figure, grade_legend, plane_heights, zone_legend
 
     matplotlib.rcParams.update({"svg.hashsalt": "section", "svg.fonttype": "none"})
@@ -85,4 +88,6 @@ def _draw(facts, normal: str, index: int, pits: list, args: argparse.Namespace) 
     handles = grade_legend(facts) if args.by == "grade" else zone_legend(facts)
     lines = [Line2D([], [], color=colour, linestyle=style, linewidth=1.8, label=name) for _, colour, style, name in pits]
     legends.legend(handles=handles + lines, ncol=6, fontsize=8, loc="upper left", frameon=False, borderaxespad=0).set_in_layout(False)
-    drawn.savefig(args.out, dpi=110, metadata={"Date": None} if args.out.lower().endswith(".svg") else None)
+    form = args.out.rpartition(".")[2].lower()
+    with outputs.opened(args.out, f"{form.upper()} picture") as file:
+        drawn.savefig(file, format=form, dpi=110, metadata={"Date": None} if form == "svg" else None)

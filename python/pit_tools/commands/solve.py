@@ -19,6 +19,8 @@ the share, where that is not 1. The status is 1 where no schedule was found. Whe
 discounted is for the solver to say: here it is not.
 """
 
+WRITES = "schedules"
+
 
 def add_arguments(parser: argparse.ArgumentParser) -> None:
     parser.add_argument("problem", help="BASE.cpit or BASE.pcpsp")

@@ -16,6 +16,8 @@ floor of the ultimate pit, sections and a bench, the grade-tonnage curve, slopes
 period. It opens without a network.
 """
 
+WRITES = "surveys and pictures"
+
 
 def add_arguments(parser: argparse.ArgumentParser) -> None:
     parser.add_argument("plan", help="the plan")
@@ -27,28 +29,32 @@ def add_arguments(parser: argparse.ArgumentParser) -> None:
 
 
 def run(args: argparse.Namespace) -> int:
+    from pit_tools import outputs
     from pit_tools.survey_facts import read_facts
     from pit_tools.survey_text import survey_text
 
     facts = read_facts(args.plan, args.base, args.zones, args.pit)
     text = survey_text(facts)
     print(text, end="")
-    if args.html:
-        from pit_tools.survey_page import survey_page
+    with outputs.together():
+        if args.html:
+            from pit_tools.survey_page import survey_page
 
-        with open(args.html, "w", encoding="utf-8") as file:
-            file.write(survey_page(facts, text))
-    if args.pictures:
-        _write_pictures(facts, args.pictures)
+            page = survey_page(facts, text)
+            with outputs.opened(args.html, "survey", "utf-8") as file:
+                file.write(page)
+        if args.pictures:
+            _write_pictures(facts, args.pictures)
     return 0
 
 
 def _write_pictures(facts, folder: str) -> None:
     import os
 
+    from pit_tools import outputs
     from pit_tools.pictures import all_of_them, png_of
 
-    os.makedirs(folder, exist_ok=True)
+    outputs.folder(folder)
     for name, _, drawn in all_of_them(facts):
-        with open(os.path.join(folder, name + ".png"), "wb") as file:
+        with outputs.opened(os.path.join(folder, name + ".png"), "PNG picture") as file:
             file.write(png_of(drawn))

@@ -20,6 +20,8 @@ A cell is one of
 A value that begins with x multiplies the plan's. --list writes the list that `batch` reads.
 """
 
+WRITES = "plans and lists"
+
 
 def add_arguments(parser: argparse.ArgumentParser) -> None:
     parser.add_argument("plan", help="the plan")
@@ -33,6 +35,7 @@ def add_arguments(parser: argparse.ArgumentParser) -> None:
 def run(args: argparse.Namespace) -> int:
     import os
 
+    from pit_tools import outputs
     from pit_tools.errors import UserError
     from pit_tools.plan_file import plan_of
     from pit_tools.variations import Change, variations
@@ -43,13 +46,14 @@ def run(args: argparse.Namespace) -> int:
     if not args.set:
         raise UserError("give a cell by --set, as --set K=2,4")
     lines = []
-    for name, varied in variations(text, base, [Change.of(one) for one in args.set]):
-        plan_of(varied, name)
-        with open(os.path.join(args.folder, name + ".plan"), "w", encoding="ascii") as file:
-            file.write(varied)
-        lines.append(" ".join([name + ".plan", *args.zones]))
-    if args.list:
-        with open(args.list, "w", encoding="utf-8") as file:
-            file.write("".join(line + "\n" for line in lines))
+    with outputs.together():
+        for name, varied in variations(text, base, [Change.of(one) for one in args.set]):
+            plan_of(varied, name)
+            with outputs.opened(os.path.join(args.folder, name + ".plan"), "plan", "ascii") as file:
+                file.write(varied)
+            lines.append(" ".join([name + ".plan", *args.zones]))
+        if args.list:
+            with outputs.opened(args.list, "list", "utf-8") as file:
+                file.write("".join(line + "\n" for line in lines))
     print(f"{len(lines)} plans")
     return 0

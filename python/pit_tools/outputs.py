@@ -1,0 +1,495 @@
+"""The one door for all that a command writes.
+
+    with outputs.together():
+        with outputs.opened("k1.pit", "pit") as first, outputs.opened("k2.pit", "pit") as second:
+            ...
+
+A file is written beside its place, as NAME.unfinished-PROCESS, and put there by a rename when all of
+it lies on the disk. The files of one `together` come together, or none does; an old file is kept
+meanwhile as NAME.before-PROCESS, and comes back where a later one cannot be put in its place. Both
+names stay where the process is killed, and nowhere else.
+
+Nothing is written over what the command reads, by whichever name or link. A link stays a link: the
+file that it leads to is replaced. A device or a pipe is written through. Of a file with several names
+by hard links the one name gets the new file.
+"""
+from __future__ import annotations
+
+import errno
+import io
+import os
+import re
+import shutil
+import stat
+import sys
+import threading
+from contextlib import contextmanager
+from dataclasses import dataclass
+from typing import IO, Callable, Iterable, Iterator, Optional, Tuple, TypeVar
+
+from pit_tools import interrupts
+from pit_tools.errors import UserError
+
+#: How a file of each kind begins. A command replaces no other files, but by --force.
+KINDS = {
+    "zone file": rb"x,y,z,tonnes,grade(,rock)?\r?\n",
+    "record of an import": rb'\{\s*"tool": "pit-tools ',
+    "plan": rb"name,",
+    "list": rb"\S+\.plan( |\n)",
+    "blocks": rb"(%|\d+( \d+){3} )",
+    "prec": rb"(%|\d+ \d+[ \n])",
+    "model": rb"(%|NAME:)",
+    "arrays": rb"PK\x03\x04.{26}block_",
+    "pit": rb"\d+\r?\n",
+    "schedule": rb"\d+ \d+( [0-9.]+){0,2}\r?\n",
+    "program": rb"\\ ",
+    "flow": rb"p max ",
+    "rows of a pit": rb"[^\n]*\bblock\b[^\n]*\bmined\b",
+    "survey": rb"<!doctype html>\n<html[^>]*><head><meta[^>]*><title>Survey of ",
+    "PNG picture": rb"\x89PNG",
+    "SVG picture": rb"<\?xml",
+    "PDF picture": rb"%PDF",
+    "table of the library": rb"name seed shape ",
+    "sums": rb"[0-9a-f]{64}  ",
+}
+
+#: Names that are of one kind, so that no file of another kind takes their place.
+ENDINGS = {".plan": "plan", ".blocks": "blocks", ".prec": "prec", ".upit": "model", ".cpit": "model",
+           ".pcpsp": "model"}
+
+#: How much of an old file is looked at: more than the longest header.
+FRONT = 1 << 20
+
+#: What a file system answers that has no hard links, or gives none of this file.
+NO_LINKS = (errno.EPERM, errno.EOPNOTSUPP, errno.ENOSYS, errno.EMLINK, errno.EACCES)
+
+Identity = Tuple[int, int]
+Made = TypeVar("Made")
+
+
+def _identity(path: object) -> Optional[Identity]:
+    """What a regular file is, by whichever of its names; None of all else."""
+    try:
+        status = os.stat(path)  # type: ignore[arg-type]
+    except (OSError, ValueError, TypeError):
+        return None
+    return (status.st_dev, status.st_ino) if stat.S_ISREG(status.st_mode) else None
+
+
+# What is read
+
+
+class _Command:
+    """The command that runs: what it has read, and whether it may replace other files."""
+
+    def __init__(self, force: bool):
+        self.force, self.is_looking = force, False
+        self.reads: dict[Identity, str] = {}
+
+    def note(self, path: object) -> None:
+        found = _identity(path)
+        if found and not self.is_looking:
+            self.reads.setdefault(found, os.fsdecode(path))  # type: ignore[arg-type]
+
+
+_command: Optional[_Command] = None
+_is_hooked = False
+
+
+def _hook(event: str, arguments: tuple) -> None:
+    """Python calls it for each file that it opens, so that no command forgets one."""
+    if event == "open" and _command is not None:
+        path, _, flags = arguments
+        if isinstance(path, (str, bytes, os.PathLike)) and flags & os.O_ACCMODE != os.O_WRONLY:
+            _command.note(path)
+
+
+@contextmanager
+def of_command(force: bool = False) -> Iterator[None]:
+    """Within it each file that is opened to read is one that nothing may be written over, and a file
+    is replaced only by one of its kind, but with `force`."""
+    global _command, _is_hooked
+    if not _is_hooked:
+        sys.addaudithook(_hook)
+        _is_hooked = True
+    _command = _Command(force)
+    try:
+        yield
+    finally:
+        _command = None
+
+
+def reads(*paths: str) -> None:
+    """Says that the command reads these files too, by another program."""
+    if _command is not None:
+        for path in paths:
+            _command.note(path)
+
+
+# Where a file goes
+
+
+def _descriptor_of(place: str) -> Optional[int]:
+    """The open file of this process that a name such as /dev/stdout means."""
+    path, own = os.path.abspath(place), rf"/(?:dev|proc/(?:self|{os.getpid()}))/fd/(\d+)"
+    for _ in range(40):
+        if found := re.fullmatch(own, path):
+            return int(found[1])
+        if not os.path.islink(path):
+            break
+        path = os.path.abspath(os.path.join(os.path.dirname(path), os.readlink(path)))
+    return None
+
+
+def _is_written_through(place: str) -> bool:
+    try:
+        mode = os.stat(place).st_mode
+    except OSError:
+        return False
+    return not stat.S_ISREG(mode) and not stat.S_ISDIR(mode)
+
+
+def _named(error: OSError, place: str) -> OSError:
+    """The same fault with the name of the file that was to be written."""
+    return OSError(error.errno, error.strerror or str(error), place)
+
+
+class _Raw(io.FileIO):
+    """A file whose faults have its name."""
+
+    def __init__(self, descriptor: int, place: str):
+        super().__init__(descriptor, "w")
+        self.place = place
+
+    def write(self, data):
+        try:
+            return super().write(data)
+        except OSError as error:
+            raise _named(error, self.place) from None
+
+
+def _over(raw: _Raw, encoding: Optional[str], newline: str) -> IO:
+    buffered = io.BufferedWriter(raw, 1 << 18)
+    return io.TextIOWrapper(buffered, encoding, newline=newline) if encoding else buffered
+
+
+@dataclass
+class _Unfinished:
+    """A file beside its place. `place` is how the command names it, `target` where it goes."""
+
+    place: str
+    target: str
+    path: str
+
+
+def _beside(target: str, what: str, make: Callable[[str], Made]) -> tuple[str, Made]:
+    """Makes a file beside another one, under a name that is not taken; answers it, and what `make` does."""
+    above, name = os.path.split(target)
+    path = os.path.join(above, f"{name[:200]}.{what}-{os.getpid()}")
+    for number in range(1, 1000):
+        try:
+            return path, make(path)
+        except FileExistsError:
+            # One of the same number that was killed, on this machine or another.
+            path = os.path.join(above, f"{name[:200]}.{what}-{os.getpid()}.{number}")
+    raise FileExistsError(errno.EEXIST, os.strerror(errno.EEXIST), path)
+
+
+def _created(path: str) -> int:
+    return os.open(path, os.O_CREAT | os.O_EXCL | os.O_WRONLY | os.O_CLOEXEC, 0o666)
+
+
+# Files that come together
+
+
+class _Group:
+    """The files of one `together`."""
+
+    def __init__(self) -> None:
+        self.files: list[_Unfinished] = []
+        self.folders: list[str] = []
+        self.reads: dict[Identity, str] = {}
+
+    def note(self, paths: Iterable[str]) -> None:
+        self.reads |= {found: path for path in paths if (found := _identity(path))}
+
+    def refuse_read(self, place: str, found: Optional[Identity]) -> None:
+        """Refuses to write over a file that is read."""
+        read = {**self.reads, **(_command.reads if _command else {})}.get(found) if found else None
+        if read is not None:
+            told = "this command reads it" if read == place else f"it is {read}, which this command reads"
+            raise UserError(f"{place}: {told}, and it would be written over: give another name")
+
+    def begin(self, place: str, kind: str) -> _Raw:
+        """Opens the file beside the place of one that is to be written."""
+        target = os.path.realpath(place)
+        if os.path.isdir(target):
+            raise IsADirectoryError(errno.EISDIR, os.strerror(errno.EISDIR), place)
+        if any(one.target == target for one in self.files):
+            raise UserError(f"{place}: two files would have this name")
+        self.refuse_read(place, _identity(target))
+        if os.path.exists(target):
+            self._judge_old(place, target, kind)
+        with interrupts.held():
+            return self._made_beside(place, target)
+
+    def _judge_old(self, place: str, target: str, kind: str) -> None:
+        if not os.access(target, os.W_OK):
+            raise PermissionError(errno.EACCES, os.strerror(errno.EACCES), place)
+        if _command is None or _command.force:
+            return
+        _command.is_looking = True
+        try:
+            with open(target, "rb") as file:
+                front = file.read(FRONT)
+        finally:
+            _command.is_looking = False
+        of_name = ENDINGS.get(os.path.splitext(target)[1].lower(), kind)
+        if front and (of_name != kind or not re.match(KINDS[kind], front, re.DOTALL)):
+            raise UserError(f"{place}: the file there is of another kind than `{kind}`: --force replaces it")
+
+    def _made_beside(self, place: str, target: str) -> _Raw:
+        try:
+            path, descriptor = _beside(target, "unfinished", _created)
+        except PermissionError:
+            if os.path.exists(target):
+                raise UserError(f"{place}: its folder may not be written, where a new file stands until "
+                                "it is whole") from None
+            raise PermissionError(errno.EACCES, os.strerror(errno.EACCES), place) from None
+        except OSError as error:
+            raise _named(error, place) from None
+        self.files.append(_Unfinished(place, target, path))
+        _take_rights(descriptor, target)
+        return _Raw(descriptor, place)
+
+    def drop(self, files: Iterable[_Unfinished]) -> None:
+        """Takes unfinished files away."""
+        for one in list(files):
+            self.files.remove(one)
+            _remove(one.path)
+
+    def put(self) -> None:
+        """Puts all files in their places."""
+        for one in self.files:
+            self.refuse_read(one.place, _identity(one.target))
+        done: list[tuple[_Unfinished, Optional[str], bool]] = []
+        try:
+            for one in self.files:
+                was_there = os.path.lexists(one.target)
+                kept = _kept(one) if was_there and len(self.files) > 1 else None
+                done.append((one, kept, was_there))
+                _renamed(one.path, one.target, one.place)
+        except OSError as error:
+            self._undo(done)
+            raise error
+        for _, kept, _ in done:
+            _remove(kept)
+        for folder in {os.path.dirname(one.target) for one in self.files}:
+            _sync_folder(folder)
+        self.files.clear()
+        self.folders.clear()
+
+    def _undo(self, done: list) -> None:
+        """Brings the old files back, and takes new ones away that nothing stood in place of."""
+        for one, kept, was_there in reversed(done):
+            if os.path.lexists(one.path):
+                _remove(kept)
+            elif kept:
+                _renamed(kept, one.target, one.place)
+            elif not was_there:
+                _remove(one.target)
+
+    def clear(self) -> None:
+        """Takes all away that was begun."""
+        self.drop(self.files)
+        for folder in reversed(self.folders):
+            try:
+                os.rmdir(folder)
+            except OSError:
+                pass
+
+
+def _take_rights(descriptor: int, target: str) -> None:
+    """Gives a new file the owner and the mode of the one whose place it takes."""
+    try:
+        old = os.stat(target)
+    except OSError:
+        return
+    new = os.fstat(descriptor)
+    if (old.st_uid, old.st_gid) != (new.st_uid, new.st_gid):
+        try:
+            os.fchown(descriptor, old.st_uid, old.st_gid)
+        except OSError:
+            pass
+    os.fchmod(descriptor, stat.S_IMODE(old.st_mode))
+
+
+def _kept(one: _Unfinished) -> Optional[str]:
+    """A second name of the old file; None where the file system has none to give."""
+    try:
+        return _beside(one.target, "before", lambda path: os.link(one.target, path))[0]
+    except OSError as error:
+        if error.errno in NO_LINKS:
+            return None
+        raise _named(error, one.place) from None
+
+
+def _renamed(path: str, target: str, place: str) -> None:
+    try:
+        os.replace(path, target)
+    except OSError as error:
+        raise _named(error, place) from None
+
+
+def _remove(path: Optional[str]) -> None:
+    try:
+        if path:
+            os.unlink(path)
+    except OSError:
+        pass
+
+
+def _synced(descriptor: int, place: str) -> None:
+    """Waits until a file lies on the disk: full disks elsewhere are told only then."""
+    try:
+        os.fsync(descriptor)
+    except OSError as error:
+        if error.errno not in (errno.EINVAL, errno.EOPNOTSUPP):
+            raise _named(error, place) from None
+
+
+def _sync_folder(folder: str) -> None:
+    """Makes the new names last; the files are there already, so a fault of this is none."""
+    try:
+        descriptor = os.open(folder, os.O_RDONLY | os.O_DIRECTORY | os.O_CLOEXEC)
+    except OSError:
+        return
+    try:
+        os.fsync(descriptor)
+    except OSError:
+        pass
+    finally:
+        os.close(descriptor)
+
+
+_here = threading.local()
+
+
+@contextmanager
+def together(reading: Iterable[str] = ()) -> Iterator[None]:
+    """The files that are opened within come together at its end, or none does where an exception
+    leaves it. One `together` within another is a part of that. `reading` are files that are read
+    where no command runs, which knows its own."""
+    group = getattr(_here, "group", None)
+    if group is not None:
+        group.note(reading)
+        yield
+        return
+    with interrupts.caught():
+        group = _here.group = _Group()
+        group.note(reading)
+        try:
+            yield
+            with interrupts.held():
+                group.put()
+        finally:
+            with interrupts.held():
+                _here.group = None
+                group.clear()
+
+
+@contextmanager
+def opened(place: str, kind: str, encoding: Optional[str] = None, newline: str = "\n") -> Iterator[IO]:
+    """A file to be written, of bytes, or of text where an encoding is given. It comes to its place at
+    the end of the `together` around it, or at its own end.
+
+    Raises UserError where the command reads that file, or another kind of file is there; OSError, with
+    the name, for all that the system refuses.
+    """
+    descriptor = _descriptor_of(place)
+    if descriptor is not None or _is_written_through(place):
+        with _written_through(place, descriptor) as raw:
+            yield from _whole(raw, encoding, newline)
+        return
+    with together():
+        group = _here.group
+        raw = group.begin(place, kind)
+        mine = group.files[-1]
+        try:
+            yield from _whole(raw, encoding, newline)
+        except BaseException:
+            with interrupts.held():
+                group.drop([mine])
+            raise
+
+
+def _whole(raw: _Raw, encoding: Optional[str], newline: str) -> Iterator[IO]:
+    """Lends a file, and sees that all of it is written."""
+    file = _over(raw, encoding, newline)
+    try:
+        yield file
+        file.flush()
+        if stat.S_ISREG(os.fstat(raw.fileno()).st_mode):
+            _synced(raw.fileno(), raw.place)
+        try:
+            file.close()
+        except OSError as error:
+            raise _named(error, raw.place) from None
+    finally:
+        # What is not flushed is not wanted.
+        raw.close()
+
+
+@contextmanager
+def _written_through(place: str, descriptor: Optional[int]) -> Iterator[_Raw]:
+    """A device, a pipe or an open file of this process, which is no file of its own."""
+    if descriptor is None:
+        yield _Raw(os.open(place, os.O_WRONLY | os.O_CLOEXEC), place)
+        return
+    if sys.stdout is not None:
+        sys.stdout.flush()
+    raw = _Raw(os.dup(descriptor), place)
+    status = os.fstat(raw.fileno())
+    _Group().refuse_read(place, (status.st_dev, status.st_ino) if stat.S_ISREG(status.st_mode) else None)
+    yield raw
+
+
+@contextmanager
+def opened_or_printed(place: Optional[str], kind: str, encoding: str, newline: str = "\n") -> Iterator[IO]:
+    """The same as text, or standard output where no place is given."""
+    if place:
+        with opened(place, kind, encoding, newline) as file:
+            yield file
+        return
+    try:
+        status = os.fstat(sys.stdout.fileno())
+    except (OSError, ValueError):
+        status = None
+    if status and stat.S_ISREG(status.st_mode):
+        _Group().refuse_read("standard output", (status.st_dev, status.st_ino))
+    yield sys.stdout
+
+
+def copied(source: str, place: str, kind: str) -> None:
+    """Copies a file through the door."""
+    with open(source, "rb") as file, opened(place, kind) as out:
+        shutil.copyfileobj(file, out, 1 << 20)
+
+
+def judged(*places: Optional[str]) -> None:
+    """Refuses early what would be written over a file that is read, before a long computation."""
+    for place in filter(None, places):
+        _Group().refuse_read(place, _identity(os.path.realpath(place)))
+
+
+def folder(path: str) -> None:
+    """Makes a folder with those above it, where it is not there; within a `together` that fails it
+    goes again, where it is empty."""
+    path, lacking = os.path.abspath(path), []
+    while not os.path.isdir(path):
+        lacking.append(path)
+        path = os.path.dirname(path)
+    for one in reversed(lacking):
+        os.mkdir(one)
+        if getattr(_here, "group", None) is not None:
+            _here.group.folders.append(one)
