@@ -1,6 +1,37 @@
-"""`python3 -m pit_tools` is the command `pit-tools`."""
+"""What runs the command `pit-tools`, by `python3 -m pit_tools` too.
+
+Python looks for modules in the current folder first, or where an empty part of PYTHONPATH stands: a
+user's own `random.py` or `csv.py` there would be run. So it looks where this package lies, and where
+packages are installed.
+"""
+import os
+import site
 import sys
 
-from pit_tools.cli import main
+OWN = os.path.dirname(os.path.dirname(os.path.abspath(__file__)))
 
-sys.exit(main())
+
+def look_nowhere_else() -> None:
+    """Takes the current folder from where Python looks. Started by `-I`, as by the script pit-tools,
+    it looks where the user has installed packages too."""
+    try:
+        current = os.getcwd()
+        sys.path[:] = [folder for folder in sys.path if os.path.abspath(folder) not in (current, OWN)]
+    except FileNotFoundError:
+        pass
+    sys.path.insert(0, OWN)
+    installed = site.getusersitepackages()
+    if sys.flags.isolated and os.path.isdir(installed) and os.stat(installed).st_uid == os.geteuid():
+        site.addsitedir(installed)
+
+
+def main() -> int:
+    """Runs the words that the process was given."""
+    look_nowhere_else()
+    from pit_tools.cli import main as run
+
+    return run()
+
+
+if __name__ == "__main__":
+    sys.exit(main())

@@ -15,7 +15,7 @@ import numpy as np
 
 from pit_tools import VERSION
 from pit_tools.bounds import bounds_of
-from pit_tools.closure import SOURCE
+from pit_tools.compiled import SOURCE
 from pit_tools.errors import UserError
 from pit_tools.instance import TEXTS, Instance, read_instance
 

@@ -2,10 +2,13 @@
 from __future__ import annotations
 
 import argparse
+import errno
 import importlib
+import io
 import os
 import re
 import sys
+import traceback
 from typing import Optional, Sequence
 
 from pit_tools import VERSION, outputs
@@ -40,6 +43,12 @@ COMMANDS = {
 
 MODULES = {"import": "import_"}
 
+#: What the system answers where nothing more can be written.
+FULL = (errno.ENOSPC, errno.EDQUOT, errno.EFBIG)
+
+#: The word that shows where in the program a fault arose.
+DEBUG = "--debug"
+
 
 def module_path(command: str) -> str:
     """The module of a subcommand, without its package."""
@@ -64,7 +73,9 @@ def overview() -> str:
         *lines,
         "",
         "`pit-tools COMMAND --help` has its words and an example; `pit-tools --version` tells the",
-        "version, the interpreter and the packages.",
+        "version, the interpreter and the packages. With --debug a fault of the program itself is told with",
+        "its place. The status is 0 where all is done, 1 what the command calls wrong, 2 where words, an input",
+        "or the system's answer end it, 3 at a fault of the program, and 130 at Ctrl-C.",
     ])
 
 
@@ -115,10 +126,8 @@ def joined(words: Sequence[str]) -> list[str]:
     return found
 
 
-def main(words: Optional[Sequence[str]] = None) -> int:
-    """Runs a command line; answers the status: 0 done, 1 what the command calls wrong, 2 words or
-    an input are refused."""
-    words = list(sys.argv[1:] if words is None else words)
+def run(words: Sequence[str]) -> int:
+    """Runs a command line; answers the status."""
     if not words or words[0] in ("--help", "-h", "help"):
         print(overview())
         return 0 if words else 2
@@ -127,25 +136,108 @@ def main(words: Optional[Sequence[str]] = None) -> int:
         return 0
     command = words[0]
     if command not in COMMANDS or not stands(command):
-        print(f"pit-tools: no command `{command}`: `pit-tools --help` lists them", file=sys.stderr)
-        return 2
+        raise UserError(f"no command `{command}`: `pit-tools --help` lists them")
+    args = parser_of(command).parse_args(joined(words[1:]))
+    with outputs.of_command(args.force):
+        status = args.run(args)
+        _flush()
+        return status
+
+
+def _flush() -> None:
+    """Sees that all is printed, while a fault of that can be told."""
     try:
-        args = parser_of(command).parse_args(joined(words[1:]))
-        with outputs.of_command(args.force):
-            status = args.run(args)
-            sys.stdout.flush()
-            return status
-    except UserError as error:
-        print(f"pit-tools {command}: {error}", file=sys.stderr)
-        return 2
+        sys.stdout.flush()
     except BrokenPipeError:
-        # Who read, as `head`, has gone; what Python would flush at its end has nowhere to go.
-        os.dup2(os.open(os.devnull, os.O_WRONLY), sys.stdout.fileno())
-        return 1
+        raise
     except OSError as error:
-        place = f"{error.filename}: " if error.filename else ""
-        print(f"pit-tools {command}: {place}{error.strerror or error}", file=sys.stderr)
-        return 2
+        raise OSError(error.errno, error.strerror, "standard output") from None
+
+
+def _ready_streams() -> None:
+    """Opens /dev/null where standard input, output or errors are closed: a file that is opened later
+    would stand in their place, and get what is printed. Signs that the terminal has not are spelled."""
+    for number in range(3):
+        try:
+            os.fstat(number)
+        except OSError:
+            os.set_inheritable(os.open(os.devnull, os.O_RDWR), True)
+    is_printing = sys.stdout is not None
+    sys.stdin, sys.stdout, sys.stderr = (
+        open(os.devnull, mode, encoding="utf-8") if stream is None else stream
+        for stream, mode in ((sys.stdin, "r"), (sys.stdout, "w"), (sys.stderr, "w")))
+    if isinstance(sys.stdout, io.TextIOWrapper):
+        sys.stdout.reconfigure(errors="backslashreplace")
+    if not is_printing:
+        raise UserError("standard output is closed")
+
+
+def _told(error: BaseException) -> str:
+    """A fault in a line."""
+    if isinstance(error, UserError):
+        return str(error)
+    if isinstance(error, MemoryError):
+        return f"there is not memory enough{f': {error}' if str(error) else ''}"
+    if isinstance(error, OSError):
+        # A file that is written has its name, so that a full disk without one is that of what is printed.
+        named = error.filename or ("standard output" if error.errno in FULL else None)
+        place = f"{os.fsdecode(named)}: " if isinstance(named, (str, bytes)) else ""
+        return place + (error.strerror or str(error) or "the system refuses it")
+    if isinstance(error, ImportError):
+        return f"a package of Python is lacking or damaged: {' '.join(str(error).split())}"
+    last = traceback.extract_tb(error.__traceback__)[-1]
+    return (f"this is a fault of pit-tools, and none of yours: {type(error).__name__}: {' '.join(str(error).split())[:200]} "
+            f"({os.path.basename(last.filename)}, line {last.lineno}). Please report it with the command line; --debug tells more")
+
+
+def _judge_words(words: Sequence[str]) -> None:
+    """Refuses names that are no text, since they can stand in no file that is written."""
+    for word in words:
+        try:
+            word.encode("utf-8")
+        except UnicodeEncodeError:
+            raise UserError(f"{os.fsencode(word)!r} is no UTF-8: rename the file, or lead to it by a link") from None
+
+
+def _is_own(error: BaseException) -> bool:
+    """Whether the fault is one of this program."""
+    return not isinstance(error, (UserError, MemoryError, OSError, ImportError))
+
+
+def main(words: Optional[Sequence[str]] = None) -> int:
+    """Runs a command line; answers the status: 0 done, 1 what the command calls wrong, 2 words or an
+    input are refused, 3 a fault of this program, 130 ended by Ctrl-C."""
+    words = list(sys.argv[1:] if words is None else words)
+    name = " ".join(["pit-tools", *(words[:1] if words and words[0] in COMMANDS else [])])
+    try:
+        _ready_streams()
+        _judge_words(words)
+        status = run([word for word in words if word != DEBUG] if words[:1] != ["python"] else words)
+        _flush()
+        return status
+    except SystemExit as ended:
+        status = ended.code if isinstance(ended.code, int) else int(ended.code is not None)
+    except KeyboardInterrupt:
+        status = 130
+    except BrokenPipeError:
+        # Who read, as `head`, has gone.
+        status = 1
+    except Exception as error:  # pylint: disable=broad-except
+        if DEBUG in words:
+            traceback.print_exc()
+        print(f"{name}: {_told(error)}", file=sys.stderr)
+        status = 3 if _is_own(error) else 2
+    return _with_nothing_left_to_print(status)
+
+
+def _with_nothing_left_to_print(status: int) -> int:
+    """The status; what cannot be printed any more is dropped, since Python would tell of it at its end."""
+    try:
+        sys.stdout.flush()
+    except (OSError, ValueError):
+        os.dup2(os.open(os.devnull, os.O_WRONLY), sys.stdout.fileno())
+        return status or 1
+    return status
 
 
 if __name__ == "__main__":

@@ -3,78 +3,30 @@
     from pit_tools.closure import ultimate_pit
     in_pit = ultimate_pit(mine.upit.values, mine.precedence)         # bool, (n,)
 
-A program of C++ (closure.cpp), which a C++ compiler of this machine makes once, finds it: a million
-blocks at K = 1 in a second or two. Where there is no compiler, HiGHS of scipy solves the linear
-program, which takes minutes beyond some ten thousand blocks. Both are exact: values are counted in
-cents. Of several pits of greatest value the smallest is taken by the program; HiGHS may take another.
+A program of C++ (compiled.py) finds it: a million blocks at K = 1 in a second or two. Where there is
+no compiler, HiGHS of scipy solves the linear program, which takes minutes beyond some ten thousand
+blocks. Both are exact: values are counted in cents. Of several pits of greatest value the smallest is taken by the program; HiGHS may take another.
 """
 from __future__ import annotations
 
 import ctypes
-import hashlib
-import os
-import shutil
-import subprocess
-import tempfile
-from functools import lru_cache
-from typing import Optional
 
 import numpy as np
 from scipy import optimize, sparse
 
+from pit_tools.compiled import library
 from pit_tools.cones import Places, cone_offsets, size_in_millimetres
 from pit_tools.errors import UserError
 from pit_tools.instance import Blocks, cents
 from pit_tools.plan_file import Plan
 
-SOURCE = os.path.join(os.path.dirname(__file__), "closure.cpp")
-
 #: Arcs up to which HiGHS is asked where there is no compiler.
 MOST_ARCS_OF_HIGHS = 2_000_000
 
 
-def compiler() -> Optional[str]:
-    """The C++ compiler of this machine: that of CXX, or the first of g++, c++ and clang++."""
-    names = [os.environ.get("CXX", ""), "g++", "c++", "clang++"]
-    return next((found for name in names if name and (found := shutil.which(name))), None)
-
-
-def _folder() -> str:
-    """Where the compiled program is kept: the user's cache, or a folder of this run alone where that cannot be
-    written, which is left to the system's clearing."""
-    home = os.environ.get("XDG_CACHE_HOME") or os.path.join(os.path.expanduser("~"), ".cache")
-    folder = os.path.join(home, "pit-tools")
-    try:
-        os.makedirs(folder, mode=0o700, exist_ok=True)
-        if os.access(folder, os.W_OK):
-            return folder
-    except OSError:
-        pass
-    return tempfile.mkdtemp(prefix="pit-tools-")
-
-
-@lru_cache(None)
-def _library() -> Optional[ctypes.CDLL]:
-    """The program, compiled where it was not yet; None where there is no compiler."""
-    with open(SOURCE, "rb") as file:
-        name = hashlib.sha256(file.read()).hexdigest()[:16]
-    path = os.path.join(_folder(), f"closure-{name}.so")
-    if not os.path.exists(path):
-        program = compiler()
-        if program is None:
-            return None
-        made = f"{path}.{os.getpid()}"
-        done = subprocess.run([program, "-O2", "-std=c++17", "-shared", "-fPIC", "-o", made, SOURCE],
-                              capture_output=True, text=True)
-        if done.returncode:
-            return None
-        os.replace(made, path)
-    return ctypes.CDLL(path)
-
-
 def is_compiled() -> bool:
     """Whether the program of C++ is there, or could be made."""
-    return _library() is not None
+    return library() is not None
 
 
 def _pointer(array: np.ndarray) -> ctypes.c_void_p:
@@ -82,7 +34,7 @@ def _pointer(array: np.ndarray) -> ctypes.c_void_p:
 
 
 def _called(function: str, *arguments) -> None:
-    if getattr(_library(), function)(*arguments):
+    if getattr(library(), function)(*arguments):
         raise UserError("memory was refused")
 
 

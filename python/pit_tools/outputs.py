@@ -51,6 +51,7 @@ KINDS = {
     "PDF picture": rb"%PDF",
     "table of the library": rb"name seed shape ",
     "sums": rb"[0-9a-f]{64}  ",
+    "compiled program": rb"\x7fELF|\xcf\xfa\xed\xfe",
 }
 
 #: Names that are of one kind, so that no file of another kind takes their place.
@@ -399,6 +400,17 @@ def together(reading: Iterable[str] = ()) -> Iterator[None]:
 
 
 @contextmanager
+def alone() -> Iterator[None]:
+    """What is opened within does not wait for the `together` around it."""
+    group = getattr(_here, "group", None)
+    _here.group = None
+    try:
+        yield
+    finally:
+        _here.group = group
+
+
+@contextmanager
 def opened(place: str, kind: str, encoding: Optional[str] = None, newline: str = "\n") -> Iterator[IO]:
     """A file to be written, of bytes, or of text where an encoding is given. It comes to its place at
     the end of the `together` around it, or at its own end.
@@ -467,6 +479,8 @@ def opened_or_printed(place: Optional[str], kind: str, encoding: str, newline: s
         status = None
     if status and stat.S_ISREG(status.st_mode):
         _Group().refuse_read("standard output", (status.st_dev, status.st_ino))
+    if isinstance(sys.stdout, io.TextIOWrapper):
+        sys.stdout.reconfigure(encoding=encoding, newline=newline)
     yield sys.stdout
 
 

@@ -1,19 +1,22 @@
 """The ultimate pit against HiGHS and against all closures of small mines."""
 import itertools
+import os
+import shutil
+import subprocess
 
 import numpy as np
 import pytest
 from scipy import sparse
 
 import mines
-from pit_tools import closure
+from pit_tools import closure, compiled
 from pit_tools.commands import pit as pit_command
 from pit_tools.errors import UserError
 from pit_tools.instance import cents, read_instance
 from pit_tools.pits import read_pit, told
 from pit_tools.plan_file import read_plan
 
-pytestmark = pytest.mark.skipif(closure.compiler() is None, reason="no C++ compiler is here")
+pytestmark = pytest.mark.skipif(compiled.compiler() is None, reason="no C++ compiler is here")
 
 
 def random_arcs(random, blocks, share):
@@ -118,11 +121,90 @@ def test_a_pit_is_told_in_whole_cents(tmp_path):
 def test_the_program_is_made_where_the_cache_is_or_in_a_folder_of_the_run(tmp_path, monkeypatch, home):
     (tmp_path / "file").write_text("no folder")
     monkeypatch.setenv("XDG_CACHE_HOME", str(tmp_path / home))
-    closure._library.cache_clear()
+    compiled.library.cache_clear()
     arcs = sparse.csr_matrix(np.array([[0, 1], [0, 0]], np.int8))
     assert closure.ultimate_pit(np.array([3.0, -2.0]), arcs).tolist() == [True, True]
     assert bool(list(tmp_path.glob("cache/pit-tools/closure-*.so"))) == (home == "cache")
-    closure._library.cache_clear()
+    compiled.library.cache_clear()
+
+
+@pytest.fixture(scope="module")
+def made(tmp_path_factory):
+    """The program, compiled once for the tests below."""
+    path = tmp_path_factory.mktemp("made") / "closure.so"
+    assert compiled._made(str(path))
+    return path
+
+
+@pytest.fixture()
+def kept(tmp_path, monkeypatch, made):
+    """A cache that keeps a program which is none of ours, and answers 1 to each call."""
+    monkeypatch.setattr(compiled, "_made", lambda path: bool(shutil.copy(made, path)))
+    monkeypatch.setenv("XDG_CACHE_HOME", str(tmp_path / "cache"))
+    monkeypatch.setenv("TMPDIR", str(tmp_path))
+    monkeypatch.setattr("tempfile.tempdir", str(tmp_path))
+    compiled.library.cache_clear()
+    compiled.library()
+    program = next(tmp_path.glob("cache/pit-tools/closure-*.so"))
+    (tmp_path / "other.cpp").write_text('extern "C" int closure(...) { return 1; }')
+    subprocess.run([compiled.compiler(), "-shared", "-fPIC", "-o", str(program), str(tmp_path / "other.cpp")], check=True)
+    os.remove(tmp_path / "other.cpp")
+    compiled.library.cache_clear()
+    yield program
+    compiled.library.cache_clear()
+
+
+def is_ours():
+    arcs = sparse.csr_matrix(np.array([[0, 1], [0, 0]], np.int8))
+    try:
+        return closure.ultimate_pit(np.array([3.0, -2.0]), arcs).tolist() == [True, True]
+    except UserError:
+        return False
+
+
+def test_a_program_in_the_cache_is_run_where_it_is_the_users_own(kept):
+    assert not is_ours()
+
+
+@pytest.mark.parametrize("what", ["folder written by a group", "folder written by all", "file written by a group",
+                                  "link to a file", "link to a folder", "damaged", "relative name"])
+def test_a_program_that_others_may_have_put_there_is_never_run(kept, tmp_path, monkeypatch, what):
+    folder = kept.parent
+    if what.startswith("folder"):
+        os.chmod(folder, 0o770 if what.endswith("group") else 0o777)
+    elif what.startswith("file"):
+        os.chmod(kept, 0o770)
+    elif what == "link to a file":
+        kept.rename(tmp_path / "far.so")
+        kept.symlink_to(tmp_path / "far.so")
+    elif what == "link to a folder":
+        folder.rename(tmp_path / "far")
+        folder.symlink_to(tmp_path / "far")
+    elif what == "damaged":
+        kept.write_bytes(kept.read_bytes()[:100])
+    else:
+        monkeypatch.chdir(tmp_path)
+        monkeypatch.setenv("XDG_CACHE_HOME", "cache")
+        monkeypatch.setenv("HOME", str(tmp_path / "home"))
+    before = set(os.listdir(tmp_path)) | ({"home"} if what == "relative name" else set())
+    assert is_ours()
+    assert set(os.listdir(tmp_path)) == before
+
+
+@pytest.mark.skipif(os.geteuid() != 0, reason="only root can give a file to another")
+def test_a_program_of_another_user_is_never_run(kept):
+    os.chown(kept, 65534, 65534)
+    assert is_ours()
+
+
+def test_without_a_compiler_it_is_said_once(tmp_path, monkeypatch, capsys):
+    monkeypatch.setenv("XDG_CACHE_HOME", str(tmp_path))
+    monkeypatch.setattr(compiled, "compiler", lambda: None)
+    compiled.library.cache_clear()
+    assert is_ours() and not closure.is_compiled() and is_ours()
+    compiled.library.cache_clear()
+    told = capsys.readouterr().err
+    assert told.count("no C++ compiler is there") == 1 and "takes minutes" in told
 
 
 def test_without_a_compiler_highs_finds_small_pits_and_great_ones_are_told(monkeypatch):

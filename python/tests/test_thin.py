@@ -10,7 +10,7 @@ import pytest
 from scipy import sparse
 
 import mines
-from pit_tools import closure
+from pit_tools import closure, compiled
 from pit_tools.cli import main
 from pit_tools.instance import read_instance, read_precedence, write_precedence
 
@@ -51,7 +51,7 @@ def test_an_instance_is_read_with_a_thin_file_and_needs_no_other(tmp_path, capsy
     assert f" arcs {mine.precedence.nnz} " in mine.counts() and mine.precedence.nnz < whole.precedence.nnz
 
 
-@pytest.mark.skipif(closure.compiler() is None, reason="no C++ compiler is here")
+@pytest.mark.skipif(compiled.compiler() is None, reason="no C++ compiler is here")
 @pytest.mark.parametrize("K", [2, 3, 5])
 def test_a_thin_file_changes_no_pit_and_no_bound(tmp_path, capsys, K):
     base, thin = with_thin(tmp_path, K=K)

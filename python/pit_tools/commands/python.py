@@ -8,7 +8,8 @@ Runs a script of your own by the interpreter that has the packages, with `pit_to
 
     pit-tools python mine.py deposit
 
-Which interpreter that is `pit-tools --version` tells.
+Which interpreter that is `pit-tools --version` tells. As by Python itself the script's folder, and
+what PYTHONPATH names, have the modules that it imports; other commands look in neither.
 """
 
 
@@ -18,9 +19,12 @@ def add_arguments(parser: argparse.ArgumentParser) -> None:
 
 
 def run(args: argparse.Namespace) -> int:
+    import os
     import runpy
     import sys
 
+    named = [folder for folder in os.environ.get("PYTHONPATH", "").split(os.pathsep) if folder]
+    sys.path[:0] = [os.path.dirname(os.path.realpath(args.script)), *named]
     sys.argv = [args.script, *args.words]
     runpy.run_path(args.script, run_name="__main__")
     return 0
