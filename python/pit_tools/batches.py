@@ -1,176 +1,198 @@
 """Batches: many instances by `pitc`, with a manifest of all that went in, and a table of what came out."""
 from __future__ import annotations
 
+import csv
 import hashlib
+import io
 import os
-import shlex
-import shutil
-import subprocess
-import sys
-from dataclasses import dataclass
-from importlib import metadata
-from typing import Optional, Sequence
+from contextlib import ExitStack
+from typing import Iterable, Sequence
 
-import numpy as np
-
-from pit_tools import VERSION
-from pit_tools.bounds import bounds_of
-from pit_tools.compiled import SOURCE
+from pit_tools import outputs
+from pit_tools.batch_build import Way, build_told
+from pit_tools.batch_engines import Engine, in_turn
+from pit_tools.batch_list import TABLES, BatchList, Entry, Part, read_list
+from pit_tools.batch_lock import locked
+from pit_tools.batch_making import COLUMNS, Failed, Made, clear_unfinished, texts_of
+from pit_tools.batch_records import Record, Recorded, Sums, record_path, recorded_in
 from pit_tools.errors import UserError
-from pit_tools.instance import TEXTS, Instance, read_instance
+from pit_tools.instance import TEXTS
+from pit_tools.sums import sum_line
 
-#: The columns of SIZES, in order.
-COLUMNS = ("name", "blocks", "arcs", "coefficients", "limits", "cpit", "positive", "bytes", "periods", "destinations",
-           "resources", "rate", "tonnes", "pit_blocks", "pit_tonnes", "pit_value", "cpit_bound", "pcpsp_bound")
-
-
-@dataclass(frozen=True)
-class Entry:
-    """A line of a list: a plan NAME.plan and its zone files."""
-
-    plan: str
-    zones: tuple[str, ...]
-
-    @property
-    def name(self) -> str:
-        return self.plan[:-len(".plan")]
-
-    @property
-    def inputs(self) -> list[str]:
-        return [self.plan, *self.zones]
-
-
-def read_list(path: str) -> list[Entry]:
-    """The lines of a list, also the last one where it has no line end; words may be quoted.
-
-    Raises UserError where a plan comes twice, ends with something else than .plan, has no zone file, or a
-    file is not there: nothing is run before.
-    """
-    entries: list[Entry] = []
-    with open(path, encoding="utf-8") as file:
-        for number, line in enumerate(file, 1):
-            words = shlex.split(line, comments=True)
-            if not words:
-                continue
-            entry = Entry(words[0], tuple(words[1:]))
-            place = f"{path}: line {number}"
-            if not entry.plan.endswith(".plan") or not entry.zones:
-                raise UserError(f"{place}: a line is a plan NAME.plan and its zone files")
-            if entry.name in [other.name for other in entries]:
-                raise UserError(f"{place}: `{entry.name}` comes twice, and its instance would overwrite itself")
-            lacking = [name for name in entry.inputs if not os.path.isfile(name)]
-            if lacking:
-                raise UserError(f"{place}: {lacking[0]} is not there")
-            entries.append(entry)
-    if not entries:
-        raise UserError(f"{path}: it has no line")
-    written = {f"{entry.name}.{text}": entry.name for entry in entries for text in TEXTS}
-    for entry in entries:
-        for name in entry.inputs:
-            if name in written:
-                raise UserError(f"{name} would be overwritten by the instance `{written[name]}`")
-    return entries
-
-
-def sum_of(path: str) -> str:
-    """The SHA-256 sum of a file."""
-    found = hashlib.sha256()
-    with open(path, "rb") as file:
-        while piece := file.read(1 << 20):
-            found.update(piece)
-    return found.hexdigest()
-
-
-def build_told(program: str, options: Sequence[str]) -> str:
-    """The version and the sum of pitc, its options, and what made the table: the tool and its packages."""
-    version = subprocess.run([program, "--version"], capture_output=True, text=True)
-    if version.returncode:
-        raise UserError(f"{program} --version ends with {version.returncode}")
-    packages = " ".join(f"{name} {metadata.version(name)}" for name in ("numpy", "scipy", "pandas"))
-    tool = hashlib.sha256()
-    folder = os.path.dirname(__file__)
-    for name in sorted(name for name in os.listdir(folder) if name.endswith((".py", ".cpp"))):
-        tool.update(sum_of(os.path.join(folder, name)).encode())
-    return (f"{version.stdout.strip()}\n{sum_of(program)}  pitc\noptions: {' '.join(options) or 'none'}\n"
-            f"pit-tools {VERSION}\n{tool.hexdigest()}  modules of pit-tools\n{sum_of(SOURCE)}  {os.path.basename(SOURCE)}\n"
-            f"Python {'.'.join(map(str, sys.version_info[:3]))}, {packages}\n")
-
-
-def row_of(name: str, mine: Instance, seconds: Optional[float]) -> list[str]:
-    """The row of SIZES of an instance; the relaxations are left out where there are no seconds for them."""
-    from pit_tools.closure import ultimate_pit
-    from pit_tools.pits import told
-
-    in_pit = ultimate_pit(mine.upit.values, mine.precedence)
-    blocks, pit_tonnes, value = (part.split()[-1 if at == 2 else 0] for at, part in enumerate(told(in_pit, mine.blocks, mine.upit.values).split(", ")))
-    bounds = bounds_of(mine, seconds) if seconds else {}
-    relaxed = [bounds.get(f"{kind}, relaxed") for kind in ("CPIT", "PCPSP")]
-    kilograms = int(np.rint(mine.blocks.tonnes * 1000).astype(np.int64).sum())
-    size = sum(os.path.getsize(f"{name}.{text}") for text in TEXTS)
-    cells = [name, len(mine.blocks), mine.precedence.nnz, len(mine.pcpsp.uses), len(mine.pcpsp.limits), len(mine.cpit.uses),
-             int((mine.upit.values > 0).sum()), size, mine.pcpsp.periods, mine.pcpsp.destinations, mine.pcpsp.resources,
-             f"{mine.pcpsp.rate:g}", f"{kilograms // 1000}.{kilograms % 1000:03d}", blocks, pit_tonnes, value,
-             *("-" if one is None else f"{one:.2f}" for one in relaxed)]
-    return list(map(str, cells))
+#: The kinds of files that the tables are.
+KINDS = {"MANIFEST": "sums", "SIZES": "table of a batch", "BUILD": "build of a batch"}
 
 
 class Batch:
-    """The run of a list in the current folder. `failed` has a line for each step that failed."""
+    """A list whose instances are made in the current folder, or a part of it.
 
-    def __init__(self, path: str, program: Optional[str] = None, options: Sequence[str] = (), seconds: Optional[float] = None):
-        found = shutil.which(program or "pitc")
-        if found is None:
-            raise UserError(f"no program `{program or 'pitc'}` is in the PATH: give --pitc")
-        self.path, self.program, self.options, self.seconds = path, found, list(options), seconds
-        self.entries = read_list(path)
+    `failed` has a line for each step that failed, `kept` those instances that were whole, `made` all that are."""
+
+    def __init__(self, path: str, way: Way, part: Part = Part()):
+        self.way, self.part = way, part
+        self.list = read_list(path, texts_of(way), [record_path("", part)])
+        self.entries = self.list.entries_of(part)
+        self.made: dict[Entry, Made] = {}
+        self.kept: set[Entry] = set()
         self.failed: list[str] = []
-        self.rows: list[list[str]] = []
 
-    def run(self) -> bool:
-        """Compiles, checks and measures each; writes BUILD and SIZES, and MANIFEST where nothing failed."""
-        for name in ("MANIFEST", "SIZES", "BUILD"):
-            if os.path.exists(name):
-                os.remove(name)
-        with open("BUILD", "w", encoding="utf-8") as file:
-            file.write(build_told(self.program, self.options))
-        for entry in self.entries:
-            self._one(entry)
-        with open("SIZES", "w", encoding="utf-8") as file:
-            file.writelines(" ".join(row) + "\n" for row in [list(COLUMNS), *self.rows])
-        if not self.failed:
-            self._write_manifest()
+    def run(self, engine: Engine = in_turn, goes_on: bool = False) -> bool:
+        """Makes each instance, or where it goes on those that are not whole; then BUILD, SIZES, and MANIFEST where nothing
+        failed. A part makes none of these. Nothing is taken away before it is known that pitc works."""
+        with locked(self.way.folder, self.part):
+            build = build_told(self.way)
+            if goes_on:
+                self._keep(build)
+            _judge_old(self.way.folder, [entry for entry in self.entries if entry not in self.made], texts_of(self.way))
+            with Record(self.way.folder, self.part, build, goes_on) as record:
+                _remove(TABLES)
+                clear_unfinished(self.entries, self.way.folder)
+                self._make(engine, build, record)
+            if self.part.is_whole:
+                if build_told(self.way) != build:
+                    self.failed.append("the programs or the tool were changed while the batch ran")
+                self.failed += finish(self.list, build, self.made, not self.failed)
         return not self.failed
 
-    def _one(self, entry: Entry) -> None:
-        for text in TEXTS:
-            if os.path.exists(f"{entry.name}.{text}"):
-                os.remove(f"{entry.name}.{text}")
-        words = [self.program, "compile", "--plan", entry.plan, "--out", entry.name, *self.options, *entry.zones]
-        if self._ran(entry, words) is None:
-            return
-        counts = self._ran(entry, [self.program, "check", entry.name])
-        if counts is None:
-            return
-        try:
-            mine = read_instance(entry.name)
-            if mine.counts() != counts.strip():
-                raise UserError(f"pitc counts `{counts.strip()}`, and this tool `{mine.counts()}`")
-            self.rows.append(row_of(entry.name, mine, self.seconds))
-        except (UserError, OSError) as error:
-            self.failed.append(f"{entry.plan}: {error}")
+    def _keep(self, build: str) -> None:
+        """Takes over what records say, and sums say too, of this BUILD."""
+        sums = Sums(self.way.folder)
+        for one in recorded_in(self.way.folder):
+            texts = [f"{one.made.entry.name}.{text}" for text in texts_of(self.way)]
+            if one.build == build and sums.other([*one.made.entry.inputs, *texts], one.made.sums) is None:
+                self.made[one.made.entry] = one.made
+        self.made = {entry: self.made[entry] for entry in self.entries if entry in self.made}
+        self.kept = set(self.made)
 
-    def _ran(self, entry: Entry, words: Sequence[str]) -> Optional[str]:
-        """What a step printed, or None where it failed."""
-        done = subprocess.run(words, capture_output=True, text=True)
-        if done.returncode:
-            told = (done.stderr.strip() or f"status {done.returncode}").splitlines()[-1]
-            self.failed.append(f"{entry.plan}: {os.path.basename(words[0])} {words[1]}: {told}")
-            return None
-        return done.stdout
+    def _make(self, engine: Engine, build: str, record: Record) -> None:
+        for found in engine([entry for entry in self.entries if entry not in self.made], self.way, build):
+            if isinstance(found, Failed):
+                self.failed.append(f"{found.entry.plan}: {found.told}")
+            else:
+                record.add(found)
+                self.made[found.entry] = found
 
-    def _write_manifest(self) -> None:
-        names = ["BUILD", "SIZES", self.path]
-        for entry in self.entries:
-            names += [*entry.inputs, *(f"{entry.name}.{text}" for text in TEXTS)]
-        with open("MANIFEST", "w", encoding="utf-8") as file:
-            file.writelines(f"{sum_of(name)}  {name}\n" for name in dict.fromkeys(names))
+
+def _kind(name: str) -> str:
+    """The kind of a file that a batch writes."""
+    return KINDS.get(name) or outputs.ENDINGS[os.path.splitext(name)[1]]
+
+
+def _judge_old(folder: str, entries: Iterable[Entry], texts: Sequence[str]) -> None:
+    """Refuses a batch that would replace files of another kind."""
+    for name in (*TABLES, *(f"{entry.name}.{text}" for entry in entries for text in texts)):
+        outputs.judged_old(os.path.join(folder, name), _kind(name))
+
+
+def _remove(names: Iterable[str]) -> None:
+    for name in names:
+        if os.path.lexists(name):
+            os.remove(name)
+
+
+def finish(listed: BatchList, build: str, made: dict[Entry, Made], is_right: bool) -> list[str]:
+    """Writes BUILD and SIZES of what is whole, and MANIFEST where all of the list is, and no input is another than when
+    its instances were made. Answers what is not so."""
+    rows = [made[entry].row for entry in listed.entries if entry in made]
+    text = io.StringIO()
+    csv.writer(text, delimiter=" ", lineterminator="\n").writerows([COLUMNS, *rows])
+    tables = {"BUILD": build, "SIZES": text.getvalue()}
+    with outputs.together():
+        for name, content in tables.items():
+            with outputs.opened(name, KINDS[name], "utf-8") as file:
+                file.write(content)
+    if not is_right or len(rows) < len(listed.entries):
+        return []
+    wanted = {name: hashlib.sha256(content.encode()).hexdigest() for name, content in tables.items()} | {listed.path: listed.sum}
+    changed = _changed(listed, made)
+    if changed:
+        return [f"{name} was changed while the batch ran" for name in changed]
+    for entry in listed.entries:
+        wanted |= made[entry].sums
+    with outputs.opened("MANIFEST", KINDS["MANIFEST"], "utf-8") as file:
+        file.writelines(sum_line(found, name) for name, found in wanted.items())
+    return []
+
+
+def _changed(listed: BatchList, made: dict[Entry, Made]) -> list[str]:
+    """Inputs that are no longer, or were not for all instances, what they were when an instance was made."""
+    sums = Sums("")
+    changed = [] if sums.of(listed.path) == listed.sum else [listed.path]
+    for entry in listed.entries:
+        changed += [name for name in entry.inputs if sums.of(name) != made[entry].sums[name]]
+    return list(dict.fromkeys(changed))
+
+
+class Joining:
+    """Parts of a list that were made in other folders, or in this one, joined to one batch in the current folder."""
+
+    def __init__(self, path: str, folders: Sequence[str]):
+        self.list = read_list(path, (*TEXTS, "thin"), [record_path("")])
+        self.folders = list(dict.fromkeys(map(os.path.normpath, folders)))
+        self.made: dict[Entry, Made] = {}
+        self.failed: list[str] = []
+
+    def run(self) -> bool:
+        """Takes over each instance of which a record of a folder says, and its sums say too, that it is whole; then BUILD,
+        SIZES and MANIFEST as those of one batch. Nothing is taken away before all are found."""
+        with ExitStack() as held:
+            real = dict.fromkeys(map(os.path.realpath, [".", *self.folders]))
+            for folder in real:
+                held.enter_context(locked(folder))
+            found = [(folder, one) for folder in self.folders for one in recorded_in(folder)]
+            build = _common_build(self.folders, [one for _, one in found])
+            whole = self._whole(found)
+            if self.failed:
+                return False
+            _judge_old("", [made.entry for folder, made in whole if not os.path.samefile(folder, ".")], (*TEXTS, "thin"))
+            _remove(TABLES)
+            for folder, made in whole:
+                _copied(folder, made)
+                self.made[made.entry] = made
+            with Record("", Part(), build, False) as record:
+                for made in self.made.values():
+                    record.add(made)
+            self.failed += finish(self.list, build, self.made, True)
+        return not self.failed
+
+    def _whole(self, found: Sequence[tuple[str, Recorded]]) -> list[tuple[str, Made]]:
+        """The folder and the record of each instance of the list; `failed` says of which there is none."""
+        here, sums = Sums(""), {folder: Sums(folder) for folder in self.folders}
+        by_entry: dict[Entry, list[tuple[str, Recorded]]] = {}
+        for folder, one in found:
+            by_entry.setdefault(one.made.entry, []).append((folder, one))
+        whole = []
+        for entry in self.list.entries:
+            told = "no part has it"
+            for folder, one in by_entry.get(entry, []):
+                texts = [name for name in one.made.sums if name not in entry.inputs]
+                other = here.other(entry.inputs, one.made.sums)
+                told = f"{other} is not the one that {one.path} names" if other else ""
+                if not told and (other := sums[folder].other(texts, one.made.sums)):
+                    told = f"{os.path.join(folder, other)} is not the one that {one.path} names"
+                if not told:
+                    whole.append((folder, one.made))
+                    break
+            if told:
+                self.failed.append(f"{entry.plan}: {told}")
+        return whole
+
+
+def _common_build(folders: Sequence[str], found: Sequence[Recorded]) -> str:
+    """The text of BUILD that all records have. Raises UserError where there is none, or they differ."""
+    by_build = {one.build: one.path for one in found}
+    if not by_build:
+        raise UserError(f"no record of a batch is in {', '.join(folders)}")
+    if len(by_build) > 1:
+        raise UserError(f"parts were made by different builds: see the first lines of {' and '.join(list(by_build.values())[:2])}")
+    return next(iter(by_build))
+
+
+def _copied(folder: str, made: Made) -> None:
+    """Brings the texts of an instance from a folder, where that is another one."""
+    if os.path.samefile(folder, "."):
+        return
+    with outputs.together():
+        for name in made.sums:
+            if name not in made.entry.inputs:
+                outputs.copied(os.path.join(folder, name), name, _kind(name))

@@ -49,14 +49,17 @@ KINDS = {
     "PNG picture": rb"\x89PNG",
     "SVG picture": rb"<\?xml",
     "PDF picture": rb"%PDF",
-    "table of the library": rb"name seed shape ",
-    "sums": rb"[0-9a-f]{64}  ",
     "compiled program": rb"\x7fELF|\xcf\xfa\xed\xfe",
+    "table of the library": rb"name( seed shape |,kind,date,)",
+    "sums": rb"\\?[0-9a-f]{64}  ",
+    "table of a batch": rb"name blocks ",
+    "record of a batch": rb'\{"build": "',
+    "build of a batch": rb"[^\n]*\n[0-9a-f]{64}  pitc\n",
 }
 
 #: Names that are of one kind, so that no file of another kind takes their place.
 ENDINGS = {".plan": "plan", ".blocks": "blocks", ".prec": "prec", ".upit": "model", ".cpit": "model",
-           ".pcpsp": "model"}
+           ".pcpsp": "model", ".thin": "prec"}
 
 #: How much of an old file is looked at: more than the longest header.
 FRONT = 1 << 20
@@ -118,6 +121,19 @@ def of_command(force: bool = False) -> Iterator[None]:
         yield
     finally:
         _command = None
+
+
+@contextmanager
+def looking() -> Iterator[None]:
+    """What is opened within, to see what it is, may be replaced all the same."""
+    command, before = _command, _command is not None and _command.is_looking
+    if command is not None:
+        command.is_looking = True
+    try:
+        yield
+    finally:
+        if command is not None:
+            command.is_looking = before
 
 
 def reads(*paths: str) -> None:
@@ -239,12 +255,8 @@ class _Group:
             raise PermissionError(errno.EACCES, os.strerror(errno.EACCES), place)
         if _command is None or _command.force:
             return
-        _command.is_looking = True
-        try:
-            with open(target, "rb") as file:
-                front = file.read(FRONT)
-        finally:
-            _command.is_looking = False
+        with looking(), open(target, "rb") as file:
+            front = file.read(FRONT)
         of_name = ENDINGS.get(os.path.splitext(target)[1].lower(), kind)
         if front and (of_name != kind or not re.match(KINDS[kind], front, re.DOTALL)):
             raise UserError(f"{place}: the file there is of another kind than `{kind}`: --force replaces it")
@@ -494,6 +506,13 @@ def judged(*places: Optional[str]) -> None:
     """Refuses early what would be written over a file that is read, before a long computation."""
     for place in filter(None, places):
         _Group().refuse_read(place, _identity(os.path.realpath(place)))
+
+
+def judged_old(place: str, kind: str) -> None:
+    """Refuses early what would be written in place of a file of another kind."""
+    target = os.path.realpath(place)
+    if os.path.exists(target):
+        _Group()._judge_old(place, target, kind)
 
 
 def folder(path: str) -> None:

@@ -1,35 +1,52 @@
-"""Variations of a plan and batches, by a program that stands for pitc: tools/plain.py."""
+"""Batches, by a program that stands for pitc: tools/plain.py."""
+import csv
+import fcntl
 import os
+import random
+import resource
+import shutil
+import signal
 import subprocess
 import sys
+import time
 
 import pytest
 
 import mines
-from pit_tools.batches import Batch, read_list
+from pit_tools import batch_build
+from pit_tools.batch_build import Way, sum_of_modules
+from pit_tools.batch_engines import by_processes, in_turn
+from pit_tools.batch_list import Part, read_list
+from pit_tools.batch_lock import LOCK
+from pit_tools.batches import Batch
 from pit_tools.cli import main
-from pit_tools.deposits import Deposit
 from pit_tools.errors import UserError
-from pit_tools.plan_file import plan_of
-from pit_tools.variations import Change, varied, variations
-
-PLAN = Deposit().plan()
 
 PITC = """#!{python}
-import sys
+import os, sys
 sys.path.insert(0, "{top}/tools")
 words = sys.argv[1:]
+is_thin = os.path.basename(sys.argv[0]) == "pitc_thin"
 if words == ["--version"]:
     print("pitc 9.9.9")
-elif words[0] == "compile":
+elif words[0] == "compile" or is_thin:
     import plain, shared
-    files = dict(zip(words[1::2], words[2::2]))
-    plan, base, zones = words[2], words[4], [word for word in words[5:] if word.endswith(".csv")]
+    plan, base, zones = *words[1 - is_thin:5 - is_thin][1::2], [word for word in words if word.endswith(".csv")]
     text = shared.read(plan)
     if "refused" in text:
         sys.exit("pitc: plan row 1: Name")
-    shared.write_texts(base, plain.compiled(text, list(map(shared.read, zones))))
-    print("rows 6")
+    texts = plain.compiled(text, list(map(shared.read, zones)))
+    if is_thin:
+        shared.write(base, texts["prec"] if isinstance(texts, dict) else texts[1])
+        print("rows 6 arcs 7 of 7")
+    else:
+        with open("calls", "a") as file:
+            file.write(os.path.basename(base) + "\\n")
+        if os.path.exists("changing"):
+            with open(zones[0], "a") as file:
+                file.write("30,0,10,2650,0\\n")
+        shared.write_texts(base, texts)
+        print("rows 6")
 else:
     parts = {{}}
     for ending in ("blocks", "prec", "pcpsp", "cpit"):
@@ -42,25 +59,65 @@ else:
     print(f"blocks {{len(parts['blocks'])}} arcs {{arcs}} coefficients {{counts[0]}} limits {{counts[1]}} cpit {{counts[2]}}")
 """
 
+ONE, TWO = "one.plan 'six blocks.csv'\n", "two.plan 'six blocks.csv'\n"
+
+TEXTS = ("blocks", "prec", "upit", "pcpsp", "cpit")
+
+
+def plan_named(name):
+    return "\n".join(mines.SIX).replace("name,pit", f"name,{name}") + "\n"
+
+
+def program(folder, name="pitc"):
+    path = folder / name
+    path.write_text(PITC.format(python=sys.executable, top=mines.TOP))
+    path.chmod(0o755)
+
 
 @pytest.fixture()
 def here(tmp_path, monkeypatch):
     """A folder with a program pitc, the six blocks and two plans."""
     monkeypatch.chdir(tmp_path)
-    program = tmp_path / "pitc"
-    program.write_text(PITC.format(python=sys.executable, top=mines.TOP))
-    program.chmod(0o755)
+    program(tmp_path)
     (tmp_path / "six blocks.csv").write_text(mines.SIX_ROWS)
     for name in ("one", "two"):
-        (tmp_path / f"{name}.plan").write_text("\n".join(mines.SIX).replace("name,pit", f"name,{name}") + "\n")
+        (tmp_path / f"{name}.plan").write_text(plan_named(name))
     return tmp_path
 
 
-def run_batch(text, **how):
+def way(**how):
+    batch_build.build_told_once.cache_clear()
+    return Way(os.getcwd(), os.path.abspath("pitc"), **how)
+
+
+def run_batch(text=ONE + TWO, engine=in_turn, goes_on=False, part=Part(), **how):
     with open("LIST", "w") as file:
         file.write(text)
-    batch = Batch("LIST", "./pitc", **how)
-    return batch, batch.run()
+    batch = Batch("LIST", way(**how), part)
+    return batch, batch.run(engine, goes_on)
+
+
+def read(name="MANIFEST"):
+    with open(name) as file:
+        return file.read()
+
+
+def calls():
+    """The instances that were compiled since they were asked for last."""
+    found = read("calls").split() if os.path.exists("calls") else []
+    open("calls", "w").close()
+    return found
+
+
+def is_accepted():
+    return subprocess.run(["sha256sum", "-c", "--quiet", "MANIFEST"]).returncode == 0
+
+
+def left_of(folder="."):
+    return [name for name in os.listdir(folder) if "making" in name or "unfinished" in name]
+
+
+# What a batch makes
 
 
 def test_a_list_without_a_last_line_end_loses_nothing(here):
@@ -72,107 +129,366 @@ def test_a_list_without_a_last_line_end_loses_nothing(here):
     assert told | {"bytes": "", "rate": "", "cpit_bound": "", "pcpsp_bound": ""} == {
         "name": "two", "blocks": "6", "arcs": "7", "coefficients": "24", "limits": "4", "cpit": "10", "positive": "4", "bytes": "",
         "periods": "3", "destinations": "3", "resources": "2", "rate": "", "tonnes": "16050.000", "pit_blocks": "6", "pit_tonnes": "16050.000",
-        "pit_value": "606965.00", "cpit_bound": "", "pcpsp_bound": ""}
-    assert told["cpit_bound"] == told["pcpsp_bound"] == "606965.00"
-    assert subprocess.run(["sha256sum", "-c", "--quiet", "MANIFEST"]).returncode == 0
+        "pit_value": "606965.00", "cpit_bound": "", "pcpsp_bound": "", "thin_arcs": "-"}
+    assert told["cpit_bound"] == told["pcpsp_bound"] == "606965.00" and told["rate"] == "0.08"
+    assert int(told["bytes"]) == sum(os.path.getsize(f"two.{text}") for text in TEXTS)
+    assert is_accepted() and left_of() == []
     names = [line.rstrip("\n").split("  ", 1)[1] for line in open("MANIFEST")]
-    assert sorted(names) == sorted(["BUILD", "SIZES", "LIST", "six blocks.csv", *(f"{name}.{text}" for name in ("one", "two")
-                                                                                  for text in ("plan", "blocks", "prec", "upit", "pcpsp", "cpit"))])
-    build = open("BUILD").read()
+    assert sorted(names) == sorted(["BUILD", "SIZES", "LIST", "six blocks.csv",
+                                    *(f"{name}.{text}" for name in ("one", "two") for text in ("plan", *TEXTS))])
+    build = read("BUILD")
     assert build.startswith("pitc 9.9.9\n") and "modules of pit-tools" in build and "closure.cpp" in build and "numpy" in build
-
-
-def test_a_batch_made_again_is_the_same(here):
-    run_batch("one.plan 'six blocks.csv'\n")
-    first = open("MANIFEST").read()
-    run_batch("one.plan 'six blocks.csv'\n")
-    assert open("MANIFEST").read() == first
-
-
-def test_a_plan_that_is_refused_leaves_no_manifest_and_no_old_files(here):
-    run_batch("one.plan 'six blocks.csv'\ntwo.plan 'six blocks.csv'\n")
-    with open("two.plan", "w") as file:
-        file.write("refused\n")
-    batch, whole = run_batch("one.plan 'six blocks.csv'\ntwo.plan 'six blocks.csv'\n")
-    assert not whole and batch.failed == ["two.plan: pitc compile: pitc: plan row 1: Name"]
-    assert not os.path.exists("MANIFEST") and not os.path.exists("two.blocks") and os.path.exists("one.blocks")
-    assert len(open("SIZES").readlines()) == 2
-
-
-@pytest.mark.parametrize("text, told", [
-    ("one.plan 'six blocks.csv'\none.plan 'six blocks.csv'\n", "line 2: `one` comes twice"),
-    ("one.plan gone.csv\n", "line 1: gone.csv is not there"),
-    ("one.plan\n", "line 1: a line is a plan NAME.plan and its zone files"),
-    ("one.txt 'six blocks.csv'\n", "line 1: a line is a plan"),
-    ("\n", "it has no line"),
-    ("one.plan one.blocks\n", "one.blocks would be overwritten"),
-])
-def test_a_list_that_would_lose_something_is_refused_before_anything_runs(here, text, told):
-    (here / "one.blocks").write_text(mines.SIX_ROWS)
-    (here / "LIST").write_text(text)
-    with pytest.raises(UserError, match=told):
-        read_list("LIST")
-    assert main(["batch", "LIST", "--pitc", "./pitc"]) == 2 and not os.path.exists("BUILD")
-
-
-def test_no_program_is_told(here, capsys):
-    (here / "LIST").write_text("one.plan 'six blocks.csv'\n")
-    assert main(["batch", "LIST", "--pitc", "./gone"]) == 2 and "no program `./gone`" in capsys.readouterr().err
-
-
-def test_all_combinations_of_cells(tmp_path, capsys):
-    (tmp_path / "deposit.plan").write_text(PLAN)
-    words = ["vary", str(tmp_path / "deposit.plan"), "--set", "K=2,4", "--set", "price=5000000,5800000", "--folder", str(tmp_path),
-             "--zones", "a.csv", "b.csv", "--list", str(tmp_path / "LIST")]
-    assert main(words) == 0 and capsys.readouterr().out == "4 plans\n"
-    lines = (tmp_path / "LIST").read_text().splitlines()
-    assert lines[2] == "deposit-K4-price5000000.plan a.csv b.csv" and len(lines) == 4
-    plan = plan_of((tmp_path / "deposit-K4-price5000000.plan").read_text())
-    assert [zone.benches for zone in plan.zones] == [4, 4, 4] and {one.price for one in plan.destinations if one.bands} == {5000000}
-    assert plan.name == "deposit-K4-price5000000" and plan.limits == plan_of(PLAN).limits
-
-
-@pytest.mark.parametrize("cell, value, old, new", [
-    ("rate", "0.1", "rate,0.08", "rate,0.1"),
-    ("slope", "2,1", "zone,3,2,1,1,5,4,5,4,3", "zone,2,1,3"),
-    ("zone.1.K", "7", "zone,3,2,1,1,5,4,5,4,3", "zone,3,2,1,1,5,4,5,4,7"),
-    ("mill.mill.recovery", "900", "mill,mill,920,", "mill,mill,900,"),
-    ("mill.mill.cost", "x1.1", "5800000,1650", "5800000,1815"),
-    ("dump.dump.cost", "200", "dump,dump,180", "dump,dump,200"),
-    ("limit.crusher.2", "5", "limit,crusher,2,L,2500000", "limit,crusher,2,L,5"),
-    ("limit.fleet.3", "x2", "limit,fleet,3,I,1000000,7500000", "limit,fleet,3,I,1000000,15000000"),
-    ("leach.heap.cost", "600", "5800000,620", "5800000,600"),
-])
-def test_a_cell_is_changed_and_no_other(cell, value, old, new):
-    wanted = PLAN.replace("name,deposit", "name,other").replace(old, new)
-    if cell == "slope":
-        wanted = wanted.replace("zone,1,1,2", "zone,2,1,2").replace("zone,3,2,3", "zone,2,1,3")
-    assert varied(PLAN, "other", [(cell, value)]) == wanted and wanted != PLAN
-
-
-@pytest.mark.parametrize("sets, told", [(["cost=3"], "no record of the plan has the cell `cost`"), (["mill.heap.cost=3"], "no record"), (["K"], "no CELL=VALUE"),
-                                        (["K=2,2"], "comes twice"), (["rate=" + "0" * 70], "longer than 64")])
-def test_what_is_no_cell_is_told(sets, told):
-    with pytest.raises(UserError, match=told):
-        list(variations(PLAN, "deposit", [Change.of(text) for text in sets]))
-
-
-def test_sections_of_the_pipe_form_become_files(tmp_path):
-    base = mines.six_blocks(tmp_path)
-    endings = ("blocks", "prec", "upit", "pcpsp", "cpit")
-    text = "".join(f"== {ending}\n" + open(f"{base}.{ending}").read() for ending in endings)
-    words = [sys.executable, "-m", "pit_tools", "texts", str(tmp_path / "again")]
-    run = dict(env={**os.environ, "PYTHONPATH": os.path.join(mines.TOP, "python")}, capture_output=True, text=True)
-    assert subprocess.run(words, input=text, **run).returncode == 0
-    for ending in endings:
-        assert open(f"{base}.{ending}").read() == (tmp_path / f"again.{ending}").read_text()
-    for wrong, told in (("", "has the sections none"), ("pitc: plan row 1: Key\n", "does not begin with a section"), (text + "== blocks\n", "stands twice")):
-        done = subprocess.run(words, input=wrong, **run)
-        assert done.returncode == 2 and told in done.stderr and done.stderr.count("\n") == 1
+    assert "relaxations: 20 s each\n" in build
 
 
 def test_options_go_to_each_run(here):
     with open("LIST", "w") as file:
-        file.write("one.plan 'six blocks.csv'\n")
+        file.write(ONE)
     assert main(["batch", "LIST", "--pitc", "./pitc", "--options", "--valuers 1"]) == 0
-    assert "options: --valuers 1\n" in open("BUILD").read()
+    assert "options: --valuers 1\n" in read("BUILD")
+
+
+def test_thin_files_stand_beside_whole_ones_and_the_pit_is_found_by_them(here):
+    program(here, "pitc_thin")
+    _, whole = run_batch(thin=os.path.abspath("pitc_thin"))
+    assert whole and is_accepted() and "  one.thin\n" in read() and "  pitc_thin\n" in read("BUILD")
+    thin = [line.split() for line in open("SIZES")]
+    assert thin[1][-1] == "7" and thin[1][15] == "606965.00" and read("one.thin") == read("one.prec")
+    (here / "pitc_thin").write_text((here / "pitc_thin").read_text().replace("of 7", "of 8"))
+    batch, whole = run_batch(thin=os.path.abspath("pitc_thin"))
+    assert not whole and "arcs 7 of 8" in batch.failed[0] and not os.path.exists("MANIFEST")
+
+
+def test_a_name_with_a_space_or_a_backslash_is_one_name(here):
+    for name in ("o ne", "o\\ne"):
+        shutil.copy("one.plan", f"{name}.plan")
+    _, whole = run_batch("'o ne.plan' 'six blocks.csv'\n'o\\ne.plan' 'six blocks.csv'\n")
+    assert whole and is_accepted() and read().count("\n") == 16
+    with open("SIZES", newline="") as file:
+        assert [row[0] for row in csv.reader(file, delimiter=" ")] == ["name", "o ne", "o\\ne"]
+
+
+def test_one_sum_of_modules_has_all_of_them(tmp_path):
+    folder = os.path.dirname(batch_build.__file__)
+    shutil.copytree(folder, tmp_path / "copy", ignore=shutil.ignore_patterns("__pycache__"))
+    assert sum_of_modules(str(tmp_path / "copy")) == sum_of_modules()
+    for name in ("batches.py", "commands/batch.py", "closure.cpp"):
+        text = (tmp_path / "copy" / name).read_text()
+        (tmp_path / "copy" / name).write_text(text + "\n")
+        assert sum_of_modules(str(tmp_path / "copy")) != sum_of_modules()
+        (tmp_path / "copy" / name).write_text(text)
+
+
+# What it refuses
+
+
+@pytest.mark.parametrize("text, told", [
+    (ONE + ONE, "line 2: `one` comes twice, also in line 1"),
+    (ONE + "./one.plan 'six blocks.csv'\n", "line 2: `one` comes twice"),
+    (ONE + "link/one.plan 'six blocks.csv'\n", "line 2: `link/one` comes twice"),
+    ("one.plan gone.csv\n", "line 1: gone.csv is not there"),
+    ("one.plan .\n", "line 1: . is not there, or is no file"),
+    ("one.plan\n", "line 1: a line is a plan NAME.plan and its zone files"),
+    ("one.txt 'six blocks.csv'\n", "line 1: a line is a plan"),
+    (ONE + "two.plan 'six blocks.csv\n", "line 2: no closing quotation"),
+    (ONE + "two.plan \udcff.csv\n", "line 2: it is not UTF-8"),
+    (ONE + "two.plan 'a\0b.csv'\n", "line 2: a name has a letter that does not print"),
+    ("\n", "it has no line"),
+    ("one.plan one.blocks\n", "one.blocks would be overwritten by the instance `one`"),
+    ("one.plan linked.csv\n", "linked.csv, which is one.blocks, would be overwritten"),
+    ("one.plan other.csv\n", "other.csv, which is one.blocks, would be overwritten"),
+    ("one.plan SIZES\n", "SIZES would be overwritten by the batch"),
+    ("one.plan RECORD\n", "RECORD would be overwritten by the batch"),
+])
+def test_a_list_that_would_lose_something_is_refused_before_anything_runs(here, text, told):
+    for name in ("one.blocks", "SIZES", "RECORD"):
+        (here / name).write_text(mines.SIX_ROWS)
+    os.symlink("one.blocks", "linked.csv")
+    os.link("one.blocks", "other.csv")
+    os.symlink(".", "link")
+    (here / "LIST").write_bytes(text.encode(errors="surrogateescape"))
+    with pytest.raises(UserError, match=told.replace("(", r"\(")):
+        read_list("LIST", others=["RECORD"])
+    assert main(["batch", "LIST", "--pitc", "./pitc"]) == 2 and not os.path.exists("BUILD") and not os.path.exists("MANIFEST")
+    assert read("one.blocks") == read("SIZES") == mines.SIX_ROWS
+
+
+def test_a_list_that_has_the_name_of_a_table_is_not_written_over(here, capsys):
+    (here / "BUILD").write_text(ONE)
+    assert main(["batch", "BUILD", "--pitc", "./pitc"]) == 2
+    assert "BUILD would be overwritten by the batch" in capsys.readouterr().err and read("BUILD") == ONE
+
+
+@pytest.mark.parametrize("name", ["MANIFEST", "SIZES", "BUILD", "RECORD", "one.cpit"])
+def test_a_file_of_another_kind_stays(here, capsys, name):
+    (here / "LIST").write_text(ONE)
+    (here / name).write_text("mine\n")
+    assert main(["batch", "LIST", "--pitc", "./pitc"]) == 2
+    assert f"{name}: " in capsys.readouterr().err and read(name) == "mine\n" and calls() == []
+
+
+def test_nothing_is_taken_away_where_pitc_does_not_work(here, capsys):
+    run_batch()
+    before = {name: read(name) for name in ("MANIFEST", "SIZES", "BUILD", "RECORD", "one.blocks")}
+    for text, told in (("#!/bin/false\n", "--version ends with 1"), ("#!/no/such\n", "cannot be run: No such file")):
+        (here / "broken").write_text(text)
+        (here / "broken").chmod(0o755)
+        assert main(["batch", "LIST", "--pitc", "./broken"]) == 2 and told in capsys.readouterr().err
+    assert main(["batch", "LIST", "--pitc", "./gone"]) == 2 and "no program `./gone`" in capsys.readouterr().err
+    assert {name: read(name) for name in before} == before
+
+
+@pytest.mark.parametrize("words, told", [
+    (["--jobs", "0"], "--jobs is 1 or more"), (["--part", "3/2"], "`3/2` is no part"), (["--part", "0/2"], "`0/2` is no part"),
+    (["--jobs", "2", "--scheduler", "tcp://127.0.0.1:1"], "goes without --jobs"), (["--join", ".", "--part", "1/2"], "goes without --part"),
+    (["--join", ".", "--continue"], "goes without --continue"),
+])
+def test_words_that_do_not_fit_are_told(here, capsys, words, told):
+    (here / "LIST").write_text(ONE)
+    assert main(["batch", "LIST", *([] if "--join" in words else ["--pitc", "./pitc"]), *words]) == 2
+    assert told in capsys.readouterr().err and calls() == []
+
+
+# What fails leaves no manifest
+
+
+def test_a_plan_that_is_refused_leaves_no_manifest_and_what_was_there(here):
+    run_batch()
+    older = read("two.blocks")
+    (here / "two.plan").write_text("refused\n")
+    batch, whole = run_batch()
+    assert not whole and batch.failed == ["two.plan: pitc compile: pitc: plan row 1: Name"]
+    assert not os.path.exists("MANIFEST") and read("two.blocks") == older and left_of() == []
+    assert len(open("SIZES").readlines()) == 2
+
+
+def test_an_input_that_changes_behind_its_compile_is_told(here):
+    open("changing", "w").close()
+    batch, whole = run_batch(ONE)
+    assert not whole and batch.failed == ["one.plan: six blocks.csv was changed while the instance was made"]
+    assert not os.path.exists("MANIFEST") and not os.path.exists("one.blocks")
+
+
+@pytest.mark.parametrize("name", ["six blocks.csv", "one.plan", "LIST"])
+def test_an_input_that_changes_between_two_instances_is_told(here, name):
+    def engine(entries, way, build):
+        for found in in_turn(entries, way, build):
+            yield found
+            with open(name, "a") as file:
+                file.write("\n")
+
+    batch, whole = run_batch(engine=engine)
+    assert not whole and batch.failed == [f"{name} was changed while the batch ran"] and not os.path.exists("MANIFEST")
+
+
+def test_a_program_that_is_replaced_meanwhile_is_told(here):
+    def engine(entries, way, build):
+        yield from in_turn(entries, way, build)
+        with open("pitc", "a") as file:
+            file.write("\n")
+
+    batch, whole = run_batch(engine=engine)
+    assert not whole and batch.failed == ["the programs or the tool were changed while the batch ran"]
+    assert not os.path.exists("MANIFEST")
+
+
+@pytest.mark.parametrize("most, begins", [(200, False), (700, True), (900, True)])
+def test_a_disk_that_takes_no_more_leaves_no_manifest(here, most, begins):
+    """Where not even RECORD can be begun, nothing is changed, and the manifest of the batch before stays."""
+    run_batch()
+    before = read()
+    words = [sys.executable, "-m", "pit_tools", "batch", "LIST", "--pitc", "./pitc"]
+    # Without compiled modules: Python would leave halves of these.
+    done = subprocess.run(words, env={**environment(), "PYTHONDONTWRITEBYTECODE": "1"}, capture_output=True, text=True,
+                          preexec_fn=lambda: resource.setrlimit(resource.RLIMIT_FSIZE, (most, most)))
+    assert done.returncode in (1, 2) and "File too large" in done.stderr and "Traceback" not in done.stderr
+    assert read() == before and is_accepted() if not begins else not os.path.exists("MANIFEST")
+    assert left_of() == []
+
+
+def environment():
+    return {**os.environ, "PYTHONPATH": os.path.join(mines.TOP, "python")}
+
+
+# One batch at a time
+
+
+def held(name=LOCK, how=fcntl.LOCK_EX):
+    file = open(name, "w")
+    fcntl.flock(file, how)
+    return file
+
+
+def test_two_batches_in_one_folder_are_refused(here, capsys):
+    run_batch()
+    before = read()
+    with held():
+        assert main(["batch", "LIST", "--pitc", "./pitc"]) == 2
+        assert main(["batch", "LIST", "--pitc", "./pitc", "--part", "1/2"]) == 2
+        assert main(["batch", "LIST", "--join", "."]) == 2
+    assert capsys.readouterr().err.count("another batch runs in this folder") == 3 and read() == before
+    assert main(["batch", "LIST", "--pitc", "./pitc"]) == 0
+
+
+def test_parts_run_beside_one_another_and_none_twice(here, capsys):
+    (here / "LIST").write_text(ONE + TWO)
+    with held(how=fcntl.LOCK_SH), held(f"{LOCK}-1-of-2"):
+        assert main(["batch", "LIST", "--pitc", "./pitc", "--part", "2/2"]) == 0 and calls() == ["two"]
+        assert main(["batch", "LIST", "--pitc", "./pitc", "--part", "1/2"]) == 2
+        assert main(["batch", "LIST", "--pitc", "./pitc"]) == 2
+    assert capsys.readouterr().out == "part 2 of 2: 1 of 1 instances\n" and not os.path.exists("MANIFEST")
+
+
+# Going on
+
+
+def test_what_is_whole_is_kept_by_its_sums(here, capsys):
+    run_batch()
+    before = read()
+    calls()
+    assert main(["batch", "LIST", "--pitc", "./pitc", "--continue"]) == 0
+    assert capsys.readouterr().out == "2 of 2 instances, 2 of them kept\n" and calls() == [] and read() == before
+    for damage in (lambda: os.remove("two.prec"), lambda: (here / "two.prec").write_text("0 0\n"),
+                   lambda: (here / "RECORD").write_text(read("RECORD")[:-9])):
+        damage()
+        _, whole = run_batch(goes_on=True)
+        assert whole and calls() == ["two"] and read() == before
+    (here / "one.plan").write_text(plan_named("one").replace("rate,0.08", "rate,0.09"))
+    _, whole = run_batch(goes_on=True)
+    assert whole and calls() == ["one"] and read() != before and is_accepted()
+
+
+def test_what_another_build_made_is_made_anew(here):
+    run_batch()
+    calls()
+    _, whole = run_batch(goes_on=True, options=("--valuers", "1"))
+    assert whole and calls() == ["one", "two"]
+
+
+def begun(words):
+    """A process of its own that runs a command."""
+    process = os.fork()
+    if process == 0:
+        status = 99
+        try:
+            status = main(words)
+        finally:
+            os._exit(status)
+    return process
+
+
+def ended(process):
+    """The status of a process, below 0 where a signal ended it."""
+    return os.waitstatus_to_exitcode(os.waitpid(process, 0)[1])
+
+
+@pytest.mark.parametrize("jobs", [1, 3])
+def test_a_batch_that_is_killed_goes_on_to_the_same_sums(pitc, here, jobs):
+    """Ended at random moments, and once more while it goes on: no manifest stands of less than all."""
+    names = [f"mine{number}" for number in range(8)]
+    for name in names:
+        (here / f"{name}.plan").write_text(plan_named(name))
+    (here / "LIST").write_text("".join(f"{name}.plan 'six blocks.csv'\n" for name in names))
+    words = ["batch", "LIST", "--pitc", pitc, "--jobs", str(jobs)]
+    at_first = time.monotonic()
+    assert ended(begun(words)) == 0
+    wanted, most = read(), time.monotonic() - at_first
+    chances, cut_short = random.Random(jobs), 0
+    tries = int(os.environ.get("KILLED_BATCHES", "10"))
+    for _ in range(tries):
+        begin_anew(names)
+        for goes_on in ([], ["--continue"]):
+            process = begun([*words, *goes_on])
+            time.sleep(chances.uniform(0, most))
+            os.kill(process, chances.choice([signal.SIGINT, signal.SIGTERM, signal.SIGKILL]))
+            cut_short += ended(process) != 0
+            assert not os.path.exists("MANIFEST") or read() == wanted
+        assert with_patience([*words, "--continue"]) == 0
+        assert read() == wanted and is_accepted() and left_of() == []
+    assert cut_short > 0
+    print(f"{cut_short} of {2 * tries} runs were cut short")
+
+
+def begin_anew(names):
+    for name in ("MANIFEST", "SIZES", "BUILD", "RECORD", *(f"{name}.{text}" for name in names for text in TEXTS)):
+        if os.path.exists(name):
+            os.remove(name)
+
+
+def with_patience(words):
+    """The status of a command, tried again for as long as what is left of a killed one holds the folder."""
+    for _ in range(600):
+        status = ended(begun(words))
+        if status != 2:
+            break
+        time.sleep(0.1)
+    return status
+
+
+# Several at a time, parts, other machines
+
+
+def test_several_at_a_time_make_the_same(here):
+    run_batch()
+    before = read()
+    _, whole = run_batch(engine=by_processes(3))
+    assert whole and read() == before
+    (here / "two.plan").write_text("refused\n")
+    batch, whole = run_batch(engine=by_processes(3))
+    assert not whole and batch.failed == ["two.plan: pitc compile: pitc: plan row 1: Name"]
+
+
+def test_a_process_that_is_ended_from_outside_is_told(here):
+    (here / "pitc").write_text((here / "pitc").read_text().replace('elif words[0] == "compile"', 'elif os.kill(os.getppid(), 9) or words[0] == "compile"'))
+    with pytest.raises(UserError, match="a process of the batch was ended from outside"):
+        run_batch(engine=by_processes(2))
+    assert not os.path.exists("MANIFEST")
+
+
+def parts_of(here, count, folder_of):
+    """Makes the parts of LIST, each in a folder of its own that has LIST and the inputs, or all in one."""
+    for number in range(1, count + 1):
+        folder = here / folder_of(number)
+        folder.mkdir(exist_ok=True)
+        for name in ("LIST", "one.plan", "two.plan", "six blocks.csv", "pitc"):
+            if folder != here:
+                shutil.copy(name, folder)
+        done = subprocess.run([sys.executable, "-m", "pit_tools", "batch", "LIST", "--pitc", "./pitc", "--part", f"{number}/{count}"],
+                              cwd=folder, env=environment(), capture_output=True, text=True)
+        assert done.returncode == 0 and not (folder / "MANIFEST").exists()
+
+
+@pytest.mark.parametrize("folder_of", ["part{}".format, lambda number: "."], ids=["folders", "one folder"])
+def test_parts_are_joined_to_the_batch_that_one_run_makes(here, folder_of, capsys):
+    run_batch()
+    wanted = read()
+    begin_anew(["one", "two"])
+    parts_of(here, 3, folder_of)
+    folders = list(dict.fromkeys(map(folder_of, (1, 2, 3))))
+    assert main(["batch", "LIST", "--join", *folders]) == 0 and capsys.readouterr().out == "2 of 2 instances\n"
+    assert read() == wanted and is_accepted()
+    calls()
+    assert main(["batch", "LIST", "--pitc", "./pitc", "--continue"]) == 0 and calls() == [] and read() == wanted
+
+
+@pytest.mark.parametrize("damage, told", [
+    (lambda: os.remove("part2/RECORD-2-of-2"), "two.plan: no part has it"),
+    (lambda: os.remove("part2/two.prec"), "two.plan: part2/two.prec is not the one that part2/RECORD-2-of-2 names"),
+    (lambda: shutil.copy("part1/one.prec", "part2/two.upit"), "two.plan: part2/two.upit is not the one"),
+    (lambda: shutil.copy("one.plan", "two.plan"), "two.plan: two.plan is not the one that part2/RECORD-2-of-2 names"),
+])
+def test_parts_that_lack_something_are_not_joined(here, capsys, damage, told):
+    (here / "LIST").write_text(ONE + TWO)
+    parts_of(here, 2, "part{}".format)
+    damage()
+    assert main(["batch", "LIST", "--join", "part1", "part2"]) == 1
+    assert told in capsys.readouterr().err and not os.path.exists("MANIFEST") and not os.path.exists("one.blocks")
+
+
+def test_parts_of_different_builds_are_not_joined(here, capsys):
+    (here / "LIST").write_text(ONE + TWO)
+    parts_of(here, 2, "part{}".format)
+    record = here / "part2" / "RECORD-2-of-2"
+    record.write_text(record.read_text().replace("pitc 9.9.9", "pitc 9.9.8"))
+    assert main(["batch", "LIST", "--join", "part1", "part2"]) == 2 and "different builds" in capsys.readouterr().err
+    assert main(["batch", "LIST", "--join", "."]) == 2 and "no record of a batch is in ." in capsys.readouterr().err

@@ -1,0 +1,110 @@
+"""What makes the instances of a batch: this process, several of this machine, or the workers of a Dask scheduler."""
+from __future__ import annotations
+
+import multiprocessing
+import os
+import signal
+import sys
+import threading
+from concurrent.futures import FIRST_COMPLETED, BrokenExecutor, Executor, Future, ProcessPoolExecutor, wait
+from contextlib import contextmanager
+from itertools import islice
+from multiprocessing.connection import wait as wait_for
+from typing import Callable, Iterator, Sequence, Union
+
+from pit_tools.batch_build import Way
+from pit_tools.batch_list import Entry
+from pit_tools.batch_making import Failed, Made, make
+from pit_tools.errors import UserError
+
+#: Makes instances, and answers each when it is made, in any order.
+Engine = Callable[[Sequence[Entry], Way, str], Iterator[Union[Made, Failed]]]
+
+
+def in_turn(entries: Sequence[Entry], way: Way, build: str) -> Iterator[Union[Made, Failed]]:
+    """One instance after the other, in this process."""
+    for entry in entries:
+        yield make(entry, way, build)
+
+
+def by_processes(jobs: int) -> Engine:
+    """So many at a time, each in a process of its own."""
+
+    def engine(entries: Sequence[Entry], way: Way, build: str) -> Iterator[Union[Made, Failed]]:
+        with _processes(min(jobs, max(1, len(entries)))) as executor:
+            yield from _through(executor, jobs, entries, way, build)
+
+    return engine
+
+
+@contextmanager
+def _processes(jobs: int) -> Iterator[Executor]:
+    """Processes that end with this one: they are told to where an exception leaves the block, and see it where this
+    one is killed."""
+    others = set(multiprocessing.active_children())
+    executor = ProcessPoolExecutor(jobs, initializer=_end_with_parent)
+    try:
+        yield executor
+    except BaseException:
+        for process in set(multiprocessing.active_children()) - others:
+            process.terminate()
+        raise
+    finally:
+        executor.shutdown(cancel_futures=True)
+
+
+def _end_with_parent() -> None:
+    """Leaves Ctrl-C to the first process, which tells the others by TERM."""
+    parent = multiprocessing.parent_process()
+    signal.signal(signal.SIGINT, signal.SIG_IGN)
+    signal.signal(signal.SIGTERM, lambda *_: sys.exit(143))
+
+    def watch() -> None:
+        wait_for([parent.sentinel])
+        os._exit(1)
+
+    threading.Thread(target=watch, daemon=True).start()
+
+
+def by_dask(address: str) -> Engine:
+    """By the workers of the scheduler at this address, which see the folder of the batch by the same path, and have the
+    same programs and packages. What a worker was making that ends is made by another.
+
+    Raises UserError where the package is not there, nothing answers at the address, or there is no worker."""
+    try:
+        import distributed
+    except ImportError:
+        raise UserError("--scheduler needs Python's package distributed: apt-get install python3-distributed") from None
+
+    def engine(entries: Sequence[Entry], way: Way, build: str) -> Iterator[Union[Made, Failed]]:
+        try:
+            client = distributed.Client(address, timeout=10, set_as_default=False)
+        except (OSError, ValueError) as error:
+            raise UserError(f"--scheduler: no scheduler answers at {address}: {error}") from None
+        with client:
+            workers = client.scheduler_info()["workers"].values()
+            if not workers:
+                raise UserError(f"--scheduler: the scheduler at {address} has no worker")
+            threads = sum(worker["nthreads"] for worker in workers)
+            yield from _through(client.get_executor(pure=False), 2 * threads, entries, way, build)
+
+    return engine
+
+
+def _through(executor: Executor, width: int, entries: Sequence[Entry], way: Way, build: str) -> Iterator[Union[Made, Failed]]:
+    """What an executor makes, never more than `width` instances under way, so that little is lost by an end."""
+    waiting = iter(entries)
+    running: dict[Future, Entry] = {}
+    while True:
+        for entry in islice(waiting, width - len(running)):
+            running[executor.submit(make, entry, way, build)] = entry
+        if not running:
+            return
+        for future in wait(running, return_when=FIRST_COMPLETED).done:
+            entry = running.pop(future)
+            error = future.exception()
+            if isinstance(error, BrokenExecutor):
+                raise UserError("a process of the batch was ended from outside, as for want of memory; --continue keeps what is whole")
+            if error and not isinstance(error, Exception):
+                raise error
+            yield Failed(entry, f"it was not made: {type(error).__name__}: {error}") if error else future.result()

@@ -1,0 +1,134 @@
+"""Records of a batch: which instances are whole, with the sums of what went in and came out.
+
+A record is a file RECORD in the folder of the batch, or RECORD-2-of-5 of a part. Its first line has the text of
+BUILD, and each further one an instance. A line is added when its instance is whole, so a batch that is killed leaves
+the lines of those that are; whether they still are is judged by the sums.
+"""
+from __future__ import annotations
+
+import json
+import os
+import re
+from dataclasses import dataclass
+from typing import IO, Iterable, Iterator, Optional
+
+from pit_tools import outputs
+from pit_tools.batch_list import Entry, Part
+from pit_tools.batch_making import Made
+from pit_tools.errors import UserError
+from pit_tools.sums import sum_of
+
+NAME = "RECORD"
+
+
+@dataclass(frozen=True)
+class Recorded:
+    """An instance as a record has it: in which file, by which BUILD, and what."""
+
+    path: str
+    build: str
+    made: Made
+
+
+def record_path(folder: str, part: Part = Part()) -> str:
+    return os.path.join(folder, f"{NAME}{part.ending}")
+
+
+def recorded_in(folder: str) -> Iterator[Recorded]:
+    """The instances of all records of a folder, the newer lines of a file behind the older ones. A line that was cut
+    short is left out. Raises UserError where a file of such a name is no record."""
+    for name in sorted(os.listdir(folder)):
+        if re.fullmatch(rf"{NAME}(-\d+-of-\d+)?", name):
+            path = os.path.join(folder, name)
+            build = build_of(path)
+            if build is not None:
+                yield from (Recorded(path, build, made) for made in _lines(path))
+
+
+def build_of(path: str) -> Optional[str]:
+    """The text of BUILD that a record begins with; None where there is no record, or nothing in it."""
+    try:
+        with outputs.looking(), open(path, encoding="utf-8", errors="replace") as file:
+            first = file.readline()
+    except FileNotFoundError:
+        return None
+    found = _parsed(first)
+    if not first or isinstance(found, dict) and isinstance(found.get("build"), str):
+        return found["build"] if first else None
+    raise UserError(f"{path}: another file is there, and no record of a batch")
+
+
+def _lines(path: str) -> Iterator[Made]:
+    with outputs.looking(), open(path, encoding="utf-8", errors="replace") as file:
+        next(file, None)
+        for line in file:
+            found = _parsed(line)
+            try:
+                plan, *zones = found["files"]
+                yield Made(Entry(plan, tuple(zones)), dict(found["sums"]), list(found["row"]))
+            except (TypeError, KeyError, ValueError):
+                continue
+
+
+def _parsed(line: str) -> object:
+    try:
+        return json.loads(line)
+    except ValueError:
+        return None
+
+
+class Record:
+    """A record that is being written."""
+
+    def __init__(self, folder: str, part: Part, build: str, goes_on: bool):
+        """Goes on with the record that is there, where it is of this BUILD, or begins it anew."""
+        self.path = record_path(folder, part)
+        goes_on = build_of(self.path) == build and goes_on
+        if not goes_on:
+            with outputs.opened(self.path, "record of a batch", "utf-8") as file:
+                file.write(json.dumps({"build": build}) + "\n")
+        self.file: IO[str] = open(self.path, "a", encoding="utf-8")
+        if goes_on:
+            # What a killed batch left of a line gets an end.
+            self._write("\n")
+
+    def add(self, made: Made) -> None:
+        self._write(json.dumps({"files": made.entry.inputs, "sums": made.sums, "row": made.row}) + "\n")
+
+    def _write(self, text: str) -> None:
+        try:
+            self.file.write(text)
+            self.file.flush()
+        except OSError as error:
+            raise OSError(error.errno, error.strerror, self.path) from None
+
+    def __enter__(self) -> "Record":
+        return self
+
+    def __exit__(self, *_: object) -> None:
+        try:
+            self.file.close()
+        except OSError:
+            pass
+
+
+class Sums:
+    """Sums of files of a folder, each taken once."""
+
+    def __init__(self, folder: str):
+        self.folder = folder
+        self.found: dict[str, Optional[str]] = {}
+
+    def of(self, name: str) -> Optional[str]:
+        """The sum of a file, None where it cannot be read."""
+        if name not in self.found:
+            try:
+                with outputs.looking():
+                    self.found[name] = sum_of(os.path.join(self.folder, name))
+            except OSError:
+                self.found[name] = None
+        return self.found[name]
+
+    def other(self, names: Iterable[str], wanted: dict[str, str]) -> Optional[str]:
+        """The first of the names whose file has another sum than is wanted."""
+        return next((name for name in names if self.of(name) != wanted.get(name, "")), None)
