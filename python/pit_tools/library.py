@@ -1,29 +1,27 @@
 """A small library: ten deposits by seed, with the sums of their instances, pit values, bounds, and the best
 schedules that are known.
 
-The deposits follow from their seeds, and their instances from these; the table and the schedules stand in
-the folder `library_data` beside this module. Whoever finds a better schedule may put it there.
+The deposits follow from their seeds, and their instances from these; the tables and the schedules stand in
+the folder `library_data` beside this module, or in a copy of it: TABLE has values and bounds, FOUND when each
+schedule was found, by whom and how, SUMS the sums of the instances.
 """
 from __future__ import annotations
 
 import hashlib
 import os
 import tempfile
-from dataclasses import dataclass, replace
-from typing import Iterator, Optional
+from dataclasses import dataclass
+from typing import Iterator
 
 import pandas as pd
 
 from pit_tools import outputs
-from pit_tools.bounds import bounds_of
 from pit_tools.closure import ultimate_pit
-from pit_tools.commands.lp import fewer_arcs
 from pit_tools.deposits import ZONES, Deposit
 from pit_tools.errors import UserError
-from pit_tools.instance import TEXTS, Instance, Problem, cents, write_instance
+from pit_tools.instance import TEXTS, Instance, cents, write_instance
 from pit_tools.plan_file import plan_of
-from pit_tools.programs import program_of, schedule_of, solve
-from pit_tools.schedules import Schedule, check, read_schedule, write_schedule
+from pit_tools.schedules import check, read_schedule
 from pit_tools.valuation import blocks_of, instance_of
 from pit_tools.zone_files import read_zone_files
 
@@ -37,6 +35,12 @@ DEPOSITS = tuple(Deposit(f"{shape}{seed}", seed, SIZE, shape)
                  for seed, shape in zip(range(1, 11), ("lens", "pipe", "vein", "lens", "vein", "lens", "pipe", "vein", "lens", "vein")))
 
 COLUMNS = ("name", "seed", "shape", "size", "blocks", "arcs", "pit_value", "cpit_bound", "pcpsp_bound", "cpit_best", "pcpsp_best")
+
+#: The columns of FOUND: a schedule's deposit and kind; the day on which it was found, by whom, and how.
+FOUND_COLUMNS = ("name", "kind", "date", "by", "how")
+
+#: What stands between the columns of the tables.
+SEPARATORS = {"TABLE": " ", "FOUND": ","}
 
 
 @dataclass(frozen=True)
@@ -66,13 +70,22 @@ def sums_of(folder: str, name: str) -> dict[str, str]:
     return found
 
 
-def known(name: str) -> Known:
+def table_of(folder: str, name: str) -> pd.DataFrame:
+    """TABLE or FOUND of a library, as words. Raises UserError where it is not there."""
+    path = os.path.join(folder or FOLDER, name)
+    if not os.path.exists(path):
+        raise UserError(f"{folder}: no library, since it has no {name}: `library --write` makes one")
+    with outputs.looking():
+        return pd.read_csv(path, sep=SEPARATORS[name], dtype=str)
+
+
+def known(name: str, folder: str = "") -> Known:
     """What the library says of a deposit. Raises UserError where it has none of the name."""
-    table = pd.read_csv(os.path.join(FOLDER, "TABLE"), sep=" ", dtype=str)
+    table = table_of(folder, "TABLE")
     rows = table[table["name"] == name]
     if len(rows) != 1:
         raise UserError(f"the library has no `{name}`: it has {', '.join(table['name'])}")
-    sums = pd.read_csv(os.path.join(FOLDER, "SUMS"), sep=r"\s+", header=None, names=["sum", "file"], dtype=str)
+    sums = pd.read_csv(os.path.join(folder or FOLDER, "SUMS"), sep=r"\s+", header=None, names=["sum", "file"], dtype=str)
     mine = sums[sums["file"].str.rpartition(".")[0] == name]
     return Known(rows.iloc[0].to_dict(), dict(zip(mine["file"], mine["sum"])))
 
@@ -81,9 +94,10 @@ def schedule_path(name: str, kind: str, folder: str = "") -> str:
     return os.path.join(folder or FOLDER, f"{name}.{kind.lower()}-schedule")
 
 
-def faults_of(deposit: Deposit, folder: str) -> Iterator[str]:
-    """Makes a deposit of the library in a folder, and tells what is not as its table says."""
-    mine, said = make(deposit, folder), known(deposit.name)
+def faults_of(deposit: Deposit, folder: str, of: str = "") -> Iterator[str]:
+    """Makes a deposit of a library in a folder, and tells what is not as its tables say."""
+    mine, said = make(deposit, folder), known(deposit.name, of)
+    found_by = table_of(of, "FOUND")
     for name, found in sums_of(folder, deposit.name).items():
         if said.sums.get(name) != found:
             yield f"{name} has another sum"
@@ -93,7 +107,9 @@ def faults_of(deposit: Deposit, folder: str) -> Iterator[str]:
         yield f"{deposit.name}: the pit is worth {pit}, and the table says {said.row['pit_value']}"
     for problem in (mine.cpit, mine.pcpsp):
         kind = problem.kind.lower()
-        path = schedule_path(deposit.name, kind)
+        path = schedule_path(deposit.name, kind, of)
+        if ((found_by["name"] == deposit.name) & (found_by["kind"] == kind)).sum() != 1:
+            yield f"{deposit.name} {kind}: FOUND has not one line on it"
         found = check(read_schedule(path, problem), problem, mine.precedence)
         if not found.holds:
             yield f"{os.path.basename(path)}: {found.broken[0]}"
@@ -101,58 +117,6 @@ def faults_of(deposit: Deposit, folder: str) -> Iterator[str]:
             yield f"{os.path.basename(path)} is worth {found.worth:.2f}, and the table says {said.row[f'{kind}_best']}"
         if found.worth > float(said.row[f"{kind}_bound"]) + 0.01:
             yield f"{os.path.basename(path)} is worth more than its bound"
-
-
-def row_of(deposit: Deposit, folder: str, seconds: Optional[float]) -> dict[str, str]:
-    """Makes a deposit, seeks its schedules for so many seconds each, writes the best ones into the folder, and
-    answers its row of the table. A bound is the better one of the relaxation and of HiGHS."""
-    mine = make(deposit, folder)
-    bounds = bounds_of(mine, seconds)
-    fewer = fewer_arcs(mine.precedence)
-    row = {"name": deposit.name, "seed": str(deposit.seed), "shape": deposit.shape, "size": ",".join(map(str, deposit.size)),
-           "blocks": str(len(mine.blocks)), "arcs": str(mine.precedence.nnz), "pit_value": f"{bounds['the ultimate pit']:.2f}"}
-    by_kind: dict[str, Schedule] = {}
-    for problem in (mine.cpit, mine.pcpsp):
-        program = program_of(problem, fewer)
-        answer = solve(program, seconds)
-        found = [] if answer.values is None else [schedule_of(answer.values, problem, program.names)]
-        if problem.kind == "PCPSP" and "CPIT" in by_kind:
-            found.append(at_best_destinations(by_kind["CPIT"], problem))
-        if not found:
-            raise UserError(f"{deposit.name}: {answer.told}")
-        by_kind[problem.kind] = max(found, key=lambda one: one.worth(problem))
-        path = schedule_path(deposit.name, problem.kind, folder)
-        write_schedule(by_kind[problem.kind], path, problem.kind == "PCPSP")
-        kept = check(read_schedule(path, problem), problem, mine.precedence)
-        if not kept.holds:
-            raise UserError(f"{deposit.name}: {kept.broken[0]}")
-        kind = problem.kind.lower()
-        limits = [value for value in (bounds[f"{problem.kind}, relaxed"], answer.bound, bounds["the ultimate pit"]) if value is not None]
-        row[f"{kind}_bound"] = f"{max(min(limits), kept.worth):.2f}"
-        row[f"{kind}_best"] = f"{kept.worth:.2f}"
-    return row
-
-
-def at_best_destinations(schedule: Schedule, problem: Problem) -> Schedule:
-    """A schedule of a CPIT as one of the PCPSP: each block goes where it is worth most."""
-    best = problem.values.argmax(axis=1)
-    return replace(schedule, destination=best[schedule.block])
-
-
-def build(folder: str, seconds: float) -> None:
-    """Makes the library anew: TABLE, SUMS and the schedules."""
-    outputs.folder(folder)
-    rows, sums = [], {}
-    with tempfile.TemporaryDirectory() as made:
-        for deposit in DEPOSITS:
-            rows.append(row_of(deposit, made, seconds))
-            sums |= sums_of(made, deposit.name)
-            with outputs.together():
-                _copy_schedules(deposit.name, made, folder)
-                with outputs.opened(os.path.join(folder, "TABLE"), "table of the library", "ascii") as file:
-                    pd.DataFrame(rows)[list(COLUMNS)].to_csv(file, sep=" ", index=False, lineterminator="\n")
-                with outputs.opened(os.path.join(folder, "SUMS"), "sums", "ascii") as file:
-                    file.writelines(f"{found}  {name}\n" for name, found in sums.items())
 
 
 def _copy_schedules(name: str, source: str, folder: str) -> None:
@@ -173,5 +137,5 @@ def write_all(folder: str) -> None:
                 outputs.copied(os.path.join(made, name), os.path.join(folder, name), kind)
             for deposit in DEPOSITS:
                 _copy_schedules(deposit.name, FOLDER, folder)
-            for name, kind in (("TABLE", "table of the library"), ("SUMS", "sums")):
+            for name, kind in (("TABLE", "table of the library"), ("FOUND", "table of the library"), ("SUMS", "sums")):
                 outputs.copied(os.path.join(FOLDER, name), os.path.join(folder, name), kind)

@@ -273,12 +273,13 @@ class Answer:
     told: str
 
 
-def solve(program: Program, seconds: Optional[float] = None, ratio: float = 0.0) -> Answer:
-    """Solves a program by scipy's HiGHS, up to so many seconds and up to a ratio of the best."""
+def solve(program: Program, seconds: Optional[float] = None, ratio: float = 0.0, bounds: Optional[optimize.Bounds] = None) -> Answer:
+    """Solves a program by scipy's HiGHS, up to so many seconds and up to a ratio of the best. Bounds of the variables
+    may be closer than 0 and 1."""
     options = {"mip_rel_gap": ratio, **({"time_limit": seconds} if seconds else {})}
     scale = max(1.0, float(np.abs(program.objective).max(initial=1)))
     constraints = optimize.LinearConstraint(program.rows, program.lower, program.upper) if program.rows.shape[0] else ()
-    found = optimize.milp(-program.objective / scale, integrality=program.whole.astype(int), bounds=optimize.Bounds(0, 1),
+    found = optimize.milp(-program.objective / scale, integrality=program.whole.astype(int), bounds=bounds or optimize.Bounds(0, 1),
                           constraints=constraints, options=options)
     if found.status == 2:
         return Answer("none", None, None, None, "there is none: limits cannot be met")
