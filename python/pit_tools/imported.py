@@ -11,14 +11,14 @@ from pit_tools.errors import UserError
 from pit_tools.export_words import Words
 from pit_tools.gridding import Turn
 from pit_tools.plan_file import Grid
-from pit_tools.units import is_money_a_tonne
+from pit_tools.units import grade_unit_of
 
 
 @dataclass(frozen=True)
 class ImportedFile:
     """What was imported: the exports and the words by which they were read, the grid with its numbers of blocks, the zones with their
-    files, the turn of a model, None where it is not turned, and the K of zones that are so many benches below another. Paths of zone
-    files are those from where BASE.json was read."""
+    files, the turn of a model, None where it is not turned, the K of zones that are so many benches below another, and what was told,
+    and behind LOOK AT. Paths of zone files are those from where BASE.json was read."""
 
     exports: list[str]
     words: Words
@@ -28,11 +28,13 @@ class ImportedFile:
     files: list[str]
     turn: Optional[Turn]
     benches: dict[str, int]
+    told: list[str]
+    doubts: list[str]
 
     @property
-    def is_return(self) -> bool:
-        """Whether the grade is a net smelter return."""
-        return is_money_a_tonne(self.words.grade.rpartition(" ")[2])
+    def grade_unit(self) -> str:
+        """In what grades are told."""
+        return grade_unit_of(self.words.grade.rpartition(" ")[2])
 
     @property
     def x_bearing(self) -> float:
@@ -51,6 +53,7 @@ def read_imported(path: str) -> ImportedFile:
             return ImportedFile(told["exports"], Words(**told["words"]), Grid(tuple(numbers[0]), tuple(numbers[1])),
                                 tuple(told["grid"]["blocks"]), [zone["name"] for zone in told["zones"]],
                                 [os.path.join(folder, zone["file"]) for zone in told["zones"]], turn,
-                                {zone["name"]: zone["K"] for zone in told["zones"] if zone.get("K")})
+                                {zone["name"]: zone["K"] for zone in told["zones"] if zone.get("K")},
+                                list(told.get("told", [])), list(told.get("look_at", [])))
         except (ValueError, KeyError, TypeError, ArithmeticError):
             raise UserError(f"{path}: it is not what `pit-tools import` writes as BASE.json") from None

@@ -16,7 +16,7 @@ from pit_tools.export_words import Words
 from pit_tools.gridding import Axis, Turn
 from pit_tools.import_report import Report
 from pit_tools.plan_file import Grid, Slope, Zone, zone_record
-from pit_tools.slope_words import advice
+from pit_tools.slope_words import K_for
 from pit_tools.source import Source
 from pit_tools.zone_files import write_zone_file
 
@@ -53,9 +53,8 @@ class Imported:
     def records(self) -> list[str]:
         """The records `grid` and `zone` of a plan, the zones in their order, with slopes of 45 degrees and the K to take for them."""
         grid = ",".join(["grid", *map(plain, (*self.grid.origin, *self.grid.size))])
-        zone = Zone((Slope(1, 1),) * 4, 1)
-        K = advice(self.grid, zone, self.axes[2].places).K
-        return [grid, *(",".join(zone_record(Zone(zone.slopes, self.benches.get(name, K)))) for name in self.zones)]
+        K = K_for(self.axes[2].places)
+        return [grid, *(",".join(zone_record(Zone((Slope(1, 1),) * 4, self.benches.get(name, K)))) for name in self.zones)]
 
     def file_names(self, base: str) -> list[str]:
         """The path of each zone's file. It raises UserError where two zones would have one."""
@@ -68,7 +67,7 @@ class Imported:
         return list(names)
 
     def write(self, base: str) -> list[str]:
-        """Writes the zone files, and BASE.json with the words, the grid, the zones and the turn. It answers the zone files' paths."""
+        """Writes the zone files, and BASE.json with the words, the grid, the zones, the turn and what was told. It answers the zone files' paths."""
         paths = self.file_names(base)
         told = {
             "tool": f"pit-tools {VERSION}", "exports": [source.path for source in self.sources],
@@ -77,6 +76,7 @@ class Imported:
                      "blocks": [axis.places for axis in self.axes]},
             "zones": [{"name": name, "file": os.path.basename(path), "K": self.benches.get(name)} for name, path in zip(self.zones, paths)],
             "turn": {"angle": self.turn.angle, "about": list(self.turn.about)} if self.turn else None,
+            "told": self.report.facts, "look_at": self.report.doubts,
         }
         with outputs.together(source.path for source in self.sources):
             for zone, path in enumerate(paths):

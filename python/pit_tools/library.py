@@ -56,7 +56,7 @@ def make(deposit: Deposit, folder: str) -> Instance:
     deposit.write(folder)
     plan = plan_of(deposit.plan())
     zones = [os.path.join(folder, f"{deposit.name}-{zone}.csv") for zone in ZONES]
-    mine = instance_of(plan, blocks_of(plan, read_zone_files(zones)))
+    mine = instance_of(plan, blocks_of(plan.grid, read_zone_files(zones)))
     write_instance(mine, os.path.join(folder, deposit.name))
     return mine
 

@@ -1,7 +1,7 @@
 """What is odd of a plan and its instance, in words: the first part of a survey.
 
 Each finding is true of the numbers; whether it is a mistake is for the planner to say. Thresholds are
-wide, so that a sound mine has few.
+wide, so that a sound mine has none. What also sound mines have, and a planner should know, is a note.
 """
 from __future__ import annotations
 
@@ -11,10 +11,6 @@ import numpy as np
 
 from pit_tools.spelling import shortest, with_commas
 from pit_tools.survey_facts import SIDES, Facts
-
-#: Degrees that walls may be too steep before it is told.
-TOO_STEEP = 2.0
-
 
 class Finding(NamedTuple):
     """What is odd, and the part of the survey that has its numbers."""
@@ -26,8 +22,14 @@ class Finding(NamedTuple):
 def look_at(facts: Facts) -> list[Finding]:
     """The findings, in the order of the survey's parts."""
     parts = [("PLACES", _places), ("ROCK", _rock), ("ROCK", _zone_files), ("BENCHES", _benches), ("SLOPES", _slopes),
-             ("SLOPES", _contacts), ("SIDES", _sides), ("DESTINATIONS", _destinations), ("BEST FOR", _best_for),
+             ("SIDES", _sides), ("DESTINATIONS", _destinations), ("BEST FOR", _best_for),
              ("RESOURCES", _resources), ("RESOURCES", _limits), ("FILES", _files)]
+    return [Finding(part, told) for part, find in parts for told in find(facts)]
+
+
+def notes(facts: Facts) -> list[Finding]:
+    """What is no mistake and has to be known, in the same order."""
+    parts = [("ROCK", _density), ("SLOPES", lambda facts: facts.slopes.notes), ("BEST FOR", _little_used), ("FILES", _note)]
     return [Finding(part, told) for part, find in parts for told in find(facts)]
 
 
@@ -78,9 +80,8 @@ def _rock(facts: Facts) -> Iterator[str]:
         yield f"{_count(facts.unlikely, 'block')} have less than 0.5 or more than 10 t/m3: are these tonnes, of whole blocks?"
     elif whole.solid and (whole.mean_density < 1.5 or whole.mean_density > 5):
         yield f"rock has {whole.mean_density:.2f} t/m3, and most has 1.5 to 5: are these tonnes?"
-    if whole.solid > 10 and whole.most - whole.least < 1e-6:
-        yield f"all blocks have {whole.least:.3f} t/m3: is there a density by rock?"
-    light = (facts.blocks.tonnes > 0) & (facts.blocks.tonnes < 0.6 * facts.volume * whole.mean_density)
+    # At the ground a block is rock in part.
+    light = (facts.blocks.tonnes > 0) & (facts.blocks.tonnes < 0.6 * facts.volume * whole.mean_density) & (facts.blocks.z < facts.top_of)
     if not facts.unlikely and light.sum() > 0.01 * len(facts):
         yield f"{_count(light.sum(), 'block')} have less than 0.6 of the mean t/m3: are tonnes those of a part of the block alone?"
     graded = (facts.blocks.tonnes == 0) & (facts.blocks.grade > 0)
@@ -89,23 +90,31 @@ def _rock(facts: Facts) -> Iterator[str]:
     yield from _grades(facts)
 
 
+def _density(facts: Facts) -> Iterator[str]:
+    whole = facts.of_all
+    if whole.solid and 1.5 <= whole.mean_density < 2:
+        yield (f"rock has {whole.mean_density:.2f} t/m3, and most has 2 to 5: is it loose rock, or are blocks of another height than the grid's?")
+    if whole.solid > 10 and whole.most - whole.least < 1e-6:
+        yield f"all blocks have {whole.least:.3f} t/m3: is there a density by rock?"
+
+
 def _grades(facts: Facts) -> Iterator[str]:
-    whole, grade = facts.of_all, facts.blocks.grade
+    whole, grade, told = facts.of_all, facts.blocks.grade, facts.grade_told
     if whole.top_grade == 0:
         yield "no block has a grade"
         return
     ends = [one.break_even for one in facts.plan.destinations if one.break_even is not None]
     if ends and whole.grade > 30 * min(ends):
-        yield (f"the mean grade, {whole.grade:.4g} g/t, is {with_commas(whole.grade / min(ends))} times the one that pays, {min(ends):.4g}: "
+        yield (f"the mean grade, {told(whole.grade)}, is {with_commas(whole.grade / min(ends))} times the one that pays, {told(min(ends))}: "
                "are grades in parts a billion, or a cost or a price in another unit?")
     rich = [zone.grade for zone in facts.of_zone if zone.grade > 0]
     if len(rich) > 1 and max(rich) >= 100 * min(rich):
-        yield f"the mean grades of zones are {min(rich):.4g} to {max(rich):.4g} g/t, a hundredfold apart: do all have one unit?"
+        yield f"the mean grades of zones are {told(min(rich))} to {told(max(rich))}, a hundredfold apart: do all have one unit?"
     if whole.top_grade > 200 * max(whole.grade, 1e-12):
-        yield f"the highest grade, {whole.top_grade:.4g} g/t, is {with_commas(whole.top_grade / whole.grade)} times the mean: was it cut?"
+        yield f"the highest grade, {told(whole.top_grade)}, is {with_commas(whole.top_grade / whole.grade)} times the mean: was it cut?"
     least = float(grade.min())
     if least > 0.05 * whole.grade and len(facts) > 10:
-        yield f"no block has less than {least:.4g} g/t: was rock without a grade, or below a cut-off, left out?"
+        yield f"no block has less than {told(least)}: was rock without a grade, or below a cut-off, left out?"
     ratios = np.unique(grade)
     if len(ratios) < 0.02 * len(facts) and len(facts) > 200:
         yield f"blocks have {len(ratios)} different grades alone: are these grades, or classes of them?"
@@ -114,16 +123,30 @@ def _grades(facts: Facts) -> Iterator[str]:
 def _zone_files(facts: Facts) -> Iterator[str]:
     for zone, rock in enumerate(facts.of_zone):
         if rock.rows == 0:
-            yield f"zone {zone} has no blocks"
+            yield f"zone {facts.zone_names[zone]} has no blocks"
     for zone, (file, rock) in enumerate(zip(facts.zone_files, facts.of_zone)):
         if file.lines != rock.rows:
-            yield f"{file.name} has {with_commas(file.lines)} lines, and zone {zone} {with_commas(rock.rows)} rows: is it another file, or is a quote open?"
+            yield f"{file.name} has {with_commas(file.lines)} lines, and zone {facts.zone_names[zone]} {with_commas(rock.rows)} rows: is it another file, or is a quote open?"
     if facts.zone_files and len(facts.zone_files) != len(facts.plan.zones):
         yield f"{len(facts.zone_files)} zone files stand beside {len(facts.plan.zones)} zones of the plan"
     names = [file.name for file in facts.zone_files]
     slopes = {str(zone) for zone in facts.plan.zones}
-    if len(names) > 1 and names == sorted(names) and len(slopes) > 1:
+    if facts.note.zones:
+        yield from _files_of_the_note(facts)
+    elif len(names) > 1 and names == sorted(names) and len(slopes) > 1:
         yield f"zone files are in alphabetical order, {', '.join(names)}: is it that of the plan's `zone` records?"
+
+
+def _files_of_the_note(facts: Facts) -> Iterator[str]:
+    """Findings of zone files that are not those for which `plan` wrote the zones."""
+    wanted = [zone.file for zone in facts.note.zones]
+    names = [file.name for file in facts.zone_files]
+    if names and names != wanted:
+        yield f"zone files are {', '.join(names)}, and those of the plan {', '.join(wanted)}: each zone has the slopes of its record"
+        return
+    for zone, file in zip(facts.note.zones, facts.zone_files):
+        if file.sum and file.sum != zone.sum:
+            yield f"{file.name} is not the file that it was when `plan` was called"
 
 
 def _benches(facts: Facts) -> Iterator[str]:
@@ -154,33 +177,12 @@ def _is_cut_on_top(facts: Facts) -> bool:
 
 
 def _slopes(facts: Facts) -> Iterator[str]:
-    from pit_tools import walls as wall
-
-    benches = facts.axes[2].most - facts.axes[2].least + 1
     for number, zone in enumerate(facts.plan.zones):
         angles = [np.degrees(np.arctan(slope.tangent)) for slope in zone.slopes]
         if max(angles) > 75 or min(angles) < 20:
-            yield (f"zone {number} asks {min(angles):.1f} to {max(angles):.1f} degrees: a `zone` record has rise, run and then K; "
+            yield (f"zone {facts.zone_names[number]} asks {min(angles):.1f} to {max(angles):.1f} degrees: a `zone` record has rise, run and then K; "
                    "45 degrees are 1,1")
-        walls = wall.measured(facts.plan.grid, zone)
-        if walls.too_steep[zone.benches] > TOO_STEEP and benches > zone.benches:
-            first = walls.first_within(TOO_STEEP)
-            better = f"K = {first} is the first within {TOO_STEEP:g}" if first else f"no K is within {TOO_STEEP:g}: take smaller blocks or a flatter slope"
-            yield f"zone {number}: K = {zone.benches} gives walls up to {walls.too_steep[zone.benches]:.1f} degrees too steep; {better}"
-        low = max(1, benches - 2)
-        high = max(wall.too_steep_at(facts.plan.grid, zone, height) for height in range(low, benches + 1))
-        if high > max(TOO_STEEP, walls.too_steep[zone.benches] + 0.5):
-            yield (f"zone {number}: walls of {low} to {benches} benches, as high as the model, are up to {high:.1f} degrees too steep, "
-                   "since blocks are whole; lower ones are more so")
-
-
-def _contacts(facts: Facts) -> Iterator[str]:
-    for (zone, other), count in facts.below_steeper.items():
-        yield f"zone {zone} lies below zone {other}, which is steeper, and {_count(count, 'cone')} of it go on through that: walls are too flat there"
-    for (zone, other), count in facts.beside_steeper.items():
-        if (zone, other) not in facts.below_steeper:
-            yield (f"zone {zone} lies beside zone {other}, which is steeper, and {_count(count, 'cone')} of it go into that: "
-                   "walls are too flat there; a sector of azimuth is a side of one zone")
+    yield from facts.slopes.look_at
 
 
 def _sides(facts: Facts) -> Iterator[str]:
@@ -195,9 +197,9 @@ def _sides(facts: Facts) -> Iterator[str]:
     at_side = np.any([taken & pit for taken in facts.at_side().values()], axis=0).sum()
     if at_side:
         yield f"{with_commas(at_side)} of the {_count(pit.sum(), 'block')} of the pit are at a side of the model"
-    bottom = (pit & (facts.blocks.z == facts.axes[2].least)).sum()
+    bottom = (pit & (facts.blocks.z == facts.floor_of)).sum()
     if bottom:
-        yield f"the pit reaches the lowest bench with {_count(bottom, 'block')}: does the ore go on below the model?"
+        yield f"the pit reaches the lowest rock of {_count(bottom, 'column')}: does the ore go on below the model?"
 
 
 def _destinations(facts: Facts) -> Iterator[str]:
@@ -205,10 +207,10 @@ def _destinations(facts: Facts) -> Iterator[str]:
     dumps = [one for one in plan.destinations if one.kind == "dump"]
     if not dumps:
         cheapest = min(plan.destinations, key=lambda one: one.cost)
-        yield f"there is no dump: waste goes to {cheapest.name}, for {cheapest.cost / 100:.2f} a tonne"
+        yield f"there is no dump: waste goes to {cheapest.name}, for {facts.cost_told(cheapest.cost)} a tonne"
     prices = {one.price for one in plan.destinations if one.bands}
     if len(prices) > 1:
-        yield f"the price of metal differs by destination: {', '.join(with_commas(price / 100, 2) for price in sorted(prices))} a kilogram"
+        yield f"the price of metal differs by destination: {', '.join(facts.cost_told(price) for price in sorted(prices))} a kilogram"
     for one in plan.destinations:
         shares = [share for _, share in one.bands]
         if shares and max(shares) >= 1000:
@@ -218,7 +220,7 @@ def _destinations(facts: Facts) -> Iterator[str]:
         if one.cost == 0:
             yield f"a tonne costs nothing at {one.name}"
         if one.bands and dumps and one.cost <= min(dump.cost for dump in dumps):
-            yield (f"a tonne costs {one.cost / 100:.2f} at {one.name}, no more than at {min(dumps, key=lambda d: d.cost).name}: "
+            yield (f"a tonne costs {facts.cost_told(one.cost)} at {one.name}, no more than at {min(dumps, key=lambda d: d.cost).name}: "
                    "a cost is in cents a tonne, with mining and haulage")
         yield from _what_pays(facts, one)
 
@@ -231,10 +233,10 @@ def _what_pays(facts: Facts, one) -> Iterator[str]:
     if one.break_even is None:
         yield f"{one.name} pays at no grade"
     elif one.break_even > top > 0:
-        yield f"{one.name} pays from {one.break_even:.4g} g/t, and the highest grade is {top:.4g}: look at the units of price, cost and grade"
+        yield f"{one.name} pays from {facts.grade_told(one.break_even)}, and the highest grade is {facts.grade_told(top)}: look at the units of price, cost and grade"
     starts = [float(start) for start, _ in one.bands[1 if one.bands[0][0] == 0 else 0:]]
     if starts and max(starts) > top > 0:
-        yield f"a band of {one.name} begins at {max(starts):g} g/t, above the highest grade, {top:.4g}: pairs are a start and a recovery"
+        yield f"a band of {one.name} begins at {facts.grade_told(max(starts))}, above the highest grade, {facts.grade_told(top)}: pairs are a start and a recovery"
     shares = [share for _, share in one.bands]
     if shares != sorted(shares):
         yield f"{one.name} recovers less of richer rock: {', '.join(f'{share / 10:g} %' for share in shares)}"
@@ -249,9 +251,18 @@ def _best_for(facts: Facts) -> Iterator[str]:
         yield "no block is worth more than 0: look at the units of grade, price and cost"
     elif facts.paying.mean() > 0.8:
         yield f"{with_commas(facts.paying.sum())} of {with_commas(len(facts))} blocks are worth more than 0: look at units, and whether waste is there"
-    for one, name in zip(range(len(rows)), [d.name for d in facts.plan.destinations]):
-        if facts.plan.destinations[one].kind == "leach" and 0 < rows[one] < 0.005 * len(facts) and facts.paying.any():
-            yield f"{name} is best for {_count(int(rows[one]), 'block')} alone"
+
+
+def _little_used(facts: Facts) -> Iterator[str]:
+    rows = np.bincount(facts.best, minlength=len(facts.plan.destinations))
+    for one, count in zip(facts.plan.destinations, rows):
+        if one.kind == "leach" and 0 < count < 0.005 * len(facts):
+            yield f"{one.name} is best for {_count(int(count), 'block')} alone"
+
+
+def _note(facts: Facts) -> Iterator[str]:
+    if facts.note.why_not:
+        yield facts.note.why_not
 
 
 def _resources(facts: Facts) -> Iterator[str]:

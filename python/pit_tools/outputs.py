@@ -34,6 +34,7 @@ from pit_tools.errors import UserError
 KINDS = {
     "zone file": rb"x,y,z,tonnes,grade(,rock)?\r?\n",
     "record of an import": rb'\{\s*"tool": "pit-tools ',
+    "note of a plan": rb'\{\s*"tool": "pit-tools ',
     "plan": rb"name,",
     "list": rb"\S+\.plan( |\n)",
     "blocks": rb"(%|\d+( \d+){3} )",

@@ -2,7 +2,7 @@
 from __future__ import annotations
 
 import io
-from typing import Optional, Sequence
+from typing import NamedTuple, Optional, Sequence
 
 import numpy as np
 from matplotlib.backends.backend_agg import FigureCanvasAgg
@@ -12,6 +12,7 @@ from matplotlib.figure import Figure
 from matplotlib.patches import Patch
 
 from pit_tools import walls as wall
+from pit_tools.errors import UserError
 from pit_tools.look_at import tonnes_covered
 from pit_tools.spelling import shortest
 from pit_tools.survey_facts import Facts
@@ -55,10 +56,18 @@ def round_numbers(top: float, many: int = 5) -> np.ndarray:
 
 
 def grade_ends(facts: Facts) -> np.ndarray:
-    """The least grades of the shades, g/t: 0, and round numbers up to the richest rock."""
-    graded = facts.blocks.grade[facts.blocks.grade > 0]
-    top = float(np.percentile(graded, 99.5)) if len(graded) else 1.0
-    return round_numbers(top * 0.85, len(GRADE_COLOURS) - 1)
+    """The least grades of the shades, in the unit in which they are told: 0; the least that pays, so that the first shade is what pays
+    nowhere; and round numbers above it up to the richest rock."""
+    graded = facts.measures.grade(facts.blocks.grade[facts.blocks.grade > 0])
+    top = (float(np.percentile(graded, 99.5)) if len(graded) else 1.0) * 0.85
+    pays = [facts.measures.grade(one.break_even) for one in facts.plan.destinations if one.break_even]
+    if not pays or min(pays) >= top:
+        return round_numbers(top, len(GRADE_COLOURS) - 1)
+    least = float(f"{min(pays):.3g}")
+    above = round_numbers(top, 12)
+    above = above[above > 1.05 * least]
+    taken = np.unique(np.linspace(0, len(above) - 1, len(GRADE_COLOURS) - 2).round().astype(int))
+    return np.array([0, least, *above[taken]])
 
 
 def _extent(facts: Facts, across: int, up: int) -> tuple[float, float, float, float]:
@@ -164,6 +173,23 @@ PLANES = {"y": (1, 0, 2, "section along x at y = {} m, seen from the south"), "x
           "z": (2, 0, 1, "bench at z = {} m, from above")}
 
 
+class Plane(NamedTuple):
+    """A plane of blocks: the axis across which it lies, and its index."""
+
+    normal: str
+    index: int
+
+
+def plane_at(facts: Facts, normal: str, metres: float) -> Plane:
+    """The plane of blocks nearest to a coordinate. It raises UserError where no block lies there."""
+    number = PLANES[normal][0]
+    index = round((metres - facts.origin[number]) / facts.metres[number])
+    if not (facts.indices(number) == index).any():
+        ends = (facts.centroid(number, end) for end in (facts.axes[number].least, facts.axes[number].most))
+        raise UserError("no block lies at {} = {:g} m: they lie from {:g} to {:g} m".format(normal, metres, *ends))
+    return Plane(normal, index)
+
+
 def draw_plane(facts: Facts, axes, normal: str, index: int, what: str = "grade",
                pits: Sequence[tuple[np.ndarray, str, str]] = ()) -> None:
     """Draws the blocks of a plane by grade or by zone, and the outlines of pits: (bool (n,), colour, style)."""
@@ -175,8 +201,8 @@ def draw_plane(facts: Facts, axes, normal: str, index: int, what: str = "grade",
     has_rock[rows, columns] = True
     if what == "grade":
         ends = grade_ends(facts)
-        cells[rows, columns] = facts.blocks.grade[taken]
-        colours, norm = ListedColormap(list(GRADE_COLOURS)), BoundaryNorm([*ends, 1e9], len(GRADE_COLOURS))
+        cells[rows, columns] = facts.measures.grade(facts.blocks.grade[taken])
+        colours, norm = ListedColormap(list(GRADE_COLOURS[:len(ends)])), BoundaryNorm([*ends, 1e9], len(ends))
     else:
         cells[rows, columns] = facts.blocks.zone[taken]
         count = len(facts.plan.zones)
@@ -193,13 +219,19 @@ def draw_plane(facts: Facts, axes, normal: str, index: int, what: str = "grade",
 def grade_legend(facts: Facts) -> list[Patch]:
     """The shades of grades."""
     ends = [shortest(end, 4) for end in grade_ends(facts)]
-    names = [f"{low} to {high}" for low, high in zip(ends, ends[1:])] + [f"{ends[-1]} g/t and more"]
+    names = [f"{low} to {high}" for low, high in zip(ends, ends[1:])] + [f"{ends[-1]} {facts.measures.grade_unit} and more"]
+    if any(one.break_even for one in facts.plan.destinations):
+        names[0] += ": pays nowhere"
     return [Patch(facecolor=colour, edgecolor="#999999", linewidth=0.5, label=name) for colour, name in zip(GRADE_COLOURS, names)]
 
 
 def zone_legend(facts: Facts) -> list[Patch]:
-    names = [f"zone {zone}" + (f", {facts.zone_files[zone].name}" if zone < len(facts.zone_files) else "") for zone in range(len(facts.plan.zones))]
-    return [Patch(facecolor=zone_colour(zone), label=name) for zone, name in enumerate(names[:10])]
+    return [Patch(facecolor=zone_colour(zone), label=zone_label(facts, zone)) for zone in range(min(10, len(facts.plan.zones)))]
+
+
+def zone_label(facts: Facts, zone: int) -> str:
+    """A zone by its name, as pictures have it."""
+    return f"zone {facts.zone_names[zone]}".replace("$", r"\$")
 
 
 def plane_heights(facts: Facts, normals: Sequence[str], wide: float) -> list[float]:
@@ -213,20 +245,21 @@ def plane_heights(facts: Facts, normals: Sequence[str], wide: float) -> list[flo
     return found
 
 
-def planes(facts: Facts) -> Figure:
-    """Sections along x and y and a bench, through most metal, by grade and by zone, with the pit."""
-    heights = plane_heights(facts, "yxz", 5.8)
-    drawn = figure(13, 0.4 + sum(heights) + 3 * 0.85)
-    legends, *rows = drawn.subplots(4, 2, gridspec_kw={"height_ratios": [0.25, *heights]})
-    for axes, handles, columns in zip(legends, (grade_legend(facts), zone_legend(facts)), (6, 3)):
+def planes(facts: Facts, asked: Sequence[Plane] = ()) -> Figure:
+    """Sections and benches by grade and by zone, with the pit: those that are asked for, or one along x, one along y and a bench
+    through most metal."""
+    shown = list(asked) or [Plane(normal, richest(facts, PLANES[normal][0])) for normal in "yxz"]
+    heights = plane_heights(facts, [plane.normal for plane in shown], 5.8)
+    drawn = figure(13, 0.6 + sum(heights) + len(shown) * 0.85)
+    legends, *rows = drawn.subplots(len(shown) + 1, 2, gridspec_kw={"height_ratios": [0.45, *heights]})
+    for axes, handles in zip(legends, (grade_legend(facts), zone_legend(facts))):
         axes.set_axis_off()
-        axes.legend(handles=handles, ncol=columns, fontsize=8, loc="center left", bbox_to_anchor=(0, 0.5), frameon=False,
+        axes.legend(handles=handles, ncol=3, fontsize=8, loc="center left", bbox_to_anchor=(0, 0.5), frameon=False,
                     columnspacing=1.2, handletextpad=0.5, borderaxespad=0).set_in_layout(False)
     pits = [] if facts.pit is None else [(facts.pit, OUTLINE, "-")]
-    for (by_grade, by_zone), normal in zip(rows, "yxz"):
-        index = richest(facts, PLANES[normal][0])
-        draw_plane(facts, by_grade, normal, index, "grade", pits)
-        draw_plane(facts, by_zone, normal, index, "zone", pits)
+    for (by_grade, by_zone), plane in zip(rows, shown):
+        draw_plane(facts, by_grade, *plane, "grade", pits)
+        draw_plane(facts, by_zone, *plane, "zone", pits)
     return drawn
 
 
@@ -234,25 +267,26 @@ def grade_tonnage(facts: Facts) -> Figure:
     """Tonnes and mean grade above each cut-off, by zone."""
     drawn = figure(13, 4.4)
     tonnes_axes, grade_axes = drawn.subplots(1, 2)
-    cuts = np.linspace(0, max(facts.of_all.top_grade, 1e-9), 120)
-    groups = [(f"zone {zone}", zone_colour(zone), facts.blocks.zone == zone) for zone in range(min(10, len(facts.plan.zones)))]
+    cuts, unit = np.linspace(0, max(facts.measures.grade(facts.of_all.top_grade), 1e-9), 120), facts.measures.grade_unit
+    groups = [(zone_label(facts, zone), zone_colour(zone), facts.blocks.zone == zone) for zone in range(min(10, len(facts.plan.zones)))]
     for name, colour, taken in [*groups, ("all", "#000000", None)]:
         tonnes, metal = above_cut_offs(facts, cuts, taken)
         style = dict(color=colour, label=name, linewidth=2 if taken is None else 1.4)
         tonnes_axes.plot(cuts, tonnes / 1e6, **style)
         some = tonnes > 0
-        grade_axes.plot(cuts[some], 1000 * metal[some] / tonnes[some], **style)
+        grade_axes.plot(cuts[some], facts.measures.grade(1000 * metal[some] / tonnes[some]), **style)
     for axes in (tonnes_axes, grade_axes):
         for number, one in enumerate(facts.plan.destinations):
-            if one.break_even is not None and one.break_even < cuts[-1]:
-                axes.axvline(one.break_even, color="#888888", linewidth=0.8, linestyle=":")
-                axes.annotate(f"{one.name} pays", (one.break_even, 1 - 0.2 * number), xycoords=("data", "axes fraction"), fontsize=7, rotation=90,
+            even = None if one.break_even is None else facts.measures.grade(one.break_even)
+            if even is not None and even < cuts[-1]:
+                axes.axvline(even, color="#888888", linewidth=0.8, linestyle=":")
+                axes.annotate(f"{one.name} pays", (even, 1 - 0.2 * number), xycoords=("data", "axes fraction"), fontsize=7, rotation=90,
                               va="top", ha="right", color="#666666")
-        axes.set_xlabel("cut-off, g/t")
+        axes.set_xlabel(f"cut-off, {unit}")
         axes.legend(fontsize=8)
         axes.grid(alpha=0.3)
     tonnes_axes.set_title("million tonnes at and above the cut-off", loc="left", fontsize=10)
-    grade_axes.set_title("mean grade of these, g/t", loc="left", fontsize=10)
+    grade_axes.set_title(f"mean grade of these, {unit}", loc="left", fontsize=10)
     return drawn
 
 
@@ -274,7 +308,7 @@ def rose(facts: Facts) -> Figure:
         axes.set_rlim(0, 90)
         axes.set_rgrids([30, 45, 60, 90], ["30", "45", "60", "90"], fontsize=7)
         axes.set_thetagrids(wall.EIGHT, wall.EIGHT_NAMES, fontsize=8)
-        axes.set_title(f"zone {number}: degrees", fontsize=10, pad=14)
+        axes.set_title(f"{zone_label(facts, number)}: degrees", fontsize=10, pad=14)
         axes.legend(fontsize=7, loc="lower center", bbox_to_anchor=(0.5, -0.34))
     axes = drawn.add_subplot(1, len(zones) + 1, len(zones) + 1)
     _draw_heights(facts, axes)
@@ -285,14 +319,14 @@ def _draw_heights(facts: Facts, axes) -> None:
     high = np.arange(3, 61)
     for number, zone in enumerate(facts.plan.zones[:10]):
         over = (wall.straight_walls(facts.plan.grid, zone, zone.benches, 60) - wall.asked_straight(zone)).max(axis=1)
-        axes.plot(high, over[high - 1], color=zone_colour(number), label=f"zone {number}, K = {zone.benches}")
+        axes.plot(high, over[high - 1], color=zone_colour(number), label=f"{zone_label(facts, number)}, K = {zone.benches}")
     axes.axhline(2, color="#888888", linewidth=0.8, linestyle=":")
-    benches = facts.axes[2].most - facts.axes[2].least + 1
+    benches = facts.axes[2].most - facts.axes[2].least
     if benches <= 60:
         axes.axvline(benches, color="#888888", linewidth=0.8, linestyle=":")
         axes.annotate("this model", (benches, 1), xycoords=("data", "axes fraction"), fontsize=7, rotation=90, va="top", ha="right", color="#666666")
     axes.set_ylim(bottom=0)
-    axes.set_xlabel("height of a wall, benches")
+    axes.set_xlabel("benches that a wall rises")
     axes.set_title("degrees too steep, worst bearing", loc="left", fontsize=10)
     axes.legend(fontsize=7)
     axes.grid(alpha=0.3)
@@ -336,13 +370,15 @@ def rock(facts: Facts) -> Figure:
     for zone in range(len(facts.plan.zones)):
         taken = facts.blocks.zone == zone
         tonnes = np.bincount(facts.best[taken], facts.blocks.tonnes[taken], len(names)) / 1e6
-        destinations.bar(names, tonnes, bottom=base, color=zone_colour(zone), label=f"zone {zone}")
+        destinations.bar(names, tonnes, bottom=base, color=zone_colour(zone), label=zone_label(facts, zone))
         base += tonnes
     destinations.set_title("million t that are best for a destination, by zone", loc="left", fontsize=10)
     destinations.legend(fontsize=8)
     solid = facts.blocks.tonnes > 0
     values = [facts.blocks.tonnes[solid & (facts.blocks.zone == zone)] / facts.volume for zone in range(len(facts.plan.zones))]
-    density.hist(values, bins=40, stacked=True, color=[zone_colour(zone) for zone in range(len(values))])
+    names = [zone_label(facts, zone) for zone in range(len(values))]
+    density.hist(values, bins=40, stacked=True, color=[zone_colour(zone) for zone in range(len(values))], label=names)
+    density.legend(fontsize=8)
     density.set_title("blocks by tonnes a cubic metre", loc="left", fontsize=10)
     density.set_xlabel("t/m3")
     return drawn
@@ -363,13 +399,15 @@ def _draw_benches(facts: Facts, axes) -> None:
     axes.legend(fontsize=8)
 
 
-def all_of_them(facts: Facts) -> list[tuple[str, str, Figure]]:
-    """The pictures of a survey: a short name, what to look for, and the figure."""
+def all_of_them(facts: Facts, asked: Sequence[Plane] = ()) -> list[tuple[str, str, Figure]]:
+    """The pictures of a survey: a short name, what to look for, and the figure; sections that were asked for have one of their own."""
+    more = [("more-sections", "Those that were asked for.", planes(facts, asked))] if asked else []
     return [
         ("maps", "Is north up, and the ore where it is in the package? A model that is mirrored, turned or cut shows here. "
                  "Where the floor is framed in red the pit ends at a side of the model, and its wall costs nothing.", maps(facts)),
         ("sections", "Through the planes that hold most metal; the line is the ultimate pit. Look for air as rock, "
                      "rows that are lacking, zones in each other's place.", planes(facts)),
+        *more,
         ("cut-offs", "Lay the curve beside the report of resources.", grade_tonnage(facts)),
         ("slopes", "Green is asked, red is what the cones of K give. Each wall of the rose has its own slope: "
                    "is each where it should be?", rose(facts)),

@@ -8,6 +8,7 @@ import numpy as np
 from pit_tools import outputs
 from pit_tools.errors import UserError
 from pit_tools.instance import Blocks, cents
+from pit_tools.plan_note import PlanNote
 
 
 def read_pit(path: str, blocks: Optional[int] = None) -> np.ndarray:
@@ -36,10 +37,8 @@ def write_pit(in_pit: np.ndarray, path: str) -> None:
         np.savetxt(file, np.flatnonzero(in_pit), fmt="%d")
 
 
-def told(in_pit: np.ndarray, blocks: Blocks, values: np.ndarray) -> str:
-    """What a pit, bool (n,), holds and is worth, in a line."""
+def told(in_pit: np.ndarray, blocks: Blocks, values: np.ndarray, note: PlanNote = PlanNote()) -> str:
+    """What a pit, bool (n,), holds and is worth, in a line, in the currency of a plan's note."""
     worth = int(cents(values)[in_pit].sum())
     kilograms = int(np.rint(blocks.tonnes[in_pit] * 1000).astype(np.int64).sum())
-    sign = "-" if worth < 0 else ""
-    return f"{in_pit.sum()} blocks, {kilograms // 1000}.{kilograms % 1000:03d} t, " \
-           f"worth {sign}{abs(worth) // 100}.{abs(worth) % 100:02d}"
+    return f"{in_pit.sum()} blocks, {kilograms // 1000}.{kilograms % 1000:03d} t, worth {note.money_told(worth)}"

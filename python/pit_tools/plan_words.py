@@ -7,13 +7,14 @@ from __future__ import annotations
 import re
 from dataclasses import dataclass, field
 from decimal import ROUND_HALF_UP, Decimal
-from typing import Optional, Sequence
+from typing import Callable, Optional, Sequence
 
+from pit_tools.contacts import Contacts
 from pit_tools.decimals import decimal_of, plain
 from pit_tools.errors import UserError
 from pit_tools.plan_file import (NAME, Destination, Grid, Limit, Plan, Resource, Slope, Zone, destination_record, zone_record)
-from pit_tools.slope_words import SIDE_NAMES, advice, degrees_of, slope_of, slopes_of
-from pit_tools.units import GRADES, POUND, SHORT_TON, TROY_OUNCE, factor_of, plain_name
+from pit_tools.slope_words import K_for, degrees_of, judge, slope_of, slopes_of
+from pit_tools.units import GRADES, POUND, SHORT_TON, TROY_OUNCE, Measures, factor_of, is_money_a_tonne, plain_name
 
 # Kilograms of metal, by the unit behind the stroke of a price.
 METALS = {"oz": TROY_OUNCE / 1000, "g": Decimal("0.001"), "kg": Decimal(1), "lb": POUND, "t": Decimal(1000), "st": SHORT_TON * 1000}
@@ -32,16 +33,19 @@ MOST_PRICE, MOST_COST = 10 ** 8, 10 ** 7
 
 @dataclass
 class Told:
-    """The records of a plan, each with what it says, and what to look at."""
+    """The records of a plan, each with what it says, what to look at, and what else is to be known."""
 
     lines: list[tuple[str, str]] = field(default_factory=list)
     doubts: list[str] = field(default_factory=list)
+    notes: list[str] = field(default_factory=list)
+    measures: Measures = Measures()
 
     def text(self) -> str:
         width = min(44, max(len(record) for record, _ in self.lines))
         lines = [f"{record:{width}}  {said}" for record, said in self.lines]
-        if self.doubts:
-            lines += ["", "LOOK AT"] + [f"- {doubt}" for doubt in self.doubts]
+        for head, told in (("LOOK AT", self.doubts), ("NOTE", self.notes)):
+            if told:
+                lines += ["", head] + [f"- {line}" for line in told]
         return "\n".join(lines)
 
 
@@ -74,14 +78,30 @@ def share_of(text: str, what: str) -> Decimal:
     return amount.value * 10
 
 
-def _money_by(text: str, units: dict[str, Decimal], what: str, like: str) -> tuple[Decimal, str]:
-    """Money for one of these units: units of money, and the unit."""
+def _money_by(text: str, units: dict[str, Decimal], what: str, like: str, purse: Purse) -> Decimal:
+    """Money for one of these units, of the purse's currency."""
     amount = amount_of(text, what)
     money, stroke, by = amount.unit.partition("/")
     unit = plain_name(by)
     if not stroke or not money or unit not in units:
         raise UserError(f"{what}: `{text.strip()}`: say for what, as {like}; known are {', '.join(units)}")
-    return amount.value / units[unit], money
+    purse.take(money, what)
+    return amount.value / units[unit]
+
+
+@dataclass
+class Purse:
+    """The one currency of a plan, and the word that named it first."""
+
+    currency: str = ""
+    named_by: str = ""
+
+    def take(self, money: str, what: str) -> None:
+        """Raises UserError for a currency that is another."""
+        if not self.currency:
+            self.currency, self.named_by = money, what
+        elif money.casefold() != self.currency.casefold():
+            raise UserError(f"{what} is in {money}, and {self.named_by} in {self.currency}: a plan has one currency")
 
 
 @dataclass
@@ -92,10 +112,10 @@ class Price:
     said: str
 
 
-def price_of(text: str, parts: int) -> Price:
+def price_of(text: str, parts: int, purse: Purse) -> Price:
     """A price of metal: `1804 USD/oz`, with `payable 99.5 %`, `royalty 3 %` and `selling 45 USD/oz` behind commas."""
     first, *rest = _parts(text) or [""]
-    net, money = _money_by(first, METALS, "--price", "1804 USD/oz")
+    net = _money_by(first, METALS, "--price", "1804 USD/oz", purse)
     said = first
     for part in rest:
         word, _, value = part.partition(" ")
@@ -104,7 +124,7 @@ def price_of(text: str, parts: int) -> Price:
         elif word == "royalty":
             net *= 1 - share_of(value, "royalty") / 1000
         elif word == "selling":
-            net -= _money_by(value, METALS, "selling", "45 USD/oz")[0]
+            net -= _money_by(value, METALS, "--price: selling", "45 USD/oz", purse)
         else:
             raise UserError(f"--price: `{part}`: there are payable, royalty and selling")
         said += f", {part}"
@@ -119,9 +139,9 @@ def price_of(text: str, parts: int) -> Price:
     return Price(whole, f"{said} is {whole:,} {unit} a kilogram of metal")
 
 
-def cost_of(text: str, mining: Decimal, parts: int, what: str) -> tuple[int, str]:
+def cost_of(text: str, mining: Decimal, parts: int, what: str, purse: Purse) -> tuple[int, str]:
     """A cost for a tonne of rock, in parts of a cent, with that of mining, in units of money, and how it comes."""
-    cost, _ = _money_by(text, ROCKS, what, "16.50 USD/t")
+    cost = _money_by(text, ROCKS, what, "16.50 USD/t", purse)
     cents = (cost + mining) * 100 * parts
     whole = int(cents.quantize(Decimal(1), rounding=ROUND_HALF_UP))
     if not 0 <= whole <= MOST_COST:
@@ -151,12 +171,13 @@ def _named(text: str, kind: str) -> tuple[str, list[str]]:
 
 @dataclass
 class Spoken:
-    """The words of a plan; lists may have several. Empty ones are not said. `K_of` has the K of zones that are so many benches below
-    another, and `x_bearing` says where the model's +x points, degrees clockwise from north."""
+    """The words of a plan; lists may have several. Empty ones are not said. `grade_unit` is that in which grades are told: where it is
+    money a tonne, they are net smelter returns. `K_of` has the K of zones that are so many benches below another, and `x_bearing` says
+    where the model's +x points, degrees clockwise from north."""
 
     name: str = "mine"
     price: str = ""
-    is_return: bool = False
+    grade_unit: str = "g/t"
     mining: str = ""
     mill: Sequence[str] = ()
     leach: Sequence[str] = ()
@@ -164,33 +185,43 @@ class Spoken:
     slope: Sequence[str] = ()
     K: Optional[int] = None
     benches: int = 0
-    periods: str = "1 year"
-    rate: str = "8 %"
+    periods: str = ""
+    rate: str = ""
     limit: Sequence[str] = ()
     parts: int = 1
     x_bearing: float = 90.0
     K_of: dict[str, int] = field(default_factory=dict)
 
+    @property
+    def is_return(self) -> bool:
+        return is_money_a_tonne(self.grade_unit)
 
-def plan_from(words: Spoken, grid: Grid, zones: Sequence[str], benches: int) -> tuple[Plan, Told]:
-    """A plan of these words for a grid, its zones by name, and the benches of the model. It raises UserError for a word that it does
-    not understand or that is out of the range of a plan."""
+
+def plan_from(words: Spoken, grid: Grid, zones: Sequence[str], benches: int,
+              contacts: Callable[[Sequence[Zone]], Contacts] = lambda zones: Contacts()) -> tuple[Plan, Told]:
+    """A plan of these words for a grid, its zones by name, and the benches of the model; `contacts` finds where zones of unlike slopes
+    meet. It raises UserError for a word that it does not understand or that is out of the range of a plan."""
     told = Told()
     if not NAME.fullmatch(words.name):
         raise UserError(f"--name: `{words.name}` has letters, digits, `_`, `-` and `.` alone")
     told.lines.append((f"name,{words.name}", "the name of the instance"))
     cells = ",".join(plain(value) for value in (*grid.origin, *grid.size))
     told.lines.append((f"grid,{cells}", "the centroid of block 0 0 0, and the size of a block, in metres"))
-    records = _zones(words, grid, zones, benches, told)
+    records = _zones(words, zones, benches, told)
     destinations = _Destinations(words, told).all()
-    periods, in_year = _periods(words.periods, told)
-    rate = _rate(words.rate, in_year, told)
+    periods, in_year = _periods(words.periods or "1 year", told)
+    rate = _rate(words.rate or "8 %", in_year, told)
+    told.notes += [f"{word} was not given: {taken} is taken" for word, said, taken in
+                   (("--periods", words.periods, "1 year"), ("--rate", words.rate, "8 % a year")) if not said]
     resources, limits = _limits(words.limit, destinations, periods, in_year, told)
     _doubts(destinations, told)
+    judged = judge(grid, records, zones, words.benches or benches, contacts=contacts(records))
+    told.doubts += judged.look_at
+    told.notes += judged.notes
     return Plan(words.name, grid, tuple(records), tuple(destinations), periods, rate, tuple(resources), tuple(limits)), told
 
 
-def _zones(words: Spoken, grid: Grid, names: Sequence[str], benches: int, told: Told) -> list[Zone]:
+def _zones(words: Spoken, names: Sequence[str], benches: int, told: Told) -> list[Zone]:
     """A record for each zone, in the order of the zone files."""
     of_all: Optional[tuple[Slope, Slope, Slope, Slope]] = None
     of_zone: dict[str, tuple[Slope, Slope, Slope, Slope]] = {}
@@ -207,24 +238,19 @@ def _zones(words: Spoken, grid: Grid, names: Sequence[str], benches: int, told: 
             of_all = four
     if not words.slope:
         told.doubts.append("slopes are 45 degrees until yours are known: --slope 'ZONE: 50' or 'ZONE: E 56, W 45, N 51, S 51'")
-    records, steep = [], {}
+    zones = []
     for name in names:
         four = of_zone.get(name) or of_zone.get(_without_benches(name, words)) or of_all
         if four is None:
             raise UserError(f"--slope: none for the zone {name}")
-        advised = advice(grid, Zone(four, 1), words.benches or benches)
-        K = words.K_of.get(name) or words.K or advised.K
-        zone = Zone(four, K)
+        K = words.K_of.get(name) or words.K or K_for(words.benches or benches)
         degrees = sorted({round(degrees_of(slope), 1) for slope in four})
         said = f"zone {name}: {' to '.join(f'{angle:g}' for angle in {degrees[0]: 0, degrees[-1]: 0})} degrees"
         if len(set(four)) > 1:
             said += ", sides +x, -x, +y, -y"
-        told.lines.append((",".join(zone_record(zone)), f"{said}; K = {K}"))
-        if words.K is None and name not in words.K_of and advised.too_steep > advised.within:
-            steep.setdefault(advised.told(), []).append(name)
-        records.append(zone)
-    told.doubts += [f"zone {', '.join(of)}: {advised}" for advised, of in steep.items()]
-    return records
+        zones.append(Zone(four, K))
+        told.lines.append((",".join(zone_record(zones[-1])), f"{said}; K = {K}"))
+    return zones
 
 
 def _without_benches(name: str, words: Spoken) -> str:
@@ -262,14 +288,16 @@ class _Destinations:
     """Reads mills, leaches and dumps, in this order, as they are numbered."""
 
     def __init__(self, words: Spoken, told: Told) -> None:
-        self.words, self.told = words, told
-        self.mining = _money_by(words.mining, ROCKS, "--mining", "1.80 USD/t")[0] if words.mining else Decimal(0)
+        self.words, self.told, self.purse = words, told, Purse()
+        if words.is_return:
+            self.purse.take(words.grade_unit.partition("/")[0], "the grade")
+        self.mining = _money_by(words.mining, ROCKS, "--mining", "1.80 USD/t", self.purse) if words.mining else Decimal(0)
         if words.is_return and words.price:
             raise UserError("--price: the grade is a net smelter return, which has its price in it")
         if not words.is_return and not words.price and (words.mill or words.leach):
             raise UserError("--price: what does metal bring? As --price '1804 USD/oz'")
         self.price = Price(100_000 * words.parts, "a return of 1 a tonne brings 1") if words.is_return else \
-            price_of(words.price, words.parts) if words.price else Price(0, "")
+            price_of(words.price, words.parts, self.purse) if words.price else Price(0, "")
 
     def all(self) -> list[Destination]:
         found = [self.mill(text) for text in self.words.mill] + [self.leach(text) for text in self.words.leach]
@@ -282,11 +310,21 @@ class _Destinations:
             raise UserError("no destination: give --mill, --leach or --dump")
         if len(found) > 8:
             raise UserError(f"{len(found)} destinations: a plan has at most 8")
+        self.told.measures = Measures(self.purse.currency, self.words.parts, self.words.grade_unit)
         return found
 
     def say(self, one: Destination, *said: str) -> Destination:
         self.told.lines.append((",".join(destination_record(one)), "; ".join(part for part in said if part)))
         return one
+
+    def _break_even(self, one: Destination) -> str:
+        least = one.break_even
+        return f"pays from {self._grade(least)}" if least is not None else "pays at no grade"
+
+    def _grade(self, grade: float) -> str:
+        """A grade in the unit in which the export has it."""
+        unit = self.words.grade_unit
+        return f"{Measures(grade_unit=unit).grade(float(grade)):.4g} {unit}"
 
     def mill(self, text: str) -> Destination:
         name, parts = _named(text, "mill")
@@ -294,9 +332,9 @@ class _Destinations:
         share = Decimal(1000) if self.words.is_return and not recovery else share_of(recovery or "", f"--mill: {name}: recovery")
         if share != share.to_integral_value():
             raise UserError(f"--mill: {name}: a recovery has one decimal, as 92.5 %")
-        cents, said = cost_of(cost or "", self.mining, self.words.parts, f"--mill: {name}: cost")
+        cents, said = cost_of(cost or "", self.mining, self.words.parts, f"--mill: {name}: cost", self.purse)
         one = Destination("mill", name, self.price.value, cents, ((Decimal(0), int(share)),))
-        return self.say(one, f"recovers {plain(share / 10)} %", self.price.said, said, _break_even(one))
+        return self.say(one, f"recovers {plain(share / 10)} %", self.price.said, said, self._break_even(one))
 
     def leach(self, text: str) -> Destination:
         name, parts = _named(text, "leach")
@@ -313,26 +351,21 @@ class _Destinations:
             bands.append((decimal_of(found[2], name) * factor, int(share)))
         if not bands or bands != sorted(bands) or len({start for start, _ in bands}) < len(bands):
             raise UserError(f"--leach: {name}: bands rise, as 30 % from 0.2 g/t, 48 % from 0.6 g/t")
-        cents, said = cost_of(cost or "", self.mining, self.words.parts, f"--leach: {name}: cost")
+        cents, said = cost_of(cost or "", self.mining, self.words.parts, f"--leach: {name}: cost", self.purse)
         one = Destination("leach", name, self.price.value, cents, tuple(bands))
-        recovers = ", ".join(f"{share / 10:g} % from {plain(start)} g/t" for start, share in bands)
-        return self.say(one, f"recovers {recovers}", said, _break_even(one))
+        recovers = ", ".join(f"{share / 10:g} % from {self._grade(start)}" for start, share in bands)
+        return self.say(one, f"recovers {recovers}", said, self._break_even(one))
 
     def dump(self, text: str) -> Destination:
         name, parts = _named(text, "dump")
         cost = self._word(parts, "cost") or (parts[0] if len(parts) == 1 else "")
-        cents, said = cost_of(cost, self.mining, self.words.parts, f"--dump: {name}: cost")
+        cents, said = cost_of(cost, self.mining, self.words.parts, f"--dump: {name}: cost", self.purse)
         return self.say(Destination("dump", name, 0, cents), said)
 
     @staticmethod
     def _word(parts: Sequence[str], word: str) -> Optional[str]:
         found = [part[len(word):].strip() for part in parts if part.startswith(word + " ")]
         return found[0] if found else None
-
-
-def _break_even(one: Destination) -> str:
-    least = one.break_even
-    return f"pays from {least:.4g} g/t" if least is not None else "pays at no grade"
 
 
 def _periods(text: str, told: Told) -> tuple[int, int]:

@@ -4,8 +4,11 @@ from __future__ import annotations
 import math
 import re
 from dataclasses import dataclass, replace
-from typing import Optional, Sequence
+from typing import Mapping, Optional, Sequence
 
+import numpy as np
+
+from pit_tools.contacts import Contacts
 from pit_tools.errors import UserError
 from pit_tools.plan_file import SIDES, Grid, Slope, Zone
 from pit_tools.walls import MOST_BENCHES, asked_straight, straight_walls
@@ -72,52 +75,93 @@ def _one_slope(text: str) -> Slope:
         raise UserError(f"`{text}` is no slope: give degrees, or p:q") from None
 
 
+def K_for(benches: int) -> int:
+    """The K to take for a mine of so many benches: as many, and 20 at the most. A greater one has no more arcs."""
+    return max(1, min(benches, MOST_BENCHES))
+
+
 @dataclass(frozen=True)
-class Advice:
-    """The K to take for walls up to a height: how much too steep walls from three quarters of it up are then in the worst bearing, how
-    much with all arcs, and by how many degrees slopes have to be flatter, so that they are within, where no K does; None where none up
-    to 15 does."""
+class Judgement:
+    """What is to be said of the slopes of a mine: the K to take for each zone; what is a mistake; and what no K changes. `plan`,
+    `slopes` and `survey` all ask `judge`."""
 
-    benches: int
-    K: int
-    too_steep: float
-    with_all: float
-    within: float
-    flatter: Optional[int]
+    K: tuple[int, ...]
+    look_at: tuple[str, ...]
+    notes: tuple[str, ...]
 
-    def told(self) -> str:
-        """The advice in words."""
-        least = _three_quarters(self.benches)
-        walls = f"walls of {least} to {self.benches} benches" if least < self.benches else f"walls of {self.benches} benches"
-        if self.too_steep <= self.within:
-            return f"take K = {self.K}: {walls} are then at most {self.too_steep:.1f} degrees too steep"
-        words = (f"take K = {self.K}, and expect {walls} up to {self.too_steep:.1f} degrees too steep: no K brings them within "
-                 f"{self.within:g}, since blocks are whole and a low wall has few of them. ")
-        if self.flatter:
-            return words + f"Smaller blocks do, or slopes that are {self.flatter} degree{'s' if self.flatter > 1 else ''} flatter on all sides"
-        return words + "Smaller blocks do"
+
+def judge(grid: Grid, zones: Sequence[Zone], names: Sequence[str], benches: int, within: float = WITHIN,
+          contacts: Contacts = Contacts()) -> Judgement:
+    """Judges the slopes and the K of each zone in a mine of so many benches, whose walls rise from a block to one of up to
+    benches - 1 above it. Walls that are less than `within` degrees too steep are let be. Cones of a zone below steeper rock must
+    end where that begins."""
+    wanted = tuple(min(K_for(benches), contacts.begins.get(number, MOST_BENCHES)) for number in range(len(zones)))
+    below = tuple(f"zone {names[zone]} lies below zone {names[other]}, which is steeper, and {count:,} cones of it go on through that: "
+                  f"walls are too flat there. Import with --below {names[zone]}:{names[other]}"
+                  for (zone, other), count in contacts.below.items())
+    beside = tuple(f"zone {names[zone]} lies beside zone {names[other]}, which is steeper, and {count:,} cones of it go into that: "
+                   "walls are too flat there. A sector of azimuth is a side of one zone"
+                   for (zone, other), count in contacts.beside.items() if (zone, other) not in contacts.below)
+    small, whole = _judged_walls(grid, zones, names, benches, within, wanted, contacts) if benches > 1 else ((), ())
+    return Judgement(wanted, small + below, whole + beside)
+
+
+def _judged_walls(grid: Grid, zones: Sequence[Zone], names: Sequence[str], benches: int, within: float, wanted: Sequence[int],
+                  contacts: Contacts) -> tuple[tuple[str, ...], tuple[str, ...]]:
+    """What is told of a K that is too small, and of walls that no K brings within: a line of each for all zones, or none."""
+    rise = benches - 1
+    small: dict[str, list[str]] = {}
+    whole: dict[str, list[str]] = {}
+    over = []
+    for name, zone, K, number in zip(names, zones, wanted, range(len(zones))):
+        with_all = too_steep_by_rise(grid, zone, K, rise)
+        if zone.benches < K:
+            told = _too_small(too_steep_by_rise(grid, zone, zone.benches, rise), with_all, zone.benches, K, within)
+            if told:
+                small.setdefault(told, []).append(name)
+        most = float(with_all[_three_quarters(benches) - 2:].max())
+        if number not in contacts.begins and most > within:
+            over.append(most)
+            whole.setdefault(_flatter_told(grid, zone, benches, within), []).append(name)
+    return _in_one_line("K is too small: ", small, ": "), _in_one_line(_whole_blocks(benches, over, within), whole, " by ")
+
+
+def too_steep_by_rise(grid: Grid, zone: Zone, K: int, rise: int) -> np.ndarray:
+    """By how many degrees straight walls that rise 1, 2, .. benches are too steep in the worst bearing, at least 0."""
+    return np.maximum(0, (straight_walls(grid, zone, K, rise) - asked_straight(zone)).max(axis=1))
+
+
+def _too_small(over: np.ndarray, with_all: np.ndarray, K: int, wanted: int, within: float) -> str:
+    """What is told of a K that makes walls steeper than they have to be; nothing where they are within, or as steep by all arcs."""
+    worse = np.where(over > within, over - with_all, 0)
+    at = int(worse.argmax())
+    if worse[at] < 0.05:
+        return ""
+    return f"K = {K} makes a pit of {at + 2} benches {over[at]:.1f} degrees too steep, and K = {wanted} {with_all[at]:.1f}"
+
+
+def _whole_blocks(benches: int, over: Sequence[float], within: float) -> str:
+    if not over:
+        return ""
+    least = _three_quarters(benches)
+    pits = f"pits of {least} to {benches} benches" if least < benches else f"a pit of {benches} benches"
+    return (f"blocks are whole: whatever K is, walls of {pits} are up to {max(over):.1f} degrees too steep, and those of lower pits more. "
+            f"Smaller blocks bring them within {within:g}, or slopes that are flatter on all sides: ")
+
+
+def _in_one_line(head: str, told: Mapping[str, Sequence[str]], between: str) -> tuple[str, ...]:
+    """One line for all zones, those of which the same is told together."""
+    parts = [f"zone {', '.join(of)}{between}{text}" for text, of in told.items()]
+    return (head + "; ".join(parts),) if parts else ()
 
 
 def _three_quarters(benches: int) -> int:
-    return max(1, math.ceil(0.75 * benches))
+    return max(2, math.ceil(0.75 * benches))
 
 
-def too_steep_up_to(grid: Grid, zone: Zone, benches: int, K: int) -> float:
-    """By how many degrees straight walls from three quarters of a height up to it are too steep, in the worst bearing and height."""
-    walls = straight_walls(grid, zone, K, benches)[_three_quarters(benches) - 1:]
-    return max(0.0, float((walls - asked_straight(zone)).max()))
-
-
-def advice(grid: Grid, zone: Zone, benches: int, within: float = WITHIN) -> Advice:
-    """The least K whose straight walls, from three quarters of so many benches up to all, are within so many degrees of the slopes
-    asked, in all bearings; where none is, the least K that is as good as all arcs, to 0.05 degrees."""
-    most = min(benches, MOST_BENCHES)
-    over = [too_steep_up_to(grid, zone, benches, K) for K in range(1, most + 1)]
-    with_all = over[-1]
-    wanted = within if with_all <= within else with_all + 0.05
-    K = next(at + 1 for at, degrees in enumerate(over) if degrees <= wanted)
-    flatter = None if with_all <= within else _flatter(grid, zone, benches, within)
-    return Advice(benches, K, over[K - 1], with_all, within, flatter)
+def _flatter_told(grid: Grid, zone: Zone, benches: int, within: float) -> str:
+    less = _flatter(grid, zone, benches, within)
+    return f"{less} degree{'s' if less > 1 else ''}" if less else "more than 15 degrees"
 
 
 def _flatter(grid: Grid, zone: Zone, benches: int, within: float) -> Optional[int]:
@@ -128,12 +172,7 @@ def _flatter(grid: Grid, zone: Zone, benches: int, within: float) -> Optional[in
             return None
         slopes = [slope_of(degrees_of(slope) - less) for slope in zone.slopes]
         flat = replace(zone, slopes=(slopes[0], slopes[1], slopes[2], slopes[3]))
-        walls = straight_walls(grid, flat, min(benches, MOST_BENCHES), benches)[_three_quarters(benches) - 1:]
+        walls = straight_walls(grid, flat, K_for(benches), benches - 1)[_three_quarters(benches) - 2:]
         if float((walls - asked).max()) <= within:
             return less
     return None
-
-
-def heights_told(benches: Sequence[int]) -> list[int]:
-    """The heights, in benches, that are told: 3 to 60."""
-    return sorted({3, 4, 5, 6, 8, 10, 12, 15, 20, 30, 40, 60, *benches})

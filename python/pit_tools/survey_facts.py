@@ -14,14 +14,15 @@ import numpy as np
 
 from pit_tools.closure import is_compiled, pit_of_plan, ultimate_pit
 from pit_tools.cones import Places, precedence_of, reach_along, size_in_millimetres
+from pit_tools.contacts import SIDES, Contacts, contacts_of, differ
 from pit_tools.errors import UserError
 from pit_tools.instance import Blocks, Outline, count_predecessors, read_blocks, read_outline
 from pit_tools.plan_file import Plan, read_plan
+from pit_tools.plan_note import PlanNote, read_note, sum_of
+from pit_tools.slope_words import Judgement, judge
+from pit_tools.spelling import with_commas
 from pit_tools.valuation import worths
 from pit_tools.zone_files import count_lines
-
-#: The sides of a model: name, axis (0: x, 1: y) and direction, in the order of a zone's slopes.
-SIDES = (("east", 0, 1), ("west", 0, -1), ("north", 1, 1), ("south", 1, -1))
 
 #: Places of a box up to which it is held whole.
 MOST_PLACES = 1 << 28
@@ -65,10 +66,11 @@ class Axis:
 
 @dataclass(frozen=True)
 class ZoneFile:
-    """A zone file, and its lines below the header."""
+    """A zone file, its lines below the header, and its sum where it is known."""
 
     name: str
     lines: int
+    sum: str = ""
 
 
 @dataclass(frozen=True)
@@ -84,13 +86,14 @@ class Facts:
     """A plan, the blocks, the numbers of predecessors, and the values of an instance.
 
     `zone_paths` are the zone files in the order of `compile`, or none. `pit` is bool (n,) where the pit
-    is known.
+    is known. `note` is the plan's.
     """
 
     def __init__(self, plan: Plan, blocks: Blocks, arcs: np.ndarray, outline: Outline,
-                 zone_paths: Sequence[str] = (), pit: Optional[np.ndarray] = None):
+                 zone_paths: Sequence[str] = (), pit: Optional[np.ndarray] = None, note: PlanNote = PlanNote()):
         self.plan, self.blocks, self.arcs, self.outline = plan, blocks, arcs, outline
-        self.zone_files = [ZoneFile(os.path.basename(path), count_lines(path)) for path in zone_paths]
+        self.note, self.measures = note, note.measures
+        self.zone_files = [ZoneFile(os.path.basename(path), count_lines(path), sum_of(path)) for path in zone_paths]
         self.volume = float(plan.grid.volume)
         self.values = outline.values
         self.size = size_in_millimetres(plan.grid)
@@ -100,6 +103,25 @@ class Facts:
 
     def __len__(self) -> int:
         return len(self.blocks)
+
+    def grade_told(self, grade: float) -> str:
+        """A grade in g/t in the unit in which it is told."""
+        return f"{self.measures.grade(grade):.4g} {self.measures.grade_unit}"
+
+    def cost_told(self, cents: float) -> str:
+        """A price or a cost of the plan, as money."""
+        return with_commas(self.measures.money(cents / 100), 2) + self.measures.unit
+
+    @cached_property
+    def zone_names(self) -> list[str]:
+        """The zones by name: as the plan's note has them, or by their files, or by number."""
+        if len(self.note.zones) == len(self.plan.zones):
+            return [zone.name for zone in self.note.zones]
+        names = [os.path.splitext(file.name)[0] for file in self.zone_files]
+        if len(names) == len(self.plan.zones) == len(set(names)):
+            front = len(os.path.commonprefix([name + "-" for name in names]).rpartition("-")[0])
+            return [name[front + 1 if front else 0:] or name for name in names]
+        return [str(number) for number in range(len(self.plan.zones))]
 
     def indices(self, axis: int) -> np.ndarray:
         """The grid indices of the blocks along x, y or z, by 0, 1 or 2."""
@@ -191,6 +213,12 @@ class Facts:
         return tops[np.searchsorted(numbers, self.column)]
 
     @cached_property
+    def floor_of(self) -> np.ndarray:
+        """The lowest index in the column of each block."""
+        numbers, floors, _ = self.columns
+        return floors[np.searchsorted(numbers, self.column)]
+
+    @cached_property
     def waits_for_none(self) -> np.ndarray:
         return self.arcs == 0
 
@@ -244,57 +272,15 @@ class Facts:
 
     # Where cones and slopes go
 
-    def is_steeper(self, zone: int, other: int, side: int) -> bool:
-        """Whether `other` is steeper than a zone on a side."""
-        return self.plan.zones[other].slopes[side].tangent > self.plan.zones[zone].slopes[side].tangent
-
-    def _steeper_zones(self, zone: int, sides: Sequence[int]) -> list[int]:
-        return [other for other in range(len(self.plan.zones))
-                if other != zone and any(self.is_steeper(zone, other, side) for side in sides)]
-
-    def _met(self, zone: int, ids: np.ndarray, offsets, others: list[int]) -> dict[int, int]:
-        """Of each of these zones how many of the blocks have it at one of the offsets."""
-        seen = {other: np.zeros(len(ids), dtype=bool) for other in others}
-        for dx, dy, dz in offsets:
-            found = self.places.beside(ids, dx, dy, dz)
-            zones = np.where(found >= 0, self.blocks.zone[found], -1)
-            for other in others:
-                seen[other] |= zones == other
-        return {other: int(taken.sum()) for other, taken in seen.items() if taken.any()}
+    @cached_property
+    def contacts(self) -> Contacts:
+        return contacts_of(self.blocks, self.plan.zones, self.size, self.places) if differ(self.plan.zones) else Contacts()
 
     @cached_property
-    def below_steeper(self) -> dict[tuple[int, int], int]:
-        """Of pairs of a zone and a steeper one how many blocks of the first have rock of the second straight
-        above them, fewer than K benches up."""
-        found = {}
-        for zone, one in enumerate(self.plan.zones):
-            others = self._steeper_zones(zone, range(4))
-            if others:
-                ids = np.flatnonzero(self.blocks.zone == zone)
-                offsets = [(0, 0, dz) for dz in range(1, one.benches)]
-                found |= {(zone, other): count for other, count in self._met(zone, ids, offsets, others).items()}
-        return found
-
-    @cached_property
-    def beside_steeper(self) -> dict[tuple[int, int], int]:
-        """Of such pairs how many blocks of the first have a cone whose edge goes, on a side where the second
-        is steeper, into the second, and not straight above."""
-        found: dict[tuple[int, int], int] = {}
-        for zone, one in enumerate(self.plan.zones):
-            ids = np.flatnonzero(self.blocks.zone == zone)
-            seen: dict[int, np.ndarray] = {}
-            for side, (_, axis, way) in enumerate(SIDES):
-                others = self._steeper_zones(zone, [side])
-                for dz in range(1, one.benches + 1) if others else ():
-                    far = way * reach_along(self.size, one, dz)[side]
-                    if not far or abs(far) > self.axes[axis].most - self.axes[axis].least:
-                        continue
-                    there = self.places.beside(ids, *((far, 0, dz) if axis == 0 else (0, far, dz)))
-                    zones = np.where(there >= 0, self.blocks.zone[there], -1)
-                    for other in others:
-                        seen.setdefault(other, np.zeros(len(ids), dtype=bool))[zones == other] = True
-            found |= {(zone, other): int(taken.sum()) for other, taken in seen.items() if taken.any()}
-        return found
+    def slopes(self) -> Judgement:
+        """What is to be said of the slopes and the K of the plan, for pits as high as the model."""
+        benches = self.axes[2].most - self.axes[2].least + 1
+        return judge(self.plan.grid, self.plan.zones, self.zone_names, benches, contacts=self.contacts)
 
     def leaving(self) -> list[Leaving]:
         """Of each side the paying blocks from which the slope asked goes beyond the last column of their
@@ -380,4 +366,4 @@ def read_facts(plan_path: str, base: str, zone_paths: Sequence[str] = (), pit_pa
     if pit_path:
         pit = np.zeros(len(blocks), dtype=bool)
         pit[read_pit(pit_path, len(blocks))] = True
-    return Facts(plan, blocks, arcs, outline, zone_paths, pit)
+    return Facts(plan, blocks, arcs, outline, zone_paths, pit, read_note(plan_path))

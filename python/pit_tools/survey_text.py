@@ -6,8 +6,10 @@ from typing import Iterator, Optional, Sequence
 import numpy as np
 
 from pit_tools import walls as wall
-from pit_tools.look_at import look_at, tonnes_covered, unlike_plan
+from pit_tools.look_at import look_at, notes, tonnes_covered, unlike_plan
 from pit_tools.plan_file import Destination
+from pit_tools.report import pit_sums
+from pit_tools.slope_words import too_steep_by_rise
 from pit_tools.spelling import shortest, with_commas
 from pit_tools.survey_facts import Facts, Rock
 
@@ -17,9 +19,10 @@ OUNCE, POUND = 31.1034768, 0.45359237
 
 def survey_text(facts: Facts) -> str:
     """All parts, with a blank line between."""
-    parts = [_head, _look_at, _places, _rock, _cutoffs, _benches, _slopes, _heights, _sides, _destinations, _best_for,
+    parts = [_head, _look_at, _notes, _places, _rock, _cutoffs, _benches, _slopes, _heights, _sides, _destinations, _best_for,
              _resources, _files]
-    return "\n".join("".join(f"{line}\n" for line in part(facts)) for part in parts)
+    texts = ("".join(f"{line}\n" for line in part(facts)) for part in parts)
+    return "\n".join(filter(None, texts))
 
 
 def _head(facts: Facts) -> Iterator[str]:
@@ -37,6 +40,14 @@ def _look_at(facts: Facts) -> Iterator[str]:
         yield "- nothing odd was found; the parts below say what was understood"
 
 
+def _notes(facts: Facts) -> Iterator[str]:
+    found = notes(facts)
+    if found:
+        yield "NOTE"
+    for note in found:
+        yield f"- {note.part}: {note.told}"
+
+
 def _places(facts: Facts) -> Iterator[str]:
     size, origin = (", ".join(shortest(number, 3) for number in numbers) for numbers in (facts.metres, facts.origin))
     yield f"PLACES  blocks of {size.replace(', ', ' x ')} m; the centroid of block 0 0 0 is at {origin}"
@@ -50,41 +61,45 @@ def _places(facts: Facts) -> Iterator[str]:
            f"have none, at most {most} of a column in a row")
 
 
-def _rock_line(label: str, rock: Rock, lines: Optional[int], name: str = "") -> str:
+def _rock_line(facts: Facts, label: str, rock: Rock, lines: Optional[int], name: str = "") -> str:
+    grade = facts.measures.grade
+
     def mean(value: float) -> str:
         return with_commas(value, 3) if rock.solid else "-"
     counted = "-" if lines is None else with_commas(lines)
     return (f"{label:>4} {with_commas(rock.rows):>10} {counted:>10} {with_commas(rock.tonnes, 1):>16} {mean(rock.least):>7} "
-            f"{mean(rock.mean_density):>7} {mean(rock.most):>7} {rock.grade:10.4f} {rock.top_grade:11.4f} "
+            f"{mean(rock.mean_density):>7} {mean(rock.most):>7} {grade(rock.grade):10.4f} {grade(rock.top_grade):11.4f} "
             f"{with_commas(rock.barren):>8} {with_commas(rock.rows - rock.solid):>7}{'  ' + name if name else ''}")
 
 
 def _rock(facts: Facts) -> Iterator[str]:
-    yield "ROCK       rows   lines of           tonnes   t/m3:                   grade, g/t:              rows of"
-    yield "zone               its file                    least    mean    most       mean        most    0 g/t     0 t"
+    unit = facts.measures.grade_unit
+    yield f"ROCK       rows   lines of           tonnes   t/m3:                   {f'grade, {unit}:':<24} rows of"
+    yield f"zone               its file                    least    mean    most       mean        most    {f'0 {unit}':<5}     0 t"
     for zone, rock in enumerate(facts.of_zone):
         file = facts.zone_files[zone] if zone < len(facts.zone_files) else None
-        yield _rock_line(str(zone), rock, file and file.lines, file.name if file else "")
-    yield _rock_line("all", facts.of_all, None)
+        yield _rock_line(facts, str(zone), rock, file and file.lines, file.name if file else "")
+    yield _rock_line(facts, "all", facts.of_all, None)
 
 
 def cut_offs(facts: Facts) -> np.ndarray:
-    """Round grades to cut at, g/t: 0, and some eight up to near the highest, among them those that pay."""
-    top = facts.of_all.top_grade
+    """Grades to cut at, round in the unit in which they are told: 0, and some eight up to near the highest, among them those that pay."""
+    grade = facts.measures.grade
+    top = grade(facts.of_all.top_grade)
     if top <= 0:
         return np.zeros(1)
     power = 10.0 ** np.floor(np.log10(top))
     steps = [round(power * part, 9) for part in (0.01, 0.02, 0.05, 0.1, 0.2, 0.3, 0.5, 0.7, 1, 1.5, 2, 3, 5, 7)]
-    ends = [round(one.break_even, 4) for one in facts.plan.destinations if one.break_even is not None]
+    ends = [round(grade(one.break_even), 4) for one in facts.plan.destinations if one.break_even is not None]
     return np.array(sorted({0.0, *(step for step in steps if 0.02 * top < step < top), *(end for end in ends if end < top)}))
 
 
 def above_cut_offs(facts: Facts, cuts: np.ndarray, taken: Optional[np.ndarray] = None) -> tuple[np.ndarray, np.ndarray]:
-    """Tonnes at and above each cut-off, and kilograms of metal in them."""
+    """Tonnes at and above each cut-off, in the unit of grades, and kilograms of metal in them."""
     grade, tonnes = facts.blocks.grade, facts.blocks.tonnes
     if taken is not None:
         grade, tonnes = grade[taken], tonnes[taken]
-    place = np.searchsorted(cuts, grade, side="right")
+    place = np.searchsorted(cuts, facts.measures.grade(grade), side="right")
     sums = (np.bincount(place, weights, len(cuts) + 1) for weights in (tonnes, tonnes * grade / 1000))
     found, metal = (part[::-1].cumsum()[::-1][1:] for part in sums)
     return found, metal
@@ -92,56 +107,52 @@ def above_cut_offs(facts: Facts, cuts: np.ndarray, taken: Optional[np.ndarray] =
 
 def _cutoffs(facts: Facts) -> Iterator[str]:
     cuts = cut_offs(facts)
-    groups = [(f"zone {zone}", facts.blocks.zone == zone) for zone in range(len(facts.plan.zones))]
+    groups = [(f"zone {name}", facts.blocks.zone == zone) for zone, name in enumerate(facts.zone_names)]
     groups = (groups if len(groups) < 5 else []) + [("all", None)]
-    yield "CUT-OFFS" + "".join(f"  {name + ': million t, g/t, kg':>32}" for name, _ in groups)
+    yield "CUT-OFFS" + "".join(f"  {f'{name}: million t, {facts.measures.grade_unit}, kg':>32}" for name, _ in groups)
     columns = [above_cut_offs(facts, cuts, taken) for _, taken in groups]
     for at, cut in enumerate(cuts):
         cells = ""
         for tonnes, metal in columns:
-            grade = 1000 * metal[at] / tonnes[at] if tonnes[at] else 0
+            grade = facts.measures.grade(1000 * metal[at] / tonnes[at]) if tonnes[at] else 0
             cells += f"  {tonnes[at] / 1e6:12.4f} {grade:8.4f} {metal[at]:10,.0f}"
         yield f"{shortest(cut, 6):>8}{cells}"
 
 
 def _benches(facts: Facts) -> Iterator[str]:
     yield "BENCHES"
-    yield "   z    centroid      blocks            tonnes     mean g/t   wait for none"
+    yield f"   z    centroid      blocks            tonnes   {f'mean {facts.measures.grade_unit}':>10}   wait for none"
     blocks = facts.blocks
     rows, tonnes = facts.by_bench(), facts.by_bench(blocks.tonnes)
     metal, free = facts.by_bench(blocks.tonnes * blocks.grade), facts.by_bench(facts.waits_for_none)
     low = facts.axes[2].least
     for at in range(len(rows) - 1, -1, -1):
-        grade = metal[at] / tonnes[at] if tonnes[at] else 0
+        grade = facts.measures.grade(metal[at] / tonnes[at]) if tonnes[at] else 0
         yield (f"{low + at:4} {shortest(facts.centroid(2, low + at), 3):>11} {with_commas(rows[at]):>11} "
                f"{with_commas(tonnes[at], 1):>17} {grade:12.4f} {with_commas(free[at]):>15}")
     yield f"{with_commas(free.sum())} blocks wait for none, {with_commas(facts.covered)} of them with rock above"
 
 
 def _slopes(facts: Facts) -> Iterator[str]:
-    yield "SLOPES, degrees    N    NE     E    SE     S    SW     W    NW   too steep   within 2   arcs a block: mean   most   all rock"
+    yield "SLOPES, degrees    N    NE     E    SE     S    SW     W    NW   too steep   arcs a block: mean   most   all rock"
     for number, zone in enumerate(facts.plan.zones):
         walls, arcs = wall.measured(facts.plan.grid, zone), facts.arcs[facts.blocks.zone == number]
         yield f"zone {number} asks   " + "".join(f" {angle:5.1f}" for angle in walls.asked[wall.EIGHT])
-        first = f"K = {walls.first_within(2) or 'none'}"
         mean = with_commas(arcs.mean(), 2) if len(arcs) else "-"
         yield (f"  K = {zone.benches:2} gives" + "".join(f" {angle:5.1f}" for angle in walls.given[zone.benches][wall.EIGHT])
-               + f" {walls.too_steep[zone.benches]:11.1f} {first:>10} {mean:>20} {arcs.max(initial=0):6} {walls.arcs[zone.benches]:10}")
-    for (zone, other), count in facts.below_steeper.items():
+               + f" {walls.too_steep[zone.benches]:11.1f} {mean:>20} {arcs.max(initial=0):6} {walls.arcs[zone.benches]:10}")
+    for (zone, other), count in facts.contacts.below.items():
         yield f"zone {zone} below zone {other}, which is steeper: {with_commas(count)} of its blocks are fewer than K benches below that"
-    for (zone, other), count in facts.beside_steeper.items():
+    for (zone, other), count in facts.contacts.beside.items():
         yield f"zone {zone} beside zone {other}, which is steeper: the cones of {with_commas(count)} of its blocks go into that"
 
 
-HEIGHTS = (3, 4, 5, 6, 8, 10, 12, 15, 20, 30, 40, 60)
-
-
 def _heights(facts: Facts) -> Iterator[str]:
-    yield "WALLS of so many benches: degrees too steep in the worst bearing"
-    yield "benches   " + "".join(f" {high:5}" for high in HEIGHTS)
+    yield "WALLS that rise so many benches: degrees too steep in the worst bearing"
+    yield "benches   " + "".join(f" {high:5}" for high in wall.RISES)
     for number, zone in enumerate(facts.plan.zones):
-        cells = (wall.too_steep_at(facts.plan.grid, zone, high) for high in HEIGHTS)
-        yield f"{f'zone {number}':<10}" + "".join(f" {cell:5.1f}" for cell in cells)
+        over = too_steep_by_rise(facts.plan.grid, zone, zone.benches, wall.RISES[-1])
+        yield f"{f'zone {number}':<10}" + "".join(f" {over[high - 1]:5.1f}" for high in wall.RISES)
 
 
 def _sides(facts: Facts) -> Iterator[str]:
@@ -157,50 +168,52 @@ def _pit(facts: Facts, pit: Optional[np.ndarray]) -> Iterator[str]:
     if pit is None:
         yield "the ultimate pit was not sought, since it would take minutes: give one by --pit"
         return
-    ore = pit & ~np.array(facts.is_waste_place)[facts.best]
-    tonnes = facts.blocks.tonnes
-    ore_t, waste_t = tonnes[ore].sum(), tonnes[pit & ~ore].sum()
-    grade = (tonnes * facts.blocks.grade)[ore].sum() / ore_t if ore_t else 0
-    yield (f"the ultimate pit: {with_commas(pit.sum())} blocks, {with_commas(ore_t, 1)} t of ore with {grade:.4f} g/t, "
-           f"{with_commas(waste_t, 1)} t of waste, strip ratio {waste_t / ore_t if ore_t else 0:.2f}, worth {with_commas(facts.greatest[pit].sum(), 2)}")
+    sums = pit_sums(facts, pit)
+    yield (f"the ultimate pit: {with_commas(sums.blocks)} blocks, {with_commas(sums.ore, 1)} t of ore with "
+           f"{facts.measures.grade(sums.grade):.4f} {facts.measures.grade_unit}, {with_commas(sums.waste, 1)} t of waste, "
+           f"strip ratio {sums.strip or 0:.2f}, worth {with_commas(facts.measures.money(sums.value), 2)}{facts.measures.unit}")
 
 
-def _recoveries(one: Destination) -> str:
-    start = (f"from {shortest(float(begin), 6)} g/t " if one.kind == "leach" else "" for begin, _ in one.bands)
+def _recoveries(facts: Facts, one: Destination) -> str:
+    unit = facts.measures.grade_unit
+    start = (f"from {shortest(facts.measures.grade(float(begin)), 6)} {unit} " if one.kind == "leach" else "" for begin, _ in one.bands)
     return ", ".join(f"{text}{shortest(share / 10, 1)} %" for text, (_, share) in zip(start, one.bands))
 
 
 def _destinations(facts: Facts) -> Iterator[str]:
     yield "DESTINATIONS    1 kg of metal   an ounce    a pound        a tonne   a tonne of rock   breaks even   recovers"
     for number, one in enumerate(facts.plan.destinations):
-        cost = f"costs {with_commas(one.cost / 100, 2)}"
+        cost = f"costs {with_commas(facts.measures.money(one.cost / 100), 2)}"
         if one.kind == "dump":
             yield f"{number} {one.name[:13]:<13}{'':14} {'':10} {'':10} {'':14} {cost:>17}"
             continue
-        kilogram = one.price / 100
+        kilogram = facts.measures.money(one.price / 100)
         prices = (with_commas(kilogram * share, 2) for share in (1, OUNCE / 1000, POUND, 1000))
         cells = " ".join(f"{cell:>{width}}" for cell, width in zip(prices, (14, 10, 10, 14)))
-        even = "never" if one.break_even is None else f"{one.break_even:.4f} g/t"
-        yield f"{number} {one.name[:13]:<13}{cells} {cost:>17} {even:>13}   {_recoveries(one)}"
+        even = "never" if one.break_even is None else f"{facts.measures.grade(one.break_even):.4f} {facts.measures.grade_unit}"
+        yield f"{number} {one.name[:13]:<13}{cells} {cost:>17} {even:>13}   {_recoveries(facts, one)}"
+    if facts.measures.currency:
+        yield f"prices and costs are in {facts.measures.currency}"
 
 
 def _best_for(facts: Facts) -> Iterator[str]:
-    yield "BEST FOR           blocks            tonnes     mean g/t    value a t                value   blocks by zone"
+    unit = f"mean {facts.measures.grade_unit}"
+    yield f"BEST FOR           blocks            tonnes {unit:>12}    value a t {facts.measures.in_money('value'):>20}   blocks by zone"
     plan, best, tonnes = facts.plan, facts.best, facts.blocks.tonnes
     count = len(plan.destinations)
     rows, mass = np.bincount(best, minlength=count), np.bincount(best, tonnes, count)
-    metal, value = np.bincount(best, tonnes * facts.blocks.grade, count), np.bincount(best, facts.greatest, count)
+    metal, value = np.bincount(best, tonnes * facts.blocks.grade, count), facts.measures.money(np.bincount(best, facts.greatest, count))
     zones = np.bincount(best * len(plan.zones) + facts.blocks.zone, minlength=count * len(plan.zones)).reshape(count, -1)
     for at, one in enumerate(plan.destinations):
-        grade = metal[at] / mass[at] if mass[at] else 0
+        grade = facts.measures.grade(metal[at] / mass[at]) if mass[at] else 0
         a_tonne = with_commas(value[at] / mass[at], 2) if mass[at] else "-"
         yield (f"{at} {one.name[:13]:<13} {with_commas(rows[at]):>9} {with_commas(mass[at], 1):>17} {grade:12.4f} {a_tonne:>12} "
                f"{with_commas(value[at], 2):>20}  {''.join(' ' + with_commas(cell) for cell in zones[at])}")
     paid = facts.greatest[facts.paying]
     yield (f"{with_commas(len(paid))} of {with_commas(len(facts))} blocks are worth more than 0, "
-           f"{with_commas(paid.sum(), 2)} in all: no pit is worth more")
+           f"{with_commas(facts.measures.money(paid.sum()), 2)}{facts.measures.unit} in all: no pit is worth more")
     cheapest = min(plan.destinations, key=lambda one: one.cost)
-    yield f"waste, rock of 0 g/t, is worth {with_commas(-cheapest.cost / 100, 2)} a tonne, at {cheapest.name}"
+    yield f"waste, rock of 0 {facts.measures.grade_unit}, is worth {facts.cost_told(-cheapest.cost)} a tonne, at {cheapest.name}"
 
 
 def spans(periods: Sequence[int]) -> str:

@@ -3,6 +3,7 @@
 `pitc` takes metres, tonnes and grams a tonne. A name that is read in two ways stands in AMBIGUOUS, and is refused."""
 from __future__ import annotations
 
+from dataclasses import dataclass
 from decimal import Decimal
 from typing import Optional
 
@@ -50,6 +51,44 @@ AMBIGUOUS = {
 }
 
 TABLES = {"length": LENGTHS, "mass": MASSES, "volume": VOLUMES, "density": DENSITIES, "grade": GRADES, "share": SHARES}
+
+
+@dataclass(frozen=True)
+class Measures:
+    """In what a planner is told of a plan and its instance: the currency, empty where it is not known; in how many parts of a cent
+    the plan counts money; and the unit of grades, `g/t`, `%`, or money a tonne."""
+
+    currency: str = ""
+    parts: int = 1
+    grade_unit: str = "g/t"
+
+    def __post_init__(self) -> None:
+        if not isinstance(self.parts, int) or self.parts < 1 or not isinstance(self.currency, str) or not isinstance(self.grade_unit, str):
+            raise UserError(f"no measures: {self.currency}, {self.parts}, {self.grade_unit}")
+
+    def money(self, value):
+        """Money of the plan or its instance, in units of 100 of what the plan counts, as units of the currency."""
+        return value / self.parts
+
+    def grade(self, value):
+        """A grade in g/t, or numbers of them, in the unit of grades."""
+        return value / float(GRADES["%"]) if self.grade_unit == "%" else value
+
+    def in_money(self, what: str) -> str:
+        """A heading of money, as `value, USD`."""
+        return f"{what}, {self.currency}" if self.currency else what
+
+    @property
+    def unit(self) -> str:
+        """The currency behind a number, with a blank before it."""
+        return f" {self.currency}" if self.currency else ""
+
+
+def grade_unit_of(name: str) -> str:
+    """In what grades are told that were read in a unit: percent and money a tonne stay, all others are g/t."""
+    if is_money_a_tonne(name):
+        return name.strip()
+    return "%" if plain_name(name) in ("%", "pct") else "g/t"
 
 
 def plain_name(name: str) -> str:

@@ -12,8 +12,7 @@ import numpy as np
 
 from pit_tools.cones import precedence_of
 from pit_tools.instance import Blocks, Instance, Limit, Problem, UltimatePit, Uses
-from pit_tools.plan_file import Destination, Plan
-
+from pit_tools.plan_file import Destination, Grid, Plan
 
 
 def recoveries(destination: Destination, grade: np.ndarray) -> np.ndarray:
@@ -49,10 +48,10 @@ def worths(plan: Plan, blocks: Blocks) -> np.ndarray:
     return np.stack(columns, axis=1)
 
 
-def blocks_of(plan: Plan, rows) -> Blocks:
+def blocks_of(grid: Grid, rows) -> Blocks:
     """The blocks of zone files' rows, as zone_files.read_zone_files answers them, in order of identifier."""
     places = []
-    for axis, origin, size in zip("xyz", plan.grid.origin, plan.grid.size):
+    for axis, origin, size in zip("xyz", grid.origin, grid.size):
         places.append((rows[axis].to_numpy() - int(origin * 1000)) // int(size * 1000))
     order = np.lexsort(places)
     x, y, z = (place[order].astype(np.int32) for place in places)

@@ -6,7 +6,8 @@ Bearings are those of the model: north is +y, east is +x; angles are degrees.
 - The slope given is atan(Sz / r), where r metres is how far the convex hull of 0 and the points
   (dx Sx, dy Sy) / dz of the cone's blocks reaches in that bearing: the wall of the pit of one deep
   block.
-- A straight wall of b benches lies where the outermost blocks of that pit do. Blocks are whole, so
+- A straight wall that rises b benches, from a block to one b benches above it, lies where the outermost
+  blocks of that pit do. Blocks are whole, so
   low walls are steeper, whatever K is. It is asked at atan(1 / |(ux q/p, uy q/p)|).
 """
 from __future__ import annotations
@@ -14,7 +15,6 @@ from __future__ import annotations
 from dataclasses import dataclass, field
 from functools import lru_cache
 from math import isqrt
-from typing import Optional
 
 import numpy as np
 
@@ -23,6 +23,9 @@ from pit_tools.plan_file import Grid, Zone
 
 #: The greatest K of a plan.
 MOST_BENCHES = 20
+
+#: How many benches the walls rise that are told of.
+RISES = (3, 4, 5, 6, 8, 10, 12, 15, 20, 30, 40, 60)
 
 #: Bearings in whole degrees.
 BEARINGS = np.arange(360)
@@ -124,10 +127,6 @@ class Walls:
     arcs: list[int]  #: by K, the predecessors of a block with rock all about
     too_steep: list[float] = field(default_factory=list)  #: by K, in the worst bearing
 
-    def first_within(self, degrees: float) -> Optional[int]:
-        """The least K whose walls are nowhere more than so many degrees too steep, or None."""
-        return next((K for K in range(1, MOST_BENCHES + 1) if self.too_steep[K] < degrees + 1e-7), None)
-
 
 @lru_cache(256)
 def measured(grid: Grid, zone: Zone) -> Walls:
@@ -147,7 +146,7 @@ def measured(grid: Grid, zone: Zone) -> Walls:
 
 @lru_cache(256)
 def straight_walls(grid: Grid, zone: Zone, K: int, benches: int) -> np.ndarray:
-    """How steep straight walls of 1, 2, .. `benches` benches are, degrees, (benches, 360): S(h) is the most of
+    """How steep straight walls are that rise 1, 2, .. `benches` benches, degrees, (benches, 360): S(h) is the most of
     S(h - k) + s(k) over k up to K, where s(k) is how far the cone's blocks k benches up reach in a bearing."""
     size = size_in_millimetres(grid)
     directions = np.stack(_directions(BEARINGS))
@@ -159,10 +158,3 @@ def straight_walls(grid: Grid, zone: Zone, K: int, benches: int) -> np.ndarray:
         far.append(np.max([far[high - k] + steps[k] for k in range(1, min(K, high) + 1)], axis=0))
     heights = np.arange(1, benches + 1)[:, None] * size[2]
     return np.degrees(np.arctan2(heights, np.array(far[1:])))
-
-
-def too_steep_at(grid: Grid, zone: Zone, benches: int, K: Optional[int] = None) -> float:
-    """By how many degrees a straight wall of so many benches is too steep in the worst bearing, at the zone's
-    K where none is given."""
-    walls = straight_walls(grid, zone, K or zone.benches, benches)
-    return float((walls[benches - 1] - asked_straight(zone)).max())

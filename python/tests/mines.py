@@ -47,7 +47,7 @@ def quickly_compiled(folder, plan, zones, name="mine"):
     for number, text in enumerate(zones):
         shared.write(f"{base}-{number}.csv", text)
     read = read_zone_files([f"{base}-{number}.csv" for number in range(len(zones))])
-    write_instance(instance_of(plan_of(plan), blocks_of(plan_of(plan), read)), base)
+    write_instance(instance_of(plan_of(plan), blocks_of(plan_of(plan).grid, read)), base)
     return base
 
 

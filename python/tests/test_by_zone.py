@@ -33,7 +33,7 @@ ROWS = pd.DataFrame({"x": [0, 10_000, 20_000, 0], "y": 0, "z": [0, 0, 0, 10_000]
 
 def instance(text: str):
     plan = plan_of(text)
-    return instance_of(plan, blocks_of(plan, ROWS))
+    return instance_of(plan, blocks_of(plan.grid, ROWS))
 
 
 def test_each_block_has_the_values_of_the_plan_of_its_zone():

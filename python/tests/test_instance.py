@@ -123,6 +123,6 @@ def test_the_instance_that_a_plan_defines_is_that_of_the_plain_computation(tmp_p
     base = make(tmp_path)
     plan = read_plan(base + ".plan")
     zones = [f"{base}-{number}.csv" for number in range(len(plan.zones))]
-    write_instance(instance_of(plan, blocks_of(plan, read_zone_files(zones))), str(tmp_path / "copy"))
+    write_instance(instance_of(plan, blocks_of(plan.grid, read_zone_files(zones))), str(tmp_path / "copy"))
     for text in instance.TEXTS:
         assert (tmp_path / f"copy.{text}").read_bytes() == open(f"{base}.{text}", "rb").read(), text

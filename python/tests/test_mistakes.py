@@ -47,23 +47,23 @@ def sound() -> Mine:
     for zone, text in enumerate(Deposit().zone_texts()):
         for line in text.splitlines()[1:]:
             x, y, z, tonnes, grade = map(float, line.split(",")[:5])
-            rows.append((x - 1000 + 120, y - 2000 + 60, z - 300 + 80, tonnes, grade, zone))
+            rows.append((x - 1000 + 120, y - 2000 + 60, z - 300 + 20, tonnes, grade, zone))
     table = pd.DataFrame(rows, columns=["x", "y", "z", "tonnes", "grade", "zone"])
     taken = set(map(tuple, table[["x", "y", "z"]].to_numpy().astype(int).tolist()))
     added = []
     random = np.random.default_rng(3)
-    for z in range(0, 200, 10):
+    for z in range(0, 140, 10):
         for y in range(0, 480, 20):
             for x in range(0, 720, 20):
-                ground = 80 + 10 * (7 + min(17, max(0, (y - 60) // 20)) // 4)
-                in_deposit = 120 <= x < 600 and 60 <= y < 420 and z >= 80
+                ground = 20 + 10 * (7 + min(17, max(0, (y - 60) // 20)) // 4)
+                in_deposit = 120 <= x < 600 and 60 <= y < 420 and z >= 20
                 if z <= ground and not in_deposit and (x, y, z) not in taken:
-                    zone = 0 if z >= 160 else 1 if x < 360 else 2
+                    zone = 0 if z >= 100 else 1 if x < 360 else 2
                     density = (9600 if zone == 0 else 10800) + random.integers(0, 400)
                     added.append((x, y, z, float(density), random.integers(0, 90000) / 1e6 if random.random() < 0.7 else 0.0, zone))
     table = pd.concat([table, pd.DataFrame(added, columns=table.columns)], ignore_index=True)
     plan = Deposit().plan().replace("grid,1000,2000,300", "grid,0,0,0").replace(",2500000", ",5000000")
-    plan = re.sub(r"(?m)^(zone.*),\d$", r"\1,9", plan)
+    plan = re.sub(r"(?m)^(zone.*),\d$", r"\1,14", plan)
     return Mine(plan, table)
 
 
@@ -73,7 +73,7 @@ def facts_of(mine: Mine, of_plan: Optional[str] = None) -> Facts:
     rows = pd.DataFrame({axis: np.rint(mine.rows[axis] * 1000).astype(np.int64) for axis in "xyz"})
     rows["tonnes"], rows["grade"] = np.rint(mine.rows.tonnes * 1000).astype(np.int64), np.rint(mine.rows.grade * 1e6).astype(np.int64)
     rows["zone"] = mine.rows.zone.astype(np.int64)
-    made = instance_of(plan_of(of_plan or mine.plan), blocks_of(plan, rows))
+    made = instance_of(plan_of(of_plan or mine.plan), blocks_of(plan.grid, rows))
     header = {"NAME": made.pcpsp.name, "NBLOCKS": str(len(made.blocks)), "NPERIODS": str(made.pcpsp.periods), "DISCOUNT_RATE": str(made.pcpsp.rate)}
     facts = Facts(plan, made.blocks, np.diff(made.precedence.indptr), Outline(header, made.pcpsp.values, len(made.pcpsp.uses), made.pcpsp.limits))
     counts = np.bincount(made.blocks.zone, minlength=len(plan.zones))
@@ -114,7 +114,7 @@ def filled(mine):
 
 def sectors(mine):
     """Zones by azimuth in place of the sides of one zone: east of the middle is steeper."""
-    plan = re.sub(r"(?m)^zone.*\n", "", mine.plan).replace("mill,mill", "zone,1,1,9\nzone,2,1,9\nmill,mill", 1)
+    plan = re.sub(r"(?m)^zone.*\n", "", mine.plan).replace("mill,mill", "zone,1,1,14\nzone,2,1,14\nmill,mill", 1)
     return mine._replace(plan=plan, rows=mine.rows.assign(zone=(mine.rows.x >= 300).astype(int)), names=("west.csv", "zast.csv"))
 
 
@@ -150,33 +150,33 @@ OF_THE_PAGE = [
     Told("half the block size", lambda m: m.edited("20,20,10$", "10,10,5"), r"^- PLACES: x has no odd index"),
     Told("indices in place of coordinates", lambda m: m.with_rows(x=m.rows.x / 20, y=m.rows.y / 20, z=m.rows.z / 10).edited("20,20,10$", "1,1,1"), r"^- PLACES: blocks are 1 x 1 x 1 m"),
     Told("depths in place of heights", lambda m: m.with_rows(z=TOP - m.rows.z), r"^- PLACES: the highest bench is whole and the lowest ones are not"),
-    Told("run over rise, or degrees", lambda m: m.edited("^zone,1,1,9", "zone,45,1,9"), r"^- SLOPES: zone 0 asks 88\.7 to 88\.7 degrees"),
-    Told("K first", lambda m: m.edited("^zone,1,1,9", "zone,9,1,1"), r"^- SLOPES: zone 0 asks 83\.7 to 83\.7 degrees"),
+    Told("run over rise, or degrees", lambda m: m.edited("^zone,1,1,14", "zone,45,1,14"), r"^- SLOPES: zone oxide asks 88\.7 to 88\.7 degrees"),
+    Told("K first", lambda m: m.edited("^zone,1,1,14", "zone,9,1,1"), r"^- SLOPES: zone oxide asks 83\.7 to 83\.7 degrees"),
     Told("the four slopes in another order", lambda m: m.edited("^zone,3,2,1,1,5,4,5,4", "zone,5,4,5,4,3,2,1,1"), r"^zone 1 asks +56\.3 "),
-    Told("K too small", lambda m: m.edited("^zone,1,1,9", "zone,1,1,2"), r"^- SLOPES: zone 0: K = 2 gives walls up to 9\.7 degrees too steep; K = 9"),
-    Told("one K for all", lambda m: m.edited(r"^zone,1,1,9\n(zone.*\n)*", "zone,2,1,9\nzone,1,2,9\nzone,1,2,9\n"), r"^- SLOPES: zone 1 lies below zone 0, which is steeper"),
+    Told("K too small", lambda m: m.edited("^zone,1,1,14", "zone,1,1,2"), r"^- SLOPES: K is too small: zone oxide: K = 2 makes a pit of \d+ benches \d+\.\d degrees too steep, and K = 14 "),
+    Told("one K for all", lambda m: m.edited(r"^zone,1,1,14\n(zone.*\n)*", "zone,2,1,9\nzone,1,2,9\nzone,1,2,9\n"), r"^- SLOPES: zone west lies below zone oxide, which is steeper"),
     Told("rock of a zone at a mill that does not take it", lambda m: m, r"^0 mill .* 339 595 853$", re.sub("(?m)^mill,mill,920,5800000,1650", "mill,mill,920,5800000,1650000", MINE.plan)),
     Told("rows without a grade left out", lambda m: m.of(lambda rows: rows.grade >= 0.05), r"^- ROCK: no block has less than 0\.05"),
     Told("zone files in the order of a glob", lambda m: by_record(m, (2, 0, 1)), r"^- ROCK: zone files are in alphabetical order"),
-    Told("a header alone", lambda m: m.of(lambda rows: rows.zone != 1), r"^- ROCK: zone 1 has no blocks"),
-    Told("a zone file cut short", lambda m: m.of(lambda rows: ~((rows.zone == 1) & (rows.z > 90))), r"^- PLACES: [\d,]+ places below a block have none"),
-    Told("a quote that is never closed", lambda m: m._replace(lines=(1, 9999, 2)), r"^- ROCK: deposit-west.csv has 9,999 lines, and zone 1"),
+    Told("a header alone", lambda m: m.of(lambda rows: rows.zone != 1), r"^- ROCK: zone west has no blocks"),
+    Told("a zone file cut short", lambda m: m.of(lambda rows: ~((rows.zone == 1) & (rows.z > 30))), r"^- PLACES: [\d,]+ places below a block have none"),
+    Told("a quote that is never closed", lambda m: m._replace(lines=(1, 9999, 2)), r"^- ROCK: deposit-west.csv has 9,999 lines, and zone west"),
     Told("files of two runs", lambda m: m, r"^- FILES: values that are not the plan's", MINE.plan.replace("5800000", "5000000")),
 ]
 
 #: Twenty-six more.
 MORE = [
     Told("a model that ends too near the ore", lambda m: m.of(lambda rows: (rows.y <= 400) & (rows.x <= 560)), r"^- SIDES: north: of [\d,]+ paying blocks the slope of"),
-    Told("deep rock lost", lambda m: m.of(lambda rows: rows.z >= 100), r"^- SIDES: the pit reaches the lowest bench"),
+    Told("deep rock lost", lambda m: m.of(lambda rows: rows.z >= 40), r"^- SIDES: the pit reaches the lowest rock"),
     Told("rock near the ground lost", lambda m: m.of(lambda rows: rows.z < columns_top(rows) - 20), r"^- BENCHES: the highest bench of most columns pays"),
-    Told("a bench lost", lambda m: m.of(lambda rows: rows.z != 130), r"^- BENCHES: 1 bench without a block"),
+    Told("a bench lost", lambda m: m.of(lambda rows: rows.z != 70), r"^- BENCHES: 1 bench without a block"),
     Told("air with a default density", filled, r"^- PLACES: blocks fill a box"),
     Told("rock whose density is -99 left out as air", lambda m: m.of(lambda rows: (rows.index % 7 != 0) | (rows.z == TOP)), r"^- PLACES: [\d,]+ places below a block have none"),
     Told("rock with a grade and 0 t", lambda m: m.with_rows(tonnes=np.where(m.rows.index % 9 == 0, 0, m.rows.tonnes)), r"^- ROCK: [\d,]+ blocks of 0 t have a grade"),
     Told("one density for all", lambda m: m.with_rows(tonnes=10800.0), r"^- ROCK: all blocks have 2\.700 t/m3"),
     Told("a percent model by parts alone", lambda m: share_of(m, 0.4), r"^- ROCK: [\d,]+ blocks have less than 0\.6 of the mean t/m3"),
-    Told("sectors of azimuth as zones", sectors, r"^- SLOPES: zone 0 lies beside zone 1, which is steeper"),
-    Told("a contact beside", lambda m: m.edited(r"^zone,3,2,1,1,5,4,5,4,9\nzone,3,2,9", "zone,1,2,9\nzone,2,1,9"), r"^- SLOPES: zone 1 lies beside zone 2, which is steeper"),
+    Told("sectors of azimuth as zones", sectors, r"^- SLOPES: zone west lies beside zone zast, which is steeper"),
+    Told("a contact beside", lambda m: m.edited(r"^zone,3,2,1,1,5,4,5,4,14\nzone,3,2,14", "zone,1,2,14\nzone,2,1,14"), r"^- SLOPES: zone west lies beside zone east, which is steeper"),
     Told("a recovery of 100 %", lambda m: m.edited("^mill,mill,920", "mill,mill,1000"), r"^- DESTINATIONS: mill recovers 100 %"),
     Told("a recovery under 30 %", lambda m: m.edited("300,0.6,480,1.2,560", "30,0.6,48,1.2,56"), r"^- DESTINATIONS: heap recovers 5\.6 % at most"),
     Told("a leach that recovers less of richer rock", lambda m: m.edited("480,1.2,560", "560,1.2,480"), r"^- DESTINATIONS: heap recovers less of richer rock"),
@@ -190,7 +190,7 @@ MORE = [
     Told("lines other than rows", lambda m: m._replace(lines=(768, 1, 1)), r"^- ROCK: deposit-west.csv has 1 lines"),
     Told("a zone in another unit of grade", lambda m: m.with_rows(grade=np.where(m.rows.zone == 0, m.rows.grade / 1000, m.rows.grade)), r"^- ROCK: the mean grades of zones are .* a hundredfold apart"),
     Told("a grade that was not cut", lambda m: m.with_rows(grade=np.where(m.rows.index == 1999, 999, m.rows.grade)), r"^- ROCK: the highest grade, 999 g/t, is"),
-    Told("walls lower than K's table", lambda m: m.of(lambda rows: rows.z >= 140), r"^- SLOPES: zone 0: walls of \d+ to \d+ benches, as high as the model, are up to (9|1\d)\.\d degrees"),
+    Told("walls lower than K's table", lambda m: m.of(lambda rows: rows.z >= 80), r"^- SLOPES: blocks are whole: whatever K is, walls of pits of \d+ to \d+ benches are up to (9|[123]\d)\.\d degrees"),
 ]
 
 
@@ -206,10 +206,11 @@ def test_a_mistake_is_told(mistake):
     assert not any(re.search(mistake.line, line) for line in sound_lines)
 
 
-def test_a_sound_mine_has_little_to_look_at():
-    """No line of LOOK AT but of walls, which blocks of this size cannot make better, and of the heap."""
-    odd = SURVEY.split("\n\n")[1].splitlines()[1:]
-    assert len(odd) <= 5 and all(re.match("- (SLOPES|BEST FOR)", line) for line in odd), "\n".join(odd)
+def test_a_sound_mine_has_nothing_to_look_at():
+    """Whole blocks and a heap that is hardly used are told as notes."""
+    odd, noted = (part.splitlines()[1:] for part in SURVEY.split("\n\n")[1:3])
+    assert odd == ["- nothing odd was found; the parts below say what was understood"]
+    assert [line.split(":")[0] for line in noted] == ["- SLOPES", "- BEST FOR"]
 
 
 @pytest.mark.parametrize("name, make", [
@@ -225,5 +226,5 @@ def test_a_turned_model_is_drawn(name, make):
 
 def test_mined_out_rock_is_drawn():
     """The map of the ground shows a pit that was dug, or none where it should be."""
-    dug = facts_of(MINE.of(lambda rows: ~((rows.x.between(300, 400)) & (rows.y.between(200, 300)) & (rows.z > 130))))
+    dug = facts_of(MINE.of(lambda rows: ~((rows.x.between(300, 400)) & (rows.y.between(200, 300)) & (rows.z > 70))))
     assert (dug.ground() < FACTS.ground()).sum() > 20

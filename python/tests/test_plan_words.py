@@ -5,8 +5,9 @@ import pytest
 
 from pit_tools.errors import UserError
 from pit_tools.plan_file import Grid, Slope, plan_of
-from pit_tools.plan_words import Spoken, Told, plan_from, price_of, sides_of
+from pit_tools.plan_words import Purse, Spoken, Told, plan_from, price_of, sides_of
 from pit_tools.slope_words import degrees_of, slope_of, slopes_of
+from pit_tools.units import Measures
 
 GRID = Grid((Decimal(1000), Decimal(2000), Decimal(300)), (Decimal(20), Decimal(20), Decimal(10)))
 
@@ -55,7 +56,7 @@ limit,fleet,3,L,6500000
     ("1000 USD/kg, royalty 3 %", 1, 97_000),
 ])
 def test_a_price_is_cents_a_kilogram(text, parts, cents):
-    assert price_of(text, parts).value == cents
+    assert price_of(text, parts, Purse()).value == cents
 
 
 def test_mining_is_added_to_each_cost_and_periods_share_a_year():
@@ -71,7 +72,7 @@ def test_a_short_ton_of_rock_is_less_than_a_tonne():
 
 def test_a_return_brings_what_it_says():
     # A return of 30 a tonne, as grade 30: 1 t has 0.03 kg, which bring 3,000 cents at 100,000 cents a kilogram.
-    text = plan_text(price="", is_return=True, mill=["cost 12 USD/t"], leach=[], limit=[])
+    text = plan_text(price="", grade_unit="USD/t", mill=["cost 12 USD/t"], leach=[], limit=[])
     assert "mill,mill,1000,100000,1200\n" in text
 
 
@@ -118,6 +119,10 @@ def test_sectors_of_azimuth_become_the_sides_that_lie_in_them():
     ({"periods": "16 quarters"}, "a year or a period"),
     ({"rate": "0.08"}, "give percent a year"),
     ({"dump": ["mill: cost 1 USD/t"]}, "two destinations `mill`"),
+    ({"price": "1804 AUD/oz"}, "--mill: mill: cost is in USD, and --price in AUD: a plan has one currency"),
+    ({"price": "1804 USD/oz, selling 45 AUD/oz"}, "--price: selling is in AUD, and --price in USD"),
+    ({"mining": "2 EUR/t"}, "--price is in USD, and --mining in EUR"),
+    ({"price": "", "grade_unit": "AUD/t", "mill": ["cost 12 USD/t"], "leach": []}, "--mill: mill: cost is in USD, and the grade in AUD"),
 ])
 def test_words_that_cannot_be_right_are_named(changed, told):
     with pytest.raises(UserError, match=told):
@@ -130,10 +135,28 @@ def test_words_that_cannot_be_right_are_named(changed, told):
     ({"mill": ["recovery 9.2 %, cost 16.50 USD/t"]}, "recovers less than 30 %"),
     ({"mill": ["recovery 100 %, cost 16.50 USD/t"]}, "recovers all metal"),
     ({"slope": []}, "slopes are 45 degrees until yours are known"),
-    ({"K": None}, "no K brings them within 2"),
+    ({"K": 2}, "K is too small: zone oxide: K = 2 makes a pit of"),
 ])
 def test_what_may_be_wrong_is_told(changed, told):
     _, explained = plan_from(Spoken(**{**WORDS, **changed}), GRID, ["oxide", "west"], 12)
     assert any(told in doubt for doubt in explained.doubts)
-    _, sound = plan_from(Spoken(**WORDS), GRID, ["oxide", "west"], 12)
+    _, sound = plan_from(Spoken(**{**WORDS, "K": None}), GRID, ["oxide", "west"], 12)
     assert not sound.doubts
+
+
+def test_what_is_taken_without_a_word_is_a_note():
+    plan, explained = plan_from(Spoken(**{**WORDS, "rate": "", "periods": "", "limit": []}), GRID, ["oxide", "west"], 12)
+    assert (plan.periods, plan.rate) == (1, Decimal("0.08"))
+    assert {"--periods was not given: 1 year is taken", "--rate was not given: 8 % a year is taken"} <= set(explained.notes)
+    _, sound = plan_from(Spoken(**WORDS), GRID, ["oxide", "west"], 12)
+    assert not any("not given" in note for note in sound.notes)
+
+
+def test_an_ore_in_percent_is_told_in_percent():
+    """A pound is 0.45359237 kg, so 4 USD/lb are 882 cents a kilogram, and 16.50 USD/t are paid by 1,650 / (0.92 x 882) kg a tonne, 0.2033 %."""
+    plan, explained = plan_from(Spoken(**{**WORDS, "price": "4 USD/lb", "grade_unit": "%", "leach": ["heap: cost 6.20 USD/t, 30 % from 0.2 %"],
+                                          "limit": []}), GRID, ["oxide", "west"], 12)
+    said = dict(explained.lines)
+    assert said["mill,mill,920,882,1650"].endswith("pays from 0.2033 %")
+    assert "recovers 30 % from 0.2 %" in said["leach,heap,882,620,2000,300"]
+    assert explained.measures == Measures("USD", 1, "%")

@@ -2,15 +2,19 @@
 from __future__ import annotations
 
 import math
+import re
 from decimal import Decimal
 from fractions import Fraction
 
+import numpy as np
 import pytest
 
+import mines
 from pit_tools.cli import main
+from pit_tools.contacts import Contacts
 from pit_tools.plan_file import Grid, Slope, Zone
-from pit_tools.slope_words import advice
-from pit_tools.walls import asked_straight, measured, straight_walls, too_steep_at
+from pit_tools.slope_words import judge, slope_of
+from pit_tools.walls import asked_straight, measured, straight_walls
 
 BEARINGS = [(0, 1), (1, 1), (1, 0), (1, -1), (0, -1), (-1, -1), (-1, 0), (-1, 1)]
 
@@ -28,17 +32,28 @@ def closure_of(size, sides, K: int, benches: int) -> list[set[tuple[int, int]]]:
     for up in range(1, K + 1):
         reach = [Fraction(up * height * q, p) for p, q in sides]
         far = [int(r / width) for r in reach]
-        cones.append({(x, y) for x in range(-far[1], far[0] + 1) for y in range(-far[3], far[2] + 1)
-                      if (x * width / reach[0 if x > 0 else 1]) ** 2 + (y * width / reach[2 if y > 0 else 3]) ** 2 <= 1})
-    dug: list[set[tuple[int, int]]] = [{(0, 0)}]
+        cones.append([(x, y) for x in range(-far[1], far[0] + 1) for y in range(-far[3], far[2] + 1)
+                      if (x * width / reach[0 if x > 0 else 1]) ** 2 + (y * width / reach[2 if y > 0 else 3]) ** 2 <= 1])
+    middle = max(int(benches * height * q / (p * width)) for p, q in sides) + 2
+    dug = [np.zeros((2 * middle + 1,) * 2, dtype=bool)]
+    dug[0][middle, middle] = True
     for bench in range(1, benches + 1):
-        dug.append({(x + dx, y + dy) for up in range(1, min(K, bench) + 1) for x, y in rim(dug[bench - up]) for dx, dy in cones[up - 1]})
-    return dug
+        shifted = (np.roll(dug[bench - up], offset, (0, 1)) for up in range(1, min(K, bench) + 1) for offset in cones[up - 1])
+        dug.append(np.any(list(shifted), axis=0))
+    return [set(map(tuple, (np.argwhere(places) - middle).tolist())) for places in dug]
 
 
-def rim(places: set[tuple[int, int]]) -> set[tuple[int, int]]:
-    """Places without those that have neighbours on all sides: what is dug beyond is dug from the rim too."""
-    return {(x, y) for x, y in places if not {(x + 1, y), (x - 1, y), (x, y + 1), (x, y - 1)} <= places}
+def measured_apart(size, sides, K: int, benches: int) -> float:
+    """By how many degrees a wall of a pit of so many benches is too steep in the worst of 360 bearings, by the places that are dug."""
+    rise, worst = benches - 1, 0.0
+    out = np.array(sorted(closure_of(size, sides, K, rise)[rise])) * size[0]
+    for degrees in range(360):
+        east, north = math.sin(math.radians(degrees)), math.cos(math.radians(degrees))
+        along = [Fraction(q, p) for p, q in sides]
+        asked = 1 / math.hypot(east * along[0 if east > 0 else 1], north * along[2 if north > 0 else 3])
+        given = rise * size[1] / (out @ (east, north)).max()
+        worst = max(worst, math.degrees(math.atan(given) - math.atan(asked)))
+    return worst
 
 
 @pytest.mark.parametrize("size, sides, K", CASES)
@@ -74,23 +89,86 @@ def test_a_straight_wall_between_unlike_sides_is_asked_by_its_own_formula():
     assert expected == pytest.approx(42.55, abs=0.01)
 
 
-def test_the_K_to_take_is_the_least_that_is_within():
-    grid = Grid((Decimal(0),) * 3, (Decimal(20), Decimal(20), Decimal(10)))
-    zone = Zone((Slope(1, 1),) * 4, 1)
-    found = advice(grid, zone, 40)
-    over = [max(too_steep_at(grid, zone, high, K) for high in range(30, 41)) for K in range(1, 21)]
-    assert found.K == 1 + next(at for at, degrees in enumerate(over) if degrees <= 2)
-    assert "take K" in found.told() and found.flatter is None
+#: Slopes in degrees to the east, west, north and south; a K and, of pits of so many benches, by how many degrees two programs found
+#: walls too steep with it and with K = height.
+TOLD = [
+    ((20, 10), (35, 55, 45, 45), 5, {13: (4.3, 1.9), 16: (3.9, 2.0), 17: (4.3, 3.0)}),
+    ((30, 12), (60, 35, 35, 60), 10, {20: (5.1, 2.3)}),
+]
 
 
-def test_where_no_K_reaches_it_says_so_and_what_to_do():
-    grid = Grid((Decimal(0),) * 3, (Decimal(20), Decimal(20), Decimal(10)))
-    zone = Zone((Slope(1, 1),) * 4, 1)
-    found = advice(grid, zone, 5)
-    assert found.too_steep > 2 and "no K brings them within 2" in found.told()
-    flat = Zone((Slope(*[round(1000 * math.tan(math.radians(45 - found.flatter))), 1000]),) * 4, 1)
-    walls = straight_walls(grid, flat, 5, 5)[3:]
-    assert (walls - asked_straight(zone)).max() <= 2
+@pytest.mark.parametrize("size, degrees, K, found", TOLD)
+def test_the_K_to_take_is_the_height_of_the_mine(size, degrees, K, found):
+    """A smaller one may be as good for the greatest height, and is far too steep for others: LOOK AT tells the worst of them."""
+    slopes = tuple(map(slope_of, degrees))
+    sides = [(slope.rise, slope.run) for slope in slopes]
+    for benches, (with_K, with_all) in found.items():
+        assert measured_apart(size, sides, K, benches) == pytest.approx(with_K, abs=0.05)
+        assert measured_apart(size, sides, benches, benches) == pytest.approx(with_all, abs=0.05)
+        judged = judge(square(*size), [Zone(slopes, K)], ["a"], benches)
+        assert judged.K == (benches,)
+        told, = judged.look_at
+        high, over, better = re.fullmatch(rf"K is too small: zone a: K = {K} makes a pit of (\d+) benches ([\d.]+) degrees too steep, and K = {benches} ([\d.]+)", told).groups()
+        assert measured_apart(size, sides, K, int(high)) == pytest.approx(float(over), abs=0.051)
+        assert measured_apart(size, sides, benches, int(high)) == pytest.approx(float(better), abs=0.051)
+        assert float(over) - float(better) >= with_K - with_all - 0.11
+        # K = benches - 1 has the same precedences.
+        for enough in (benches - 1, benches):
+            assert not judge(square(*size), [Zone(slopes, enough)], ["a"], benches).look_at
+
+
+def test_walls_that_no_K_makes_better_are_a_note():
+    zone = Zone((Slope(1, 1),) * 4, 5)
+    judged = judge(square(20, 10), [zone, zone, Zone((Slope(1, 2),) * 4, 5)], ["ox", "a", "b"], 5)
+    assert not judged.look_at
+    note, = judged.notes
+    found = re.search(r"pits of 4 to 5 benches are up to ([\d.]+) degrees too steep.* zone ox, a by (\d+) degrees; zone b by (\d+) degree", note)
+    over = [measured_apart((20, 10), sides, 5, benches) for sides in ([(1, 1)] * 4, [(1, 2)] * 4) for benches in (4, 5)]
+    assert float(found[1]) == pytest.approx(max(over), abs=0.051)
+    for asked, less in ((45.0, int(found[2])), (math.degrees(math.atan(0.5)), int(found[3]))):
+        flat = slope_of(asked - less)
+        still = [measured_apart((20, 10), [(flat.rise, flat.run)] * 4, benches, benches) - less for benches in (4, 5)]
+        assert max(still) <= 2.05
+
+
+def test_a_zone_below_a_steeper_one_ends_at_the_contact():
+    """Its K is right where its cones end at the steeper rock, and no greater one is asked for."""
+    flat, steep = Zone((Slope(1, 2),) * 4, 2), Zone((Slope(2, 1),) * 4, 20)
+    judged = judge(square(20, 10), [flat, steep], ["flat", "steep"], 20, contacts=Contacts({0: 2}))
+    assert judged.K == (2, 20) and not judged.look_at
+    through = judge(square(20, 10), [Zone(flat.slopes, 8), steep], ["flat", "steep"], 20, contacts=Contacts({0: 2}, {(0, 1): 12}))
+    assert through.K == (2, 20)
+    assert through.look_at == ("zone flat lies below zone steep, which is steeper, and 12 cones of it go on through that: walls are too flat "
+                               "there. Import with --below flat:steep",)
+
+
+def square(width: int, height: int) -> Grid:
+    return Grid((Decimal(0),) * 3, (Decimal(width), Decimal(width), Decimal(height)))
+
+
+def test_plan_slopes_and_survey_say_the_same(tmp_path, capsys, monkeypatch):
+    """Of one model: whole blocks are the same note for all, and a small K the same line to look at."""
+    monkeypatch.chdir(tmp_path)
+    rows = [f"{20 * x},{20 * y},{10 * z},10800,{3 if (x, y, z) == (4, 4, 0) else 0},{x // 5}" for x in range(9) for y in range(9) for z in range(7)]
+    (tmp_path / "export.csv").write_text("\n".join(["x,y,z,t,g,zone", *rows]) + "\n")
+    words = [arg for name in "xyz" for arg in (f"--{name}", name)]
+    assert main(["import", "export.csv", *words, "--tonnes", "t", "--grade", "g", "--zone", "zone", "--base", "from"]) == 0
+    told = {}
+    for name, K in (("right", []), ("small", ["--K", "2"])):
+        capsys.readouterr()
+        assert main(["plan", "from.json", "--out", f"{name}.plan", "--price", "58 USD/g", "--mill", "recovery 92 %, cost 16 USD/t", "--dump",
+                     "cost 2 USD/t", "--slope", "40", *K]) == 0
+        plan = capsys.readouterr().out
+        assert main(["slopes", f"{name}.plan", "--benches", "7", "--brief"]) == 0
+        slopes = capsys.readouterr().out
+        mines.quickly_compiled(tmp_path, (tmp_path / f"{name}.plan").read_text(), [(tmp_path / f"from-{zone}.csv").read_text() for zone in (0, 1)], name)
+        assert main(["survey", f"{name}.plan", name, "from-0.csv", "from-1.csv"]) == 0
+        survey = capsys.readouterr().out
+        told[name] = [set(re.findall(pattern, text)) for text, pattern in
+                      ((plan, r"(?m)^- ((?:K is|blocks are).*)"), (slopes, r"(?m)^(?:NOTE|LOOK AT): (.*)"), (survey, r"(?m)^- SLOPES: (.*)"))]
+    for by_plan, by_slopes, by_survey in told.values():
+        assert by_plan == by_slopes == by_survey
+    assert len(told["right"][0]) == 1 and len(told["small"][0]) == 2
 
 
 def test_the_command_tells_all_of_it(tmp_path, capsys):
@@ -100,11 +178,11 @@ def test_the_command_tells_all_of_it(tmp_path, capsys):
     text = capsys.readouterr().out
     rows = [" ".join(line.split()) for line in text.splitlines()]
     assert "K = 9 45.0 46.7 45.0 46.7 45.0 46.7 45.0 46.7 1.7 233 the plan's K" in rows
-    assert "12 benches high 45.0 46.7 45.0 46.7 45.0 46.7 45.0 46.7 1.7" in rows
+    assert "12 benches up 45.0 46.7 45.0 46.7 45.0 46.7 45.0 46.7 1.7" in rows
     assert "K = 1 90.0 90.0 90.0 90.0 90.0 90.0 90.0 90.0 45.0 1" in rows
-    assert "take K = 10, and expect walls of 9 to 12 benches" in text
+    assert "in a mine of 12 benches take K = 12" in text and "LOOK AT: K is too small: zone 0: K = 9 makes a pit of" in text
     assert main(["slopes", str(plan), "--K", "2"]) == 0
     rows = [" ".join(line.split()) for line in capsys.readouterr().out.splitlines()]
-    assert "12 benches high 45.0 54.7 45.0 54.7 45.0 54.7 45.0 54.7 9.7" in rows
+    assert "12 benches up 45.0 54.7 45.0 54.7 45.0 54.7 45.0 54.7 9.7" in rows
     assert main(["slopes", str(tmp_path / "none.plan")]) == 2
     assert "none.plan: No such file" in capsys.readouterr().err

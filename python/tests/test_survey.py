@@ -1,5 +1,6 @@
 """The survey's numbers beside those of another program of the same rules, and its page."""
 import base64
+import json
 import os
 import re
 import shutil
@@ -13,9 +14,12 @@ import mines
 from pit_tools import survey_facts
 from pit_tools.cli import main
 from pit_tools.deposits import Deposit
+from pit_tools.pictures import all_of_them, grade_ends, grade_legend, plane_at
+from pit_tools.survey_box import Inputs, box
 from pit_tools.survey_facts import read_facts
 from pit_tools.survey_page import survey_page
 from pit_tools.survey_text import above_cut_offs, spans, survey_text
+from pit_tools.survey_view import view
 from pit_tools.walls import measured, straight_walls
 from pit_tools.plan_file import plan_of
 
@@ -44,7 +48,7 @@ def test_numbers_are_those_of_the_awk_survey(surveyed):
     parts = dict((part.split(maxsplit=1)[0], part.strip()) for part in told.split("\n\n"))
     for part in wanted.split("\n\n"):
         assert parts[part.split(maxsplit=1)[0]] == part.strip()
-    assert set(parts) - {part.split(maxsplit=1)[0] for part in wanted.split("\n\n")} == {"LOOK", "CUT-OFFS", "WALLS", "SIDES"}
+    assert set(parts) - {part.split(maxsplit=1)[0] for part in wanted.split("\n\n")} == {"LOOK", "NOTE", "CUT-OFFS", "WALLS", "SIDES"}
 
 
 def test_what_leaves_the_model_and_the_pit_at_its_sides(surveyed):
@@ -84,12 +88,66 @@ def test_spans_of_periods():
 
 def test_the_page_stands_alone_and_has_its_pictures(surveyed, tmp_path):
     base, zones = surveyed
-    page = survey_page(read_facts(base + ".plan", base, zones))
+    page = survey_page(read_facts(base + ".plan", base, zones), Inputs(base + ".plan", base, zones))
     pictures = re.findall(r'src="data:image/png;base64,([^"]+)"', page)
     assert len(pictures) == 6 and not re.search(r'(src|href)="(?!data:|#)', page)
     for picture in pictures:
         assert base64.b64decode(picture)[:8] == b"\x89PNG\r\n\x1a\n"
     assert "at a side of the model" in page and "<pre>deposit: 3 zones" in page
+
+
+def test_the_page_begins_with_what_is_handed_on(surveyed):
+    """The pit's sums by the arrays themselves, and the sums of the files by another program of them."""
+    base, zones = surveyed
+    facts = read_facts(base + ".plan", base, zones)
+    rows = {entry.name: entry.lines for entry in box(facts, Inputs(base + ".plan", base, zones))}
+    ore = facts.pit & (facts.best < 2)
+    tonnes, metal = facts.blocks.tonnes, facts.blocks.tonnes * facts.blocks.grade
+    assert rows["pit"][0].startswith(f"{tonnes[ore].sum():,.0f} t of ore with {metal[ore].sum() / tonnes[ore].sum():.4f} g/t, ")
+    assert f"strip ratio {tonnes[facts.pit & ~ore].sum() / tonnes[ore].sum():.2f}, in 2,337 blocks" in rows["pit"][0]
+    assert f"worth {facts.greatest[facts.pit].sum():,.2f} in units of 100 cents" in rows["pit"][2]
+    assert any(line.startswith("pit-tools ") for line in rows["made"]) and "mill,mill,920,5800000,1650" in rows["plan"]
+    told = dict(line.split("  ")[::-1] for line in rows["inputs"])
+    paths = [base + ".plan", *zones, base + ".blocks", base + ".pcpsp"]
+    assert told == {path: subprocess.run(["sha256sum", path], capture_output=True, text=True, check=True).stdout.split()[0] for path in paths} \
+        | {base + ".prec": f"{os.path.getsize(base + '.prec'):,} bytes"}
+
+
+def test_the_pit_to_turn_has_each_column(surveyed):
+    base, zones = surveyed
+    facts = read_facts(base + ".plan", base, zones)
+    data = json.loads(re.search(r"const d = (\{.*?\}), canvas", view(facts))[1])
+    top, mined = np.array(data["top"], dtype=float), np.array(data["mined"], dtype=bool)
+    assert data["size"] == [20, 20] and top.shape == (18, 24)
+    assert mined.sum() == len(np.unique(facts.column[facts.pit]))
+    # What is dug and what stays have the volume of the model.
+    dug = (facts.centroid(2, facts.ground() + 0.5) - top)[mined].sum() * 20 * 20
+    assert dug == pytest.approx(facts.pit.sum() * 4000, rel=0.02)
+
+
+@pytest.mark.parametrize("word, told", [("y=2500", "no block lies at y = 2500 m"), ("q=1", "give an axis and metres"), ("y=", "give an axis and metres"),
+                                        ("z=nan", "give an axis and metres")])
+def test_sections_that_cannot_be_drawn_are_named(tmp_path, capsys, word, told):
+    base = mines.six_blocks(tmp_path)
+    assert main(["survey", base + ".plan", base, "--section", word]) == 2
+    assert told in capsys.readouterr().err
+
+
+def test_a_section_that_is_asked_for_stands_on_the_page(tmp_path):
+    base = mines.six_blocks(tmp_path)
+    facts = read_facts(base + ".plan", base)
+    names = [name for name, _, _ in all_of_them(facts, [plane_at(facts, "x", 12), plane_at(facts, "z", 0)])]
+    assert names == ["maps", "sections", "more-sections", "cut-offs", "slopes", "periods", "rock"]
+    assert plane_at(facts, "x", 12) == ("x", 1)
+
+
+def test_the_first_shade_of_grades_is_what_pays_nowhere(surveyed):
+    base, zones = surveyed
+    facts = read_facts(base + ".plan", base, zones)
+    ends = grade_ends(facts)
+    # The heap: 10^6 x 620 / (300 x 5800000) = 0.3563 g/t, the mill: 10^6 x 1650 / (920 x 5800000) = 0.3092 g/t.
+    assert ends[:2] == pytest.approx([0, 0.309]) and len(ends) == 6 and np.all(np.diff(ends) > 0)
+    assert grade_legend(facts)[0].get_label() == "0 to 0.309: pays nowhere"
 
 
 @pytest.mark.parametrize("words, told", [
@@ -118,7 +176,8 @@ BROWSER = next(filter(None, map(shutil.which, ("chromium", "chromium-browser", "
 def test_a_browser_shows_the_page_with_its_pictures(surveyed, tmp_path):
     """The picture of the page has the red of the model's sides, the shades of grades and the colours of zones."""
     base, zones = surveyed
-    (tmp_path / "survey.html").write_text(survey_page(read_facts(base + ".plan", base, zones)))
+    facts = read_facts(base + ".plan", base, zones)
+    (tmp_path / "survey.html").write_text(survey_page(facts, Inputs(base + ".plan", base, zones)))
     words = [BROWSER, "--headless", "--no-sandbox", "--disable-gpu", f"--user-data-dir={tmp_path / 'browser'}", "--window-size=1320,4200",
              f"--screenshot={tmp_path / 'page.png'}", f"file://{tmp_path / 'survey.html'}"]
     subprocess.run(words, capture_output=True, timeout=120, check=True)

@@ -9,6 +9,7 @@ from pit_tools.commands import add_precedence_option
 if TYPE_CHECKING:
     from pit_tools.instance import Instance
     from pit_tools.plan_file import Plan
+    from pit_tools.plan_note import PlanNote
 
 HELP = """\
 Finds the ultimate pit of an instance: the blocks of greatest value in all, each with all that it
@@ -18,7 +19,8 @@ compiler is there, HiGHS solves it up to some ten thousand blocks.
     pit-tools pit deposit --out deposit.pit
 
 reads deposit.blocks, deposit.prec and deposit.upit, writes the identifiers of the pit's blocks, one
-a line, and prints how many they are, their tonnes and their worth in units of 100 cents.
+a line, and prints how many they are, their tonnes and their worth: in the currency that the note of
+deposit.plan has, or else in units of 100 cents.
 
     pit-tools pit deposit --prec deposit.thin
 
@@ -59,8 +61,24 @@ def run(args: argparse.Namespace) -> int:
     in_pit = ultimate_pit(mine.upit.values, mine.precedence)
     if args.out:
         write_pit(in_pit, args.out)
-    print(told(in_pit, mine.blocks, mine.upit.values))
+    print(told(in_pit, mine.blocks, mine.upit.values, _note(args.base + ".plan", mine.upit.name)))
     return 0
+
+
+def _note(plan_path: str, name: str) -> PlanNote:
+    """The note of the plan of an instance of this name; where one is there and does not fit, that is told."""
+    import os
+    import sys
+
+    from pit_tools.plan_file import read_plan
+    from pit_tools.plan_note import PlanNote, read_note
+
+    if not os.path.exists(plan_path):
+        return PlanNote()
+    note = read_note(plan_path)
+    if note.why_not:
+        print(f"NOTE: {note.why_not}", file=sys.stderr)
+    return note if note.plan and read_plan(plan_path).name == name else PlanNote()
 
 
 def _by_plan(args: argparse.Namespace) -> int:
@@ -75,16 +93,17 @@ def _by_plan(args: argparse.Namespace) -> int:
         raise UserError(f"cannot open {args.base}.upit: No such file or directory")
     if mine.blocks.zone.max() >= len(plan.zones):
         raise UserError(f"{args.base}.blocks has a zone {mine.blocks.zone.max()}, and the plan {len(plan.zones)} zones")
+    note = _note(args.plan, plan.name)
     benches = args.K.split(",")
     for K in benches:
         if K != "plan" and not (K.isdigit() and 1 <= int(K) <= 20):
             raise UserError(f"--K: `{K}` is neither 1 to 20 nor `plan`")
     with outputs.together():
-        _pits_by_K(args, plan, mine, benches)
+        _pits_by_K(args, plan, mine, benches, note)
     return 0
 
 
-def _pits_by_K(args: argparse.Namespace, plan: Plan, mine: Instance, benches: list[str]) -> None:
+def _pits_by_K(args: argparse.Namespace, plan: Plan, mine: Instance, benches: list[str], note: PlanNote) -> None:
     """The pit for each of these K, or the plan's own."""
     from dataclasses import replace
 
@@ -101,4 +120,4 @@ def _pits_by_K(args: argparse.Namespace, plan: Plan, mine: Instance, benches: li
             in_pit = ultimate_pit(mine.upit.values, precedence_of(mine.blocks, varied))
         if args.out:
             write_pit(in_pit, f"{args.out}{K}.pit")
-        print(f"K = {K}: {told(in_pit, mine.blocks, mine.upit.values)}", flush=True)
+        print(f"K = {K}: {told(in_pit, mine.blocks, mine.upit.values, note)}", flush=True)

@@ -2,6 +2,15 @@
 from __future__ import annotations
 
 import argparse
+import os
+from typing import TYPE_CHECKING, Sequence
+
+if TYPE_CHECKING:
+    from pit_tools.contacts import Contacts
+    from pit_tools.imported import ImportedFile
+    from pit_tools.plan_file import Zone
+    from pit_tools.plan_note import PlanNote
+    from pit_tools.plan_words import Told
 
 HELP = """Writes a first plan from words with units, and explains each record.
 
@@ -14,7 +23,10 @@ HELP = """Writes a first plan from words with units, and explains each record.
 FROM is what `import` wrote: it has the grid and the zones in their order. A cost is all that a tonne
 costs which goes there, with mining and haulage; --mining adds that to each. Slopes are degrees or
 p:q, for all sides, by side, or by sectors of azimuth (`west: 0-90 50, 90-360 45`), which become the
-sides of the zone. K is the one to take for walls as high as the model."""
+sides of the zone. K is as great as the model is high, 20 at the most. All money is of one currency.
+
+Beside PLAN it writes PLAN.json, a note by which survey, pit and report know the currency, the unit of
+grades and the names of zones."""
 
 WRITES = "plans"
 
@@ -32,8 +44,8 @@ def add_arguments(parser: argparse.ArgumentParser) -> None:
     add("--slope", action="append", default=[], metavar="WORDS", help="of all zones, or 'ZONE: ..'")
     add("--K", type=int, default=None, metavar="K", help="of all zones")
     add("--benches", type=int, default=0, metavar="N", help="how high walls are, where that is not the model's height")
-    add("--periods", default="1 year", metavar="WORDS", help="as '12 years' or '16 quarters'")
-    add("--rate", default="8 %", metavar="RATE", help="of discounting, a year")
+    add("--periods", default="", metavar="WORDS", help="as '12 years' or '16 quarters'; one year where it is not given")
+    add("--rate", default="", metavar="RATE", help="of discounting, a year; 8 %% where it is not given")
     add("--limit", action="append", default=[], metavar="WORDS", help="'NAME: DESTINATION .., at most 2.5 Mt a year, period 0 to 3'")
     add("--parts", type=int, default=1, metavar="N", help="count money in 1/N cents, where a kilogram of metal brings few cents")
 
@@ -42,6 +54,7 @@ def run(args: argparse.Namespace) -> int:
     from pit_tools import outputs
     from pit_tools.errors import UserError
     from pit_tools.imported import read_imported
+    from pit_tools.plan_note import write_note
     from pit_tools.plan_words import Spoken, plan_from
 
     if args.K is not None and not 1 <= args.K <= 20:
@@ -50,15 +63,45 @@ def run(args: argparse.Namespace) -> int:
         raise UserError(f"--parts: {args.parts} is below 1")
     imported = read_imported(args.imported)
     told = {key: value for key, value in vars(args).items() if key in Spoken.__dataclass_fields__}
-    words = Spoken(**told, is_return=imported.is_return, x_bearing=imported.x_bearing, K_of=imported.benches)
-    plan, explained = plan_from(words, imported.grid, imported.zones, imported.blocks[2])
+    words = Spoken(**told, grade_unit=imported.grade_unit, x_bearing=imported.x_bearing, K_of=imported.benches)
+    plan, explained = plan_from(words, imported.grid, imported.zones, imported.blocks[2], lambda zones: _contacts(imported, zones))
     print(explained.text())
     print()
-    if args.out:
+    if not args.out:
+        print(plan.text(), end="")
+        return 0
+    is_file = os.path.isfile(args.out) or not os.path.exists(args.out)
+    with outputs.together():
         with outputs.opened(args.out, "plan", "ascii") as file:
             file.write(plan.text())
-        print(f"written: {args.out}; the instance comes by")
-        print(f"    pitc compile --plan {args.out} --out {plan.name} {' '.join(imported.files)}")
-    else:
-        print(plan.text(), end="")
+        note = write_note(_note(plan.text(), imported, explained), args.out) if is_file else None
+    if note:
+        print(f"written: {note}, by which survey, pit and report know units and names")
+    print(f"written: {args.out}; the instance comes by")
+    print(f"    pitc compile --plan {args.out} --out {plan.name} {' '.join(imported.files)}")
     return 0
+
+
+def _contacts(imported: ImportedFile, zones: Sequence[Zone]) -> Contacts:
+    """Where zones of unlike slopes meet, by the blocks of the zone files, where they are there."""
+    from pit_tools.cones import Places, size_in_millimetres
+    from pit_tools.contacts import Contacts, contacts_of, differ
+    from pit_tools.valuation import blocks_of
+    from pit_tools.zone_files import read_zone_files
+
+    if not differ(zones) or not all(map(os.path.exists, imported.files)):
+        return Contacts()
+    blocks = blocks_of(imported.grid, read_zone_files(imported.files))
+    return contacts_of(blocks, zones, size_in_millimetres(imported.grid), Places(blocks))
+
+
+def _note(plan_text: str, imported: ImportedFile, explained: Told) -> PlanNote:
+    import hashlib
+
+    from pit_tools.plan_note import PlanNote, ZoneSeen, sum_or_none
+
+    plan_sum = hashlib.sha256(plan_text.encode("ascii")).hexdigest()
+
+    zones = [ZoneSeen(name, os.path.basename(path), sum_or_none(path)) for name, path in zip(imported.zones, imported.files)]
+    return PlanNote(plan_sum, explained.measures, zones, explained.lines, explained.notes,
+                    [(path, sum_or_none(path)) for path in imported.exports], imported.told, imported.doubts)

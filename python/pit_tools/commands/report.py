@@ -10,8 +10,9 @@ destination and, of a schedule, by period; and how many of its blocks are at a s
     pit-tools report deposit.plan deposit deposit.pit
 
 reads deposit.blocks and deposit.pcpsp. Ore is what goes to a mill or a leach. A block of a pit goes where it
-is worth most; one of a schedule where its line says. Values are in units of 100 cents, undiscounted
-but in the last column of periods, where one of period t counts 1 / (1 + rate)^t.
+is worth most; one of a schedule where its line says. Values are in the currency of the plan's note, or
+in units of 100 cents where there is none, undiscounted but in the last column of periods, where one
+of period t counts 1 / (1 + rate)^t.
 """
 
 
@@ -28,12 +29,15 @@ def run(args: argparse.Namespace) -> int:
     from pit_tools.errors import UserError
     from pit_tools.instance import read_blocks, read_outline
     from pit_tools.plan_file import read_plan
+    from pit_tools.plan_note import read_note
     from pit_tools.report import Report
     from pit_tools.survey_facts import Facts
 
     plan, blocks, outline = read_plan(args.plan), read_blocks(args.base + ".blocks"), read_outline(args.base + ".pcpsp")
     if outline.values.shape != (len(blocks), len(plan.destinations)):
         raise UserError(f"{args.base}.pcpsp: no values of these blocks at {len(plan.destinations)} destinations")
-    facts = Facts(plan, blocks, np.zeros(len(blocks), dtype=np.int64), outline)
+    facts = Facts(plan, blocks, np.zeros(len(blocks), dtype=np.int64), outline, note=read_note(args.plan))
+    if facts.note.why_not:
+        print(f"NOTE: {facts.note.why_not}\n")
     print(Report(facts, read_mined(args.mined, plan, len(blocks))).text(), end="")
     return 0

@@ -2,6 +2,11 @@
 from __future__ import annotations
 
 import argparse
+from typing import TYPE_CHECKING
+
+if TYPE_CHECKING:
+    from pit_tools.pictures import Plane
+    from pit_tools.survey_facts import Facts
 
 HELP = """\
 Draws a section through a deposit, or a bench of it, by grade or by zone, with the outlines of pits.
@@ -37,12 +42,13 @@ def run(args: argparse.Namespace) -> int:
     from pit_tools.instance import Outline, read_blocks
     from pit_tools.pits import read_pit
     from pit_tools.plan_file import read_plan
+    from pit_tools.plan_note import read_note
     from pit_tools.survey_facts import Facts
 
     if args.out.rpartition(".")[2].lower() not in ("png", "svg", "pdf"):
         raise UserError(f"--out: `{args.out}` ends with none of .png, .svg and .pdf")
     plan, blocks = read_plan(args.plan), read_blocks(args.base + ".blocks")
-    facts = Facts(plan, blocks, np.zeros(len(blocks), np.int64), Outline({}, np.zeros((len(blocks), 1)), 0, []))
+    facts = Facts(plan, blocks, np.zeros(len(blocks), np.int64), Outline({}, np.zeros((len(blocks), 1)), 0, []), note=read_note(args.plan))
     pits = []
     for number, given in enumerate(args.pit):
         path, _, name = given.partition("=")
@@ -53,21 +59,12 @@ def run(args: argparse.Namespace) -> int:
     return 0
 
 
-def _plane(args: argparse.Namespace, facts) -> tuple[str, int]:
-    """The axis across which the plane lies, and its index."""
-    from pit_tools.errors import UserError
-    from pit_tools.pictures import PLANES, richest
+def _plane(args: argparse.Namespace, facts: Facts) -> Plane:
+    """The plane that is asked for, or else that along x through most metal."""
+    from pit_tools.pictures import Plane, plane_at, richest
 
     given = next(((axis, value) for axis in "xyz" if (value := getattr(args, axis)) is not None), None)
-    if given is None:
-        return "y", richest(facts, 1)
-    axis, metres = given
-    number = PLANES[axis][0]
-    index = round((metres - facts.origin[number]) / facts.metres[number])
-    if not (facts.indices(number) == index).any():
-        ends = (facts.centroid(number, end) for end in (facts.axes[number].least, facts.axes[number].most))
-        raise UserError("no block lies at {} = {:g} m: they lie from {:g} to {:g} m".format(axis, metres, *ends))
-    return axis, index
+    return plane_at(facts, *given) if given else Plane("y", richest(facts, 1))
 
 
 def _draw(facts, normal: str, index: int, pits: list, args: argparse.Namespace) -> None:

@@ -14,10 +14,12 @@ HELP = """Tells how steep the walls are that the cones of a plan give, beside th
 For each zone it tells, by bearing (+y is north),
 
 - the pit of one deep block, by K: the walls of a pit that goes on for ever;
-- straight walls of 3 to 60 benches, at the plan's K or at --K: blocks are whole, so low walls are
-  steeper;
-- by how many degrees walls are too steep in the worst bearing, by K and height;
-- the K to take for walls as high as --benches says, or what to do where no K is enough.
+- straight walls that rise 3 to 60 benches, from a block to one so far above it, at the plan's K or at
+  --K: blocks are whole, so low walls are steeper;
+- by how many degrees walls are too steep in the worst bearing, by K and rise;
+
+and then, for all zones together, the K to take for a mine of as many benches as --benches says, as
+`plan` and `survey` do: LOOK AT where the plan's K is too small, and NOTE where no K is enough.
 
 PLAN may be a plan that has `grid` and `zone` records alone. A greater K never makes a wall steeper.
 A straight wall is asked at atan(1 / |(ux q/p, uy q/p)|), the pit of one block at atan |(ux p/q, uy
@@ -28,11 +30,11 @@ SOME_K = (1, 2, 3, 4, 5, 6, 8, 10, 12, 15, 20)
 
 def add_arguments(parser: argparse.ArgumentParser) -> None:
     parser.add_argument("plan", metavar="PLAN")
-    parser.add_argument("--benches", type=int, default=0, metavar="N", help="the height of the mine's walls, for the K to take")
+    parser.add_argument("--benches", type=int, default=0, metavar="N", help="of the mine, for the K to take")
     parser.add_argument("--K", type=int, default=0, metavar="K", help="of straight walls by bearing, where it is not the plan's")
     parser.add_argument("--within", type=float, default=2, metavar="DEGREES", help="how much too steep a wall may be (2)")
     parser.add_argument("--decimals", type=int, default=1, metavar="N", help="of degrees (1)")
-    parser.add_argument("--brief", action="store_true", help="three lines for each zone")
+    parser.add_argument("--brief", action="store_true", help="two lines for each zone")
 
 
 def run(args: argparse.Namespace) -> int:
@@ -47,14 +49,14 @@ def run(args: argparse.Namespace) -> int:
     grid, zones = grid_and_zones(args.plan)
     print("blocks of " + " x ".join(plain(size) for size in grid.size) + " m")
     if args.brief:
-        _print_brief(grid, zones, args)
-        return 0
-    for number, zone in enumerate(zones):
+        _print_brief(grid, zones)
+    for number, zone in enumerate(zones) if not args.brief else ():
         print(f"\nzone {number}, {zone}")
         _print_pit_of_one_block(grid, zone, args.decimals)
         _print_walls(grid, zone, args.K or zone.benches, args.decimals)
-        _print_by_K_and_height(grid, zone, args.benches)
-        _print_advice(grid, zone, args.benches, args.within)
+        _print_by_K_and_rise(grid, zone)
+    for benches in [args.benches] if args.benches else (5, 10, 20, 40):
+        _print_judgement(grid, zones, benches, args.within)
     return 0
 
 
@@ -68,53 +70,49 @@ def _print_pit_of_one_block(grid: Grid, zone: Zone, decimals: int) -> None:
         slopes = "".join(f"{walls.given[K][at]:{width}.{decimals}f}" for at in EIGHT)
         own = "  the plan's K" if K == zone.benches else ""
         print(f"{f'K = {K}':26}{slopes}{walls.too_steep[K]:12.1f}{walls.arcs[K]:11d}{own}")
-    first = [walls.first_within(degrees) or "none" for degrees in (2, 1)]
-    print(f"first K within 2 degrees: {first[0]}, within 1: {first[1]}")
 
 
 def _print_walls(grid: Grid, zone: Zone, K: int, decimals: int) -> None:
-    from pit_tools.slope_words import heights_told
-    from pit_tools.walls import EIGHT, asked_straight, straight_walls
+    from pit_tools.walls import EIGHT, RISES, asked_straight, straight_walls
 
     asked, width = asked_straight(zone), decimals + 5
     walls = straight_walls(grid, zone, K, 60)
     print(f"\n{f'straight walls, K = {K}':26}" + "".join(" " * width for _ in EIGHT) + "   too steep")
     print(f"{'asked':26}" + "".join(f"{asked[at]:{width}.{decimals}f}" for at in EIGHT))
-    for benches in heights_told([]):
+    for benches in RISES:
         given = walls[benches - 1]
         slopes = "".join(f"{given[at]:{width}.{decimals}f}" for at in EIGHT)
-        print(f"{f'{benches} benches high':26}{slopes}{max(0.0, (given - asked).max()):12.1f}")
+        print(f"{f'{benches} benches up':26}{slopes}{max(0.0, (given - asked).max()):12.1f}")
 
 
-def _print_by_K_and_height(grid: Grid, zone: Zone, own_height: int) -> None:
-    from pit_tools.slope_words import heights_told
-    from pit_tools.walls import MOST_BENCHES, too_steep_at
+def _print_by_K_and_rise(grid: Grid, zone: Zone) -> None:
+    from pit_tools.slope_words import too_steep_by_rise
+    from pit_tools.walls import MOST_BENCHES, RISES
 
-    heights = heights_told([own_height] if own_height > 2 else [])
-    print("\ndegrees too steep in the worst bearing, by K and by height")
-    print(f"{'benches high':>14}" + "".join(f"{high:6d}" for high in heights))
+    print("\ndegrees too steep in the worst bearing, by K and rise")
+    print(f"{'benches up':>14}" + "".join(f"{high:6d}" for high in RISES))
     for K in (K for K in SOME_K + ((zone.benches,) if zone.benches not in SOME_K else ()) if K <= MOST_BENCHES):
-        row = "".join(f"{max(0.0, too_steep_at(grid, zone, high, K)):6.1f}" for high in heights)
+        over = too_steep_by_rise(grid, zone, K, RISES[-1])
+        row = "".join(f"{over[high - 1]:6.1f}" for high in RISES)
         print(f"{f'K = {K}':>14}{row}" + ("  the plan's K" if K == zone.benches else ""))
 
 
-def _print_advice(grid: Grid, zone: Zone, benches: int, within: float) -> None:
-    from pit_tools.slope_words import advice
+def _print_judgement(grid: Grid, zones: Sequence[Zone], benches: int, within: float) -> None:
+    from pit_tools.slope_words import judge
 
-    for high in [benches] if benches else (5, 10, 20, 40):
-        print(advice(grid, zone, high, within).told())
+    judged = judge(grid, zones, list(map(str, range(len(zones)))), benches, within)
+    print(f"\nin a mine of {benches} benches take K = {max(judged.K)}")
+    for head, told in (("LOOK AT", judged.look_at), ("NOTE", judged.notes)):
+        for line in told:
+            print(f"{head}: {line}")
 
 
-def _print_brief(grid: Grid, zones: Sequence[Zone], args: argparse.Namespace) -> None:
-    from pit_tools.slope_words import advice
+def _print_brief(grid: Grid, zones: Sequence[Zone]) -> None:
     from pit_tools.walls import measured
 
-    print(f"{'K =':>18} " + "".join(f"{K:6d}" for K in SOME_K) + "  first K within 2 and 1 degrees")
+    print(f"{'K =':>18} " + "".join(f"{K:6d}" for K in SOME_K))
     for number, zone in enumerate(zones):
         walls = measured(grid, zone)
-        first = [str(walls.first_within(degrees) or "none") for degrees in (2, 1)]
         over = "".join(f"{walls.too_steep[K]:6.1f}" for K in SOME_K)
-        print(f"zone {number:<3} too steep {over}  {first[0]:>7} {first[1]:>6}   {zone}")
+        print(f"zone {number:<3} too steep {over}   {zone}")
         print(f"{'arcs':>18} " + "".join(f"{walls.arcs[K]:6d}" for K in SOME_K))
-        if args.benches:
-            print(f"         {advice(grid, zone, args.benches, args.within).told()}")

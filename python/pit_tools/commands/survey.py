@@ -2,6 +2,11 @@
 from __future__ import annotations
 
 import argparse
+from typing import TYPE_CHECKING, Sequence
+
+if TYPE_CHECKING:
+    from pit_tools.pictures import Plane
+    from pit_tools.survey_facts import Facts
 
 HELP = """\
 Tells what was understood of a plan and its zone files: first LOOK AT, what is odd, in words; then
@@ -11,9 +16,12 @@ of the model, destinations, resources, and whether the files are those of the pl
     pit-tools survey deposit.plan deposit oxide.csv west.csv east.csv --html survey.html
 
 reads deposit.blocks, deposit.prec and deposit.pcpsp; zone files, in the order of `pitc compile`, are
-named, and their lines counted. The page has pictures besides: maps of metal, of the ground and of the
-floor of the ultimate pit, sections and a bench, the grade-tonnage curve, slopes as a rose, tonnes by
-period. It opens without a network.
+named, and their lines counted. The page begins with a box to hand on: the pit, the date and versions,
+the plan in words, what import left out, and the sums of the files. It has pictures besides: maps of
+metal, of the ground and of the floor of the ultimate pit, sections and a bench, the grade-tonnage
+curve, slopes as a rose, tonnes by period, and the pit to turn. It opens without a network.
+
+Units and names of zones are those of the note deposit.plan.json, which `pit-tools plan` writes.
 """
 
 WRITES = "surveys and pictures"
@@ -25,6 +33,7 @@ def add_arguments(parser: argparse.ArgumentParser) -> None:
     parser.add_argument("zones", nargs="*", metavar="zone", help="the zone files, in the plan's order")
     parser.add_argument("--html", metavar="FILE", help="writes a page with pictures")
     parser.add_argument("--pictures", metavar="FOLDER", help="writes the pictures as PNG files")
+    parser.add_argument("--section", action="append", default=[], metavar="AXIS=METRES", help="one more section, as y=2320, or a bench, as z=350; may be given again")
     parser.add_argument("--pit", metavar="FILE", help="the blocks of a pit, one a line, in place of the ultimate pit")
 
 
@@ -34,27 +43,43 @@ def run(args: argparse.Namespace) -> int:
     from pit_tools.survey_text import survey_text
 
     facts = read_facts(args.plan, args.base, args.zones, args.pit)
+    planes = [_plane(facts, text) for text in args.section]
     text = survey_text(facts)
     print(text, end="")
     with outputs.together():
         if args.html:
+            from pit_tools.survey_box import Inputs
             from pit_tools.survey_page import survey_page
 
-            page = survey_page(facts, text)
+            page = survey_page(facts, Inputs(args.plan, args.base, args.zones), text, planes)
             with outputs.opened(args.html, "survey", "utf-8") as file:
                 file.write(page)
         if args.pictures:
-            _write_pictures(facts, args.pictures)
+            _write_pictures(facts, planes, args.pictures)
     return 0
 
 
-def _write_pictures(facts, folder: str) -> None:
+def _plane(facts: Facts, text: str) -> Plane:
+    """The plane of a word, as y=2320. It raises UserError for what is none."""
+    from pit_tools.errors import UserError
+    from pit_tools.pictures import plane_at
+
+    axis, _, metres = text.partition("=")
+    try:
+        if axis in ("x", "y", "z"):
+            return plane_at(facts, axis, float(metres))
+    except (ValueError, OverflowError):
+        pass
+    raise UserError(f"--section: `{text}`: give an axis and metres, as y=2320")
+
+
+def _write_pictures(facts: Facts, planes: Sequence[Plane], folder: str) -> None:
     import os
 
     from pit_tools import outputs
     from pit_tools.pictures import all_of_them, png_of
 
     outputs.folder(folder)
-    for name, _, drawn in all_of_them(facts):
+    for name, _, drawn in all_of_them(facts, planes):
         with outputs.opened(os.path.join(folder, name + ".png"), "PNG picture") as file:
             file.write(png_of(drawn))
