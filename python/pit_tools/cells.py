@@ -78,7 +78,7 @@ class Marks:
             texts[odd] = found
         if self.missing_numbers:
             missing |= np.isin(floats, self.missing_numbers)
-        wrong |= np.isinf(floats)
+        wrong |= ~np.isfinite(floats) & ~missing
         floats[missing | wrong] = np.nan
         return Spelled(texts, floats, missing, wrong)
 

@@ -5,12 +5,13 @@ A block waits for those blocks up to K benches above it that lie in the cone of 
 """
 from __future__ import annotations
 
-from math import isqrt
+from math import isqrt, prod
 from typing import Optional, Sequence
 
 import numpy as np
 from scipy import sparse
 
+from pit_tools.errors import UserError
 from pit_tools.instance import Blocks
 from pit_tools.plan_file import Grid, Plan, Zone
 
@@ -62,6 +63,10 @@ def reach_along(size: Sequence[int], zone: Zone, dz: int) -> tuple[int, int, int
                  for slope, length in zip(zone.slopes, lengths))
 
 
+#: How many places a box may have: 4 GB.
+MOST_PLACES = 1_000_000_000
+
+
 class Places:
     """Which block lies at a place of the model's box: the identifier, or -1."""
 
@@ -69,6 +74,9 @@ class Places:
         self.least = np.array([axis.min() for axis in (blocks.x, blocks.y, blocks.z)])
         self.most = np.array([axis.max() for axis in (blocks.x, blocks.y, blocks.z)])
         self.shape = tuple((self.most - self.least + 1).tolist())
+        if prod(self.shape) > MOST_PLACES:
+            raise UserError(f"the blocks lie in a box of {' x '.join(f'{length:,}' for length in self.shape)} places, and "
+                            f"{MOST_PLACES:,} is the most: do two groups of blocks lie far apart?")
         self.blocks = blocks
         self.x, self.y, self.z = (axis - low for axis, low in zip((blocks.x, blocks.y, blocks.z), self.least))
         self.at = np.full(self.shape[::-1], -1, dtype=np.int32)

@@ -54,9 +54,10 @@ def places_of(names: Sequence[str]) -> dict[str, list[int]]:
     for at, name in enumerate(names):
         if plain_name(name):
             found.setdefault(plain_name(name), []).append(at)
+    whole = set(found)
     for at, name in enumerate(names):
         short = short_name(name)
-        if short and short not in map(plain_name, names):
+        if short and short not in whole:
             found.setdefault(short, []).append(at)
     return found
 
@@ -73,6 +74,11 @@ class Formula:
     def plain_column(self) -> Optional[int]:
         """The column that it is, where it is nothing else."""
         return self.columns[0] if len(self.columns) == 1 and self.code == column_name(self.columns[0]) else None
+
+    @property
+    def divides(self) -> bool:
+        """Whether it may have no value, as where it divides by 0."""
+        return any(isinstance(node, (ast.Div, ast.FloorDiv, ast.Mod, ast.Call)) for node in ast.walk(ast.parse(self.code, mode="eval")))
 
     def value(self, table: pd.DataFrame) -> pd.Series:
         """What it gives for the rows of a table with its columns _at0, _at1, .. as numbers, NaN where one is missing. A term of its

@@ -20,6 +20,9 @@ FINE = {"tonnes": 6, "grade": 9}
 
 COORDINATES = ("x", "y", "z")
 
+# A number of a formula that is greater than this is a mistake, in metres, tonnes or g/t, and could not be held.
+MOST = 1e9
+
 
 class Reading:
     """Takes the pieces of exports, one after the other, to arrays."""
@@ -193,8 +196,14 @@ class Piece:
             values[column_name(at)] = numbers
         table = pd.DataFrame(values, index=self.table.index)
         found = measure.formula.value(table).to_numpy(float).copy()
+        self.refuse_vast(np.isinf(found) & ~measure.formula.divides, what)
         found[np.isinf(found)] = np.nan
         return found
+
+    def refuse_vast(self, vast: np.ndarray, what: str) -> None:
+        """Stops at the first number of a formula that is too great to be held."""
+        if vast.any():
+            raise UserError(f"{self.line(int(np.flatnonzero(vast)[0]))}: {what} is too great a number: is its formula or unit another?")
 
     def refuse(self, wrong: np.ndarray, column: int) -> None:
         """Stops at the first cell that is no number."""
@@ -224,6 +233,7 @@ class Piece:
         if np.isnan(values).any():
             raise UserError(f"{self.line(int(np.flatnonzero(np.isnan(values))[0]))}: {key} cannot be computed: a cell is missing, or it is "
                             "divided by 0")
+        self.refuse_vast(np.abs(values) > MOST, key)
         return np.rint(values * 1000).astype(np.int64)
 
     def measure(self, key: str, places: int) -> tuple[np.ndarray, np.ndarray]:
@@ -239,6 +249,7 @@ class Piece:
             return np.where(missing, 0, parts), missing
         values = self.in_pitc_units(key)
         missing = np.isnan(values) | (values < 0)
+        self.refuse_vast(values > MOST, key)
         return np.rint(np.where(missing, 0, values) * 10 ** places).astype(np.int64), missing
 
     def in_pitc_units(self, key: str) -> np.ndarray:

@@ -213,8 +213,8 @@ def _beside(target: str, what: str, make: Callable[[str], Made]) -> tuple[str, M
     raise FileExistsError(errno.EEXIST, os.strerror(errno.EEXIST), path)
 
 
-def _created(path: str) -> int:
-    return os.open(path, os.O_CREAT | os.O_EXCL | os.O_WRONLY | os.O_CLOEXEC, 0o666)
+def _created(path: str, mode: int) -> int:
+    return os.open(path, os.O_CREAT | os.O_EXCL | os.O_WRONLY | os.O_CLOEXEC, mode)
 
 
 # Files that come together
@@ -263,17 +263,20 @@ class _Group:
             raise UserError(f"{place}: the file there is of another kind than `{kind}`: --force replaces it")
 
     def _made_beside(self, place: str, target: str) -> _Raw:
+        old = os.stat(target) if os.path.exists(target) else None
+        mode = stat.S_IMODE(old.st_mode) & 0o777 if old else 0o666
         try:
-            path, descriptor = _beside(target, "unfinished", _created)
+            path, descriptor = _beside(target, "unfinished", lambda name: _created(name, mode))
         except PermissionError:
-            if os.path.exists(target):
+            if old:
                 raise UserError(f"{place}: its folder may not be written, where a new file stands until "
                                 "it is whole") from None
             raise PermissionError(errno.EACCES, os.strerror(errno.EACCES), place) from None
         except OSError as error:
             raise _named(error, place) from None
         self.files.append(_Unfinished(place, target, path))
-        _take_rights(descriptor, target)
+        if old:
+            _take_rights(descriptor, old)
         return _Raw(descriptor, place)
 
     def drop(self, files: Iterable[_Unfinished]) -> None:
@@ -323,19 +326,16 @@ class _Group:
                 pass
 
 
-def _take_rights(descriptor: int, target: str) -> None:
-    """Gives a new file the owner and the mode of the one whose place it takes."""
-    try:
-        old = os.stat(target)
-    except OSError:
-        return
+def _take_rights(descriptor: int, old: os.stat_result) -> None:
+    """Gives a new file the owner and the mode of the one whose place it takes, as far as the system
+    lets it: where it does not, nobody can do more with it than before."""
     new = os.fstat(descriptor)
-    if (old.st_uid, old.st_gid) != (new.st_uid, new.st_gid):
-        try:
+    try:
+        if (old.st_uid, old.st_gid) != (new.st_uid, new.st_gid):
             os.fchown(descriptor, old.st_uid, old.st_gid)
-        except OSError:
-            pass
-    os.fchmod(descriptor, stat.S_IMODE(old.st_mode))
+        os.fchmod(descriptor, stat.S_IMODE(old.st_mode))
+    except OSError:
+        pass
 
 
 def _kept(one: _Unfinished) -> Optional[str]:

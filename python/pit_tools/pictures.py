@@ -4,6 +4,7 @@ from __future__ import annotations
 import io
 from typing import NamedTuple, Optional, Sequence
 
+import matplotlib
 import numpy as np
 from matplotlib.backends.backend_agg import FigureCanvasAgg
 from matplotlib.collections import LineCollection
@@ -23,6 +24,9 @@ GRADE_COLOURS = ("#ece8df", "#fde3a7", "#fdbb63", "#f4813f", "#d1422b", "#7f1420
 
 #: Of zones, in turn.
 ZONE_COLOURS = ("#4c78a8", "#e0a030", "#72a86b", "#b279a2", "#9d755d", "#79b8b2", "#d67195", "#8a8a8a", "#c7b446", "#5f5fa8")
+
+# A `$` in a name is a sign of the name, and begins no formula.
+matplotlib.rcParams["text.parse_math"] = False
 
 OUTLINE, SIDE, GROUND = "#111111", "#d00000", "#7a5c2e"
 

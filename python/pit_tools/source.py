@@ -8,10 +8,12 @@ import csv
 import gzip
 import io
 import lzma
+import os
 import re
 import zipfile
+import zlib
 from dataclasses import dataclass, field
-from typing import BinaryIO, Callable, Iterator, Optional, Sequence, TextIO
+from typing import IO, Any, BinaryIO, Callable, Iterator, Optional, Sequence, TextIO
 
 import numpy as np
 import pandas as pd
@@ -24,6 +26,18 @@ CHUNK = 100_000
 
 # How many bytes are looked at at a time.
 PIECE = 1 << 22
+
+# How many bytes a line may have, and a cell in quotes with all its lines; and how many signs are looked at to find the header.
+MOST_LINE = 1 << 24
+HEAD = 1 << 20
+
+# How many columns there may be: as many as a sheet has.
+MOST_COLUMNS = 16_384
+
+# How many times its size an archive may unpack to, where that is more than so many bytes.
+MOST_TIMES, LEAST_UNPACKED = 200, 100_000_000
+
+csv.field_size_limit(MOST_LINE)
 
 # Among how many lines the header is looked for.
 HEAD_LINES = 100
@@ -42,19 +56,55 @@ def opened(path: str) -> BinaryIO:
     """The bytes of a file, unpacked where it is a gzip, bzip2, xz or zip file of one text."""
     with open(path, "rb") as file:
         front = file.read(6)
-    if front.startswith(b"\x1f\x8b"):
-        return gzip.open(path)
-    if front.startswith(b"BZh"):
-        return bz2.open(path)
-    if front.startswith(b"\xfd7zXZ"):
-        return lzma.open(path)
-    if front.startswith(b"PK"):
-        archive = zipfile.ZipFile(path)
-        names = [name for name in archive.namelist() if not name.endswith("/")]
-        if len(names) != 1:
-            raise UserError(f"{path}: the archive has {len(names)} files: unpack it, and name one")
-        return archive.open(names[0])
+    for mark, unpack in ((b"\x1f\x8b", gzip.open), (b"BZh", bz2.open), (b"\xfd7zXZ", lzma.open), (b"PK\x03\x04", _only_file_of)):
+        if front.startswith(mark):
+            return io.BufferedReader(Unpacked(path, unpack), 1 << 16)
     return open(path, "rb")
+
+
+def _only_file_of(path: str) -> IO[bytes]:
+    """The one file of a zip archive."""
+    archive = zipfile.ZipFile(path)
+    names = [name for name in archive.namelist() if not name.endswith("/")]
+    if len(names) != 1:
+        raise UserError(f"{path}: the archive has {len(names)} files: unpack it, and name one")
+    return archive.open(names[0])
+
+
+class Unpacked(io.RawIOBase):
+    """What an archive holds. It raises UserError where that is damaged, cut short, or grows beyond all measure."""
+
+    def __init__(self, path: str, unpack: Callable[[str], IO[bytes]]) -> None:
+        self.path, self.count = path, 0
+        self.most = max(LEAST_UNPACKED, MOST_TIMES * os.path.getsize(path))
+        self.file = self.read_by(lambda: unpack(path))
+
+    def readable(self) -> bool:
+        return True
+
+    def readinto(self, room: Any) -> int:
+        piece = self.read_by(lambda: self.file.read(len(room)))
+        room[:len(piece)] = piece
+        self.count += len(piece)
+        if self.count > self.most:
+            raise UserError(f"{self.path}: the archive unpacks to more than {MOST_TIMES} times its size: unpack it first, and look at it")
+        return len(piece)
+
+    def read_by(self, step: Callable[[], Any]) -> Any:
+        """What a step gives, its faults told with the archive's name."""
+        try:
+            return step()
+        except (EOFError, zlib.error, lzma.LZMAError, zipfile.BadZipFile, gzip.BadGzipFile, RuntimeError, NotImplementedError) as error:
+            raise UserError(f"{self.path}: the archive is cut short or damaged, or locked: {' '.join(str(error).split())}") from None
+        except OSError as error:
+            if error.errno:
+                raise
+            raise UserError(f"{self.path}: the archive is damaged: {error}") from None
+
+    def close(self) -> None:
+        if not self.closed:
+            self.file.close()
+        super().close()
 
 
 def is_workbook(path: str) -> bool:
@@ -114,6 +164,10 @@ class Source:
     sheet: Optional[pd.DataFrame] = None
     sheet_name: str = ""
 
+    def __post_init__(self) -> None:
+        if len(self.names) > MOST_COLUMNS:
+            raise UserError(f"{self.path}: it has {len(self.names):,} columns, and a sheet has {MOST_COLUMNS:,} at the most: export fewer")
+
     def told(self) -> str:
         """How the export is written, in words."""
         if self.kind == "workbook":
@@ -166,15 +220,34 @@ class Source:
             for _ in range(self.above):
                 file.readline()
             while piece := file.read(PIECE):
-                piece += file.readline()
-                while piece.count(b'"') % 2 and (more := file.readline()):
-                    piece += more
+                piece += self.line_behind(file, piece, line)
+                quotes, pieces, length = piece.count(b'"'), [piece], len(piece)
+                while quotes % 2 and (more := file.readline(MOST_LINE)):
+                    quotes, length = quotes + more.count(b'"'), length + len(more)
+                    if length > PIECE + MOST_LINE:
+                        raise UserError(f"{self.path}: a quote that opens behind line {line:,} is not closed within {MOST_LINE:,} bytes")
+                    pieces.append(more)
+                piece = b"".join(pieces)
                 if not _has_width(piece, self.separator, len(self.names)):
                     text = io.StringIO(piece.decode(self.encoding, "replace"), newline="")
                     self._judge(widths_of(text, self.separator), line)
                 line += piece.count(b"\n")
 
+    def line_behind(self, file: BinaryIO, piece: bytes, line: int) -> bytes:
+        """The rest of the line in which a piece ends. It raises UserError where that does not end."""
+        rest = file.readline(MOST_LINE)
+        if len(rest) == MOST_LINE and not rest.endswith(b"\n") and b"\r" not in rest:
+            last = line + piece.count(b"\n")
+            raise UserError(f"{self.path}: behind line {last:,} a line has more than {MOST_LINE:,} bytes: has the file lost its line ends?")
+        return rest
+
     def _judge(self, widths: Iterator[tuple[int, int]], above: int) -> None:
+        try:
+            self._judge_each(widths, above)
+        except csv.Error as error:
+            raise UserError(f"{self.path}: behind line {above:,}: {error}") from None
+
+    def _judge_each(self, widths: Iterator[tuple[int, int]], above: int) -> None:
         width = len(self.names)
         for line, found in widths:
             if found != width:
@@ -226,12 +299,10 @@ def widths_of(text: TextIO, separator: str) -> Iterator[tuple[int, int]]:
                 yield line, row.count(separator) + 1
             continue
         # A quoted cell may go on over lines.
-        pieces = [row]
-        while "".join(pieces).count('"') % 2:
-            more = text.readline()
-            if not more:
-                break
+        pieces, quotes = [row], row.count('"')
+        while quotes % 2 and (more := text.readline()):
             pieces.append(more)
+            quotes += more.count('"')
             line += 1
         yield line, len(next(csv.reader(pieces, delimiter=separator)))
 
@@ -239,10 +310,12 @@ def widths_of(text: TextIO, separator: str) -> Iterator[tuple[int, int]]:
 def head_of(path: str, encoding: str) -> str:
     """The first lines of a text, enough for any header."""
     with io.TextIOWrapper(opened(path), encoding=encoding, errors="replace", newline="") as text:
-        head = text.read(1 << 18)
+        head = text.read(HEAD)
     if not head.strip():
         raise UserError(f"{path}: there is no text")
-    if len(head) == 1 << 18 and "\n" in head:
+    if len(head) == HEAD and "\n" not in head and "\r" not in head:
+        raise UserError(f"{path}: the first line has more than {HEAD:,} signs: has the file lost its line ends?")
+    if len(head) == HEAD and "\n" in head:
         head = head[:head.rindex("\n") + 1]
     return head
 

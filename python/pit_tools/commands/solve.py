@@ -34,6 +34,7 @@ def add_arguments(parser: argparse.ArgumentParser) -> None:
 
 
 def run(args: argparse.Namespace) -> int:
+    from pit_tools import outputs
     from pit_tools.commands.lp import fewer_arcs
     from pit_tools.instance import read_precedence, read_problem
     from pit_tools.programs import program_of, schedule_of, solve
@@ -41,6 +42,7 @@ def run(args: argparse.Namespace) -> int:
 
     problem = read_problem(args.problem)
     precedence = fewer_arcs(read_precedence(args.precedence, len(problem.values)), args.all_arcs)
+    outputs.judged(args.out)
     program = program_of(problem, precedence, args.relaxed, args.whole)
     answer = solve(program, args.seconds or None, args.ratio)
     if answer.values is None:

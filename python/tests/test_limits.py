@@ -1,0 +1,136 @@
+"""What an export must not do: stand half in its archive, grow beyond all measure, or have numbers that cannot be held."""
+import bz2
+import gzip
+import io
+import lzma
+import os
+import zipfile
+
+import pytest
+
+from pit_tools.cli import main
+
+HEAD = "X,Y,Z,T,AU\n"
+
+ROWS = "".join(f"{x},{y},{z},1000,{x % 3}.5\n" for x in range(0, 40, 10) for y in (0, 10) for z in (0, 10))
+
+WORDS = ["--x", "X", "--y", "Y", "--z", "Z"]
+
+MEASURES = ["--tonnes", "T", "--grade", "AU"]
+
+
+def imported(folder, content, capsys, measures=(), name="export.csv"):
+    """The status of an import, and the line of its fault."""
+    path = folder / name
+    path.write_bytes(content if isinstance(content, bytes) else content.encode())
+    status = main(["import", str(path), *WORDS, *(measures or MEASURES)])
+    return status, capsys.readouterr().err.replace(f"{folder}{os.sep}", "")
+
+
+@pytest.mark.parametrize("row, column", [("0,0,20,1e400,1", "T"), ("0,0,20,1000,1e400", "AU")])
+def test_a_number_that_is_too_great_stops_with_its_line(tmp_path, capsys, row, column):
+    status, told = imported(tmp_path, HEAD + ROWS + row + "\n", capsys)
+    assert status == 2 and f"line 18: the column {column} has `1e400`" in told
+
+
+@pytest.mark.parametrize("measures, what", [
+    (["--tonnes", "T", "--grade", "AU * 1e30"], "grade"),
+    (["--tonnes", "T * 1e300 * 1e300", "--grade", "AU"], "tonnes"),
+    (["--tonnes", "T", "--grade", "AU * 1e200 * 1e200 kg/t"], "grade"),
+])
+def test_a_formula_that_overflows_stops_with_its_line(tmp_path, capsys, measures, what):
+    status, told = imported(tmp_path, HEAD + ROWS, capsys, measures)
+    assert status == 2 and f"line 2: {what} is too great a number" in told
+
+
+def test_a_division_by_nothing_is_missing_and_no_overflow(tmp_path, capsys):
+    assert imported(tmp_path, HEAD + ROWS + "0,0,20,0,1\n", capsys, ["--tonnes", "1000 * T / T", "--grade", "AU"])[0] == 0
+
+
+@pytest.mark.parametrize("pack, ending", [(gzip.compress, "gz"), (bz2.compress, "bz2"), (lzma.compress, "xz")])
+def test_an_archive_that_was_cut_is_told_by_its_name(tmp_path, capsys, pack, ending):
+    packed = pack((HEAD + ROWS).encode())
+    assert imported(tmp_path, packed, capsys, name=f"a.{ending}")[0] == 0
+    status, told = imported(tmp_path, packed[:-9], capsys, name=f"a.{ending}")
+    assert status == 2 and told.startswith(f"pit-tools import: a.{ending}: the archive is ") and told.count("\n") == 1
+
+
+def zipped(text, damage=None):
+    made = io.BytesIO()
+    with zipfile.ZipFile(made, "w", zipfile.ZIP_DEFLATED) as archive:
+        archive.writestr("a.csv", text)
+    content = bytearray(made.getvalue())
+    if damage:
+        content[damage] ^= 255
+    return bytes(content)
+
+
+def test_a_zip_that_is_damaged_is_told_by_its_name(tmp_path, capsys):
+    assert imported(tmp_path, zipped(HEAD + ROWS), capsys, name="a.zip")[0] == 0
+    for content in (zipped(HEAD + ROWS, 60), zipped(HEAD + ROWS)[:80]):
+        status, told = imported(tmp_path, content, capsys, name="a.zip")
+        assert status == 2 and told.startswith("pit-tools import: a.zip: the archive is cut short or damaged")
+
+
+def test_a_text_that_begins_with_pk_is_no_archive(tmp_path, capsys):
+    text = "PK," + HEAD + "".join(f"a,{row}\n" for row in ROWS.splitlines())
+    assert imported(tmp_path, text, capsys)[0] == 0
+
+
+def test_an_archive_that_grows_beyond_all_measure_is_refused(tmp_path, capsys, monkeypatch):
+    monkeypatch.setattr("pit_tools.source.LEAST_UNPACKED", 100_000)
+    status, told = imported(tmp_path, gzip.compress((HEAD + ROWS + "0,0,20,1000,1\n" * 100_000).encode()), capsys, name="a.gz")
+    assert status == 2 and "a.gz: the archive unpacks to more than 200 times its size" in told
+
+
+def test_a_long_cell_in_quotes_is_read(tmp_path, capsys):
+    text = HEAD.replace("AU", "AU,NOTE") + "".join(f'{row},"{"x" * 200_000}"\n' for row in ROWS.splitlines()[:8])
+    assert imported(tmp_path, text, capsys)[0] == 0
+
+
+def test_a_quote_that_is_not_closed_and_a_line_without_end_are_told(tmp_path, capsys, monkeypatch):
+    monkeypatch.setattr("pit_tools.source.MOST_LINE", 1 << 16)
+    monkeypatch.setattr("pit_tools.source.PIECE", 1 << 16)
+    status, told = imported(tmp_path, HEAD + ROWS + '"' + ROWS * 2000, capsys)
+    assert status == 2 and "a quote that opens behind line" in told
+    status, told = imported(tmp_path, HEAD + ROWS + "0" * 400_000, capsys)
+    assert status == 2 and "export.csv: behind line 17 a line has more than" in told
+
+
+def test_a_first_line_without_end_is_told(tmp_path, capsys):
+    status, told = imported(tmp_path, "X," * 600_000, capsys)
+    assert status == 2 and "the first line has more than 1,048,576 signs" in told
+
+
+def test_a_header_of_as_many_columns_as_a_sheet_has_is_read_in_seconds(tmp_path, capsys):
+    import time
+
+    many = 16_384 - 5
+    text = HEAD.strip() + "," + ",".join(f"C{at}" for at in range(many)) + "\n" + "".join(row + ",1" * many + "\n" for row in ROWS.splitlines()[:8])
+    begun = time.process_time()
+    assert imported(tmp_path, text, capsys)[0] == 0
+    assert time.process_time() - begun < 20
+
+
+def test_more_columns_than_a_sheet_has_are_refused(tmp_path, capsys):
+    text = HEAD.strip() + "," + ",".join(f"C{at}" for at in range(16_384)) + "\n" + ROWS
+    status, told = imported(tmp_path, text, capsys)
+    assert status == 2 and "it has 16,389 columns, and a sheet has 16,384 at the most" in told
+
+
+def test_a_dollar_in_a_name_is_text_in_a_picture():
+    from pit_tools.pictures import figure, png_of
+
+    drawn = figure(2, 2)
+    drawn.suptitle("$50 pit at $\\bad")
+    assert png_of(drawn).startswith(b"\x89PNG")
+
+
+def test_two_blocks_far_apart_are_told_in_place_of_terabytes(tmp_path, capsys):
+    (tmp_path / "mine.plan").write_text("name,mine\ngrid,0,0,0,1,1,1\nzone,1,1,2\nmill,mill,900,6000000,1500\nperiods,1\nrate,0.1\n")
+    (tmp_path / "mine.blocks").write_text("0 0 0 0 1000 1 0\n1 9999 9999 9999 1000 1 0\n")
+    (tmp_path / "mine.upit").write_text("NAME: mine\nTYPE: UPIT\nNBLOCKS: 2\nOBJECTIVE_FUNCTION:\n0 1\n1 1\n")
+    base = str(tmp_path / "mine")
+    assert main(["pit", base, "--plan", base + ".plan", "--K", "1"]) == 2
+    told = capsys.readouterr().err
+    assert "a box of 10,000 x 10,000 x 10,000 places" in told and told.count("\n") == 1
