@@ -41,7 +41,9 @@ def contacts_of(blocks: Blocks, zones: Sequence[Zone], size: tuple[int, int, int
         if not others or not len(ids):
             continue
         _look_above(found, blocks, places, zone, one, ids, others)
-        for other, taken in _beside(blocks, zones, size, places, zone, ids).items():
+        # The highest bench of a cone that ends at steeper rock lies in that, and should.
+        benches = one.benches - 1 if found.begins.get(zone) == one.benches else one.benches
+        for other, taken in _beside(blocks, zones, size, places, zone, ids, benches).items():
             found.beside[zone, other] = int(taken.sum())
     return found
 
@@ -67,12 +69,12 @@ def _look_above(found: Contacts, blocks: Blocks, places: Places, zone: int, one:
 
 
 def _beside(blocks: Blocks, zones: Sequence[Zone], size: tuple[int, int, int], places: Places, zone: int,
-            ids: np.ndarray) -> dict[int, np.ndarray]:
-    """Of each steeper zone which of these blocks have a cone whose edge goes into it."""
+            ids: np.ndarray, benches: int) -> dict[int, np.ndarray]:
+    """Of each steeper zone which of these blocks have a cone whose edge goes into it, up to so many benches."""
     seen: dict[int, np.ndarray] = {}
     for side, (_, axis, way) in enumerate(SIDES):
         others = _steeper(zones, zone, [side])
-        for dz in range(1, zones[zone].benches + 1) if others else ():
+        for dz in range(1, benches + 1) if others else ():
             far = way * reach_along(size, zones[zone], dz)[side]
             if not far or abs(far) >= places.shape[axis]:
                 continue

@@ -10,7 +10,8 @@ from typing import Iterator, NamedTuple
 import numpy as np
 
 from pit_tools.spelling import shortest, with_commas
-from pit_tools.survey_facts import SIDES, Facts
+from pit_tools.survey_facts import Facts
+from pit_tools.units import is_money_a_tonne
 
 class Finding(NamedTuple):
     """What is odd, and the part of the survey that has its numbers."""
@@ -213,7 +214,7 @@ def _destinations(facts: Facts) -> Iterator[str]:
         yield f"the price of metal differs by destination: {', '.join(facts.cost_told(price) for price in sorted(prices))} a kilogram"
     for one in plan.destinations:
         shares = [share for _, share in one.bands]
-        if shares and max(shares) >= 1000:
+        if shares and max(shares) >= 1000 and not is_money_a_tonne(facts.measures.grade_unit):
             yield f"{one.name} recovers {max(shares) / 10:g} %: a recovery is per mille"
         if shares and max(shares) < 300:
             yield f"{one.name} recovers {max(shares) / 10:g} % at most: is a recovery in percent, or in another place of the record?"

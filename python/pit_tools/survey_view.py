@@ -30,7 +30,7 @@ SCRIPT = """
   let turn = -0.6, tilt = 0.9, zoom = 1, held = null;
   function show() {
     canvas.width = canvas.clientWidth; canvas.height = canvas.clientHeight;
-    const scale = zoom * Math.min(canvas.width, 1.6 * canvas.height) / far, middle = (low + high) / 2;
+    const scale = zoom * Math.min(0.95 * canvas.width, 1.15 * canvas.height) / far, middle = (low + high) / 2;
     const place = ([x, y, z]) => { const u = x * Math.cos(turn) - y * Math.sin(turn), v = x * Math.sin(turn) + y * Math.cos(turn);
       return [canvas.width / 2 + scale * u, canvas.height / 2 - scale * (v * Math.cos(tilt) + (z - middle) * Math.sin(tilt)), v * Math.sin(tilt) - (z - middle) * Math.cos(tilt)]; };
     const placed = faces.map(([corners, colour]) => { const p = corners.map(place); return [p, colour, p[0][2] + p[1][2] + p[2][2] + p[3][2]]; });

@@ -11,7 +11,9 @@ import pytest
 
 import mines
 from pit_tools.cli import main
-from pit_tools.contacts import Contacts
+from pit_tools.cones import Places
+from pit_tools.contacts import Contacts, contacts_of
+from pit_tools.instance import Blocks
 from pit_tools.plan_file import Grid, Slope, Zone
 from pit_tools.slope_words import judge, slope_of
 from pit_tools.walls import asked_straight, measured, straight_walls
@@ -140,6 +142,22 @@ def test_a_zone_below_a_steeper_one_ends_at_the_contact():
     assert through.K == (2, 20)
     assert through.look_at == ("zone flat lies below zone steep, which is steeper, and 12 cones of it go on through that: walls are too flat "
                                "there. Import with --below flat:steep",)
+
+
+def test_contacts_with_steeper_rock_are_counted():
+    """Two benches of flat rock below four of steep rock, 5 x 5 blocks: as one zone its 50 blocks have cones that go on through the steep
+    rock; as a zone for each bench, with K up to the contact, none has."""
+    z, y, x = (axis.ravel().astype(np.int32) for axis in np.mgrid[0:6, 0:5, 0:5])
+    flat, steep = (Slope(1, 2),) * 4, (Slope(2, 1),) * 4
+    for of_bench, zones, begins, below in (([0, 0, 1, 1, 1, 1], [Zone(flat, 4), Zone(steep, 6)], {0: 1}, {(0, 1): 50}),
+                                           ([0, 1, 2, 2, 2, 2], [Zone(flat, 2), Zone(flat, 1), Zone(steep, 6)], {0: 2, 1: 1}, {})):
+        blocks = Blocks(x, y, z, np.ones(150), np.ones(150), np.array(of_bench, dtype=np.int32)[z])
+        found = contacts_of(blocks, zones, (20000, 20000, 10000), Places(blocks))
+        assert (found.begins, found.below) == (begins, below) and (not below) == (not found.beside)
+    # West of x = 2 flat, east of it steep, K = 2: the cones go one block a bench, so those of the last two columns reach the steep rock.
+    blocks = Blocks(x, y, z, np.ones(150), np.ones(150), (x > 2).astype(np.int32))
+    found = contacts_of(blocks, [Zone(flat, 2), Zone(steep, 2)], (20000, 20000, 10000), Places(blocks))
+    assert (found.begins, found.below) == ({}, {}) and found.beside == {(0, 1): 5 * 5 + 5 * 4}
 
 
 def square(width: int, height: int) -> Grid:
