@@ -140,7 +140,8 @@ def onto_rows(imported_path: str, plan: Plan, blocks: Blocks, mined: Mined, plac
     block.
 
     `imported_path` is BASE.json of `pit-tools import`, by which the export is read again. Cells stay as they
-    are; rows that are no block, as air, have empty cells. Raises UserError where the export cannot be read again,
+    are; rows that are no block, as air, have empty cells, and a row of several blocks has the first and the
+    mean of what is mined. Raises UserError where the export cannot be read again,
     or its grid is not the plan's.
     """
     from pit_tools.imported import read_imported
@@ -162,18 +163,30 @@ def _rows_written(again, block_at: np.ndarray, told: pd.DataFrame, out: IO[str])
         if not number:
             pd.DataFrame([source.names + names]).to_csv(out, sep=separator, header=False, index=False, lineterminator="\n")
         in_file = (again.places["file"] == number).to_numpy()
-        of_record = pd.Series(block_at[in_file], index=again.places["record"][in_file].to_numpy())
+        of_part = pd.Series(block_at[in_file], index=again.places["record"][in_file].to_numpy())
+        of_record = of_part[~of_part.index.duplicated()]
+        cut = _mined_of_cut_rows(told, of_part)
         left = len(source.units)
         for table in source.chunks(range(len(source.names))):
             ids = of_record.reindex(table.index).fillna(-1).to_numpy(np.int64)
             behind = told.iloc[np.maximum(ids, 0)].astype(object)
             behind.loc[ids < 0, :] = ""
             behind.index = table.index
+            at_cut = table.index.intersection(cut.index)
+            behind.loc[at_cut, "mined"] = cut[at_cut]
             pd.concat([table, behind], axis=1).to_csv(out, sep=separator, header=False, index=False, lineterminator="\n")
             rows += max(0, len(table) - left)
             left = max(0, left - len(table))
             found += int((ids >= 0).sum())
     return rows, found
+
+
+def _mined_of_cut_rows(told: pd.DataFrame, of_part: pd.Series) -> pd.Series:
+    """Of rows that `import` cut into several blocks, the mean of what is mined of these, as texts by record."""
+    parts = of_part[of_part.index.duplicated(keep=False) & (of_part >= 0).to_numpy()]
+    mined = pd.to_numeric(told["mined"]).to_numpy()[parts.to_numpy()]
+    mean = pd.Series(mined, index=parts.index, dtype=float).groupby(level=0).mean()
+    return pd.Series(texts_of(np.rint(mean.to_numpy() * 1e6).astype(np.int64), 6), index=mean.index, dtype=object)
 
 
 def _block_at(plan: Plan, blocks: Blocks, again) -> np.ndarray:

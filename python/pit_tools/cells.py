@@ -6,17 +6,19 @@ from __future__ import annotations
 import re
 from collections import Counter
 from dataclasses import dataclass, field
+from decimal import Decimal
 from typing import Iterable, Optional, Sequence
 
 import numpy as np
 import pandas as pd
 
 from pit_tools.decimals import parts_of
+from pit_tools.decimals import plain as plain_decimal
 from pit_tools.errors import UserError
 
 # Texts that mostly say that nothing is known, in any case.
-MISSING = ("", "na", "n/a", "nan", "null", "nil", "none", "-", "--", "---", "*", "**", "?", ".", "#n/a", "#na", "#value!", "#div/0!",
-           "missing", "absent", "unknown", "void", "no data", "nodata", "blank", "1.#qnan", "-1.#ind", "1.#ind", "-nan")
+MISSING = ("", "na", "n/a", "nan", "null", "nil", "none", "-", "--", "---", "*", "**", "?", ".", "#n/a", "#na", "missing", "absent",
+           "unknown", "void", "no data", "nodata", "blank", "1.#qnan", "-1.#ind", "1.#ind", "-nan")
 
 # What may stand between thousands and is no decimal mark: blanks of every kind, and apostrophes.
 BLANKS = " \u00a0\u2007\u2009\u202f"
@@ -35,10 +37,14 @@ class Marks:
     missing: frozenset[str] = frozenset(MISSING)
     missing_numbers: tuple[float, ...] = ()
     seen: Counter = field(default_factory=Counter)
+    unclear_point: str = ""
 
-    def plain(self, cell: str) -> Optional[str]:
-        """A cell as a plain decimal; an empty text where nothing is known; None for no number."""
+    def plain(self, cell: str, as_percent: bool = False) -> Optional[str]:
+        """A cell as a plain decimal; an empty text where nothing is known; None for no number. `1.2%` is 0.012, or 1.2 as percent."""
         text = cell.strip()
+        if text.endswith("%"):
+            found = self.plain(text[:-1]) or None
+            return found if as_percent or found is None else plain_decimal(Decimal(found) / 100)
         if text.casefold() in self.missing:
             return ""
         text = text.replace("−", "-").replace("–", "-")
@@ -60,7 +66,7 @@ class Marks:
         text = re.sub(r"(?<=[\d.])[dD](?=[-+]?\d)", "E", text)
         return text if PLAIN.fullmatch(text) else None
 
-    def spelled(self, cells: pd.Series) -> Spelled:
+    def spelled(self, cells: pd.Series, as_percent: bool = False) -> Spelled:
         """Cells as plain decimals. Most are plain already, and are taken as they are; each odd spelling is looked at once."""
         texts, count = cells, len(cells)
         if self.decimal == ",":
@@ -68,10 +74,11 @@ class Marks:
             texts = cells.str.replace(",", ".", regex=False).where(~cells.str.contains(".", regex=False), "")
         floats = pd.to_numeric(texts, errors="coerce").to_numpy(float).copy()
         odd = ~np.isfinite(floats)
-        missing, wrong = np.zeros(count, bool), np.zeros(count, bool)
+        missing, wrong, percent = np.zeros(count, bool), np.zeros(count, bool), np.zeros(count, bool)
         if odd.any():
             found = cells[odd]
-            found = found.map({text: self.plain(text) for text in found.unique()})
+            percent[odd] = found.str.rstrip().str.endswith("%").to_numpy()
+            found = found.map({text: self.plain(text, as_percent) for text in found.unique()})
             missing[odd], wrong[odd] = (found == "").to_numpy(), found.isna().to_numpy()
             floats[odd] = pd.to_numeric(found, errors="coerce").to_numpy(float)
             texts = texts.copy()
@@ -80,18 +87,19 @@ class Marks:
             missing |= np.isin(floats, self.missing_numbers)
         wrong |= ~np.isfinite(floats) & ~missing
         floats[missing | wrong] = np.nan
-        return Spelled(texts, floats, missing, wrong)
+        return Spelled(texts, floats, missing, wrong, percent & ~missing & ~wrong)
 
 
 @dataclass
 class Spelled:
     """Cells of a column: plain decimals, with a point; their floats, NaN where there is none; where they say that nothing is known;
-    and where they are no number."""
+    where they are no number; and where they have a sign of percent."""
 
     texts: pd.Series
     floats: np.ndarray
     missing: np.ndarray
     wrong: np.ndarray
+    percent: np.ndarray
 
     def parts(self, places: int) -> np.ndarray:
         """The decimals as whole numbers of 10**-places, rounded as decimals; 0 where there is none."""
@@ -102,18 +110,23 @@ def marks_of(columns: Iterable[pd.Series], *, decimal: str = "", thousands: str 
     """The marks of a file, by cells of its columns of numbers; those that are named are taken.
 
     It raises UserError where a mark may be read in two ways, or cells contradict one another."""
+    columns = list(columns)
     known = frozenset([*MISSING, *(text.strip().casefold() for text in missing)])
     numbers = tuple(float(text) for text in missing if PLAIN.fullmatch(text.strip()))
     cells = [text for column in columns for text in _telling(column) if "." in text or "," in text]
     cells = [text for text in cells if text.casefold() not in known and re.fullmatch(rf"[-+(]?[\d.,{BLANKS}{APOSTROPHES}]+[-)]?", text)]
     if decimal and decimal not in ".,":
         raise UserError(f"--decimal is a point or a comma, and not `{decimal}`")
+    unclear = ""
     if not decimal:
         decimal = _decimal_of(cells, thousands)
+        if not decimal:
+            _judge_points(columns, known)
+            decimal, unclear = ".", next((text for text in cells if "." in text), "")
     if not thousands:
         other = "." if decimal == "," else ","
         thousands = other if any(other in text for text in cells) else ""
-    return Marks(decimal, thousands.replace("blank", " "), known, numbers)
+    return Marks(decimal, thousands.replace("blank", " "), known, numbers, unclear_point=unclear)
 
 
 def _telling(column: pd.Series) -> list[str]:
@@ -123,7 +136,7 @@ def _telling(column: pd.Series) -> list[str]:
 
 
 def _decimal_of(cells: Sequence[str], thousands: str) -> str:
-    """The decimal mark that these cells can only have."""
+    """The decimal mark that these cells can only have, or an empty text."""
     says: dict[str, str] = {}
     unclear = ""
     for text in cells:
@@ -147,4 +160,16 @@ def _decimal_of(cells: Sequence[str], thousands: str) -> str:
                         "by --thousands")
     if not says and unclear:
         raise UserError(f"`{unclear}` is a number with a decimal comma, or one of thousands: say which by --decimal , or --thousands ,")
-    return next(iter(says), ".")
+    return next(iter(says), "")
+
+
+def _judge_points(columns: Sequence[pd.Series], known: frozenset[str]) -> None:
+    """Stops where a column has whole numbers up to 999, and points before three digits in all others: so thousands are written."""
+    for column in columns:
+        cells = [text.strip() for text in column.unique() if text.strip().casefold() not in known]
+        with_point = [text for text in cells if "." in text]
+        whole = [text for text in cells if "." not in text and text.strip("+-0")]
+        if with_point and whole and all(re.fullmatch(r"[-+]?[1-9]\d{0,2}(\.\d{3})+", text) for text in with_point) and \
+                all(re.fullmatch(r"[-+]?\d{1,3}", text) for text in whole):
+            raise UserError(f"`{with_point[0]}` has a decimal point, or one between thousands, since `{whole[0]}` beside it has none: say which by "
+                            "--decimal . or --thousands .")

@@ -8,12 +8,14 @@ from typing import Optional, Sequence
 import pandas as pd
 
 from pit_tools.errors import UserError
-from pit_tools.formulas import Formula, Lacking, formula_of, number_columns, plain_name
+from pit_tools.formula_values import code_name
+from pit_tools.formulas import Formula, Lacking, formula_of, plain_name
+from pit_tools.unnamed_columns import Unnamed, unnamed_in
 from pit_tools.units import factor_of, is_factor, is_money_a_tonne, named_in
 
 # What each word is in, for the unit behind it.
 KINDS = {"x": "length", "y": "length", "z": "length", "i": "", "j": "", "k": "", "tonnes": "mass", "density": "density",
-         "waste_density": "density", "volume": "volume", "share": "share", "ore_share": "share", "grade": "grade",
+         "waste_density": "density", "volume": "volume", "share": "share", "ore_share": "share", "waste_share": "share", "grade": "grade",
          "size_x": "length", "size_y": "length", "size_z": "length"}
 
 
@@ -21,7 +23,7 @@ KINDS = {"x": "length", "y": "length", "z": "length", "i": "", "j": "", "k": "",
 class Words:
     """What is said of an export; an empty word is not said. Names are those of the options of `pit-tools import`.
 
-    `x` to `ore_share` are columns or formulas, with a unit behind them; `sub_size` has three of them; `zone` names columns; `where`
+    `x` to `grade` are columns or formulas, with a unit behind them; `sub_size` has three of them; `zone` names columns; `where`
     are filters; `density_by` and `zones` are tables; `below` has pairs of a zone and one above it, as `flat:steep`. The others say how
     the text is written, what the grid is, and what to do."""
 
@@ -37,6 +39,7 @@ class Words:
     volume: str = ""
     share: str = ""
     ore_share: str = ""
+    waste_share: str = ""
     grade: str = ""
     sub_size: str = ""
     zone: Sequence[str] = ()
@@ -56,9 +59,11 @@ class Words:
     order: str = "x,y,z"
     index_from: Optional[int] = None
     from_top: bool = False
+    from_north: bool = False
     parents: str = ""
     corner: str = ""
     merge: bool = False
+    drop_repeats: bool = False
     x_bearing: Optional[float] = None
     y_azimuth: Optional[float] = None
     about: str = ""
@@ -107,12 +112,21 @@ class Words:
                             "--first and --size")
         if self.is_indexed and not (self.first and self.size):
             raise UserError("indices need --first, the centroid of the first block, and --size")
+        for flag, axis in (("--from-top", self.from_top), ("--from-north", self.from_north)):
+            if axis and not (self.is_indexed and self.blocks):
+                raise UserError(f"{flag} goes with --i, --j and --k, and needs --blocks, how many there are along each axis: rows may lack the "
+                                "last ones, and all others would move")
         if bool(self.tonnes) == bool(self.density or self.density_by):
             raise UserError("give --tonnes, or a density: --density, --density-by")
         if not self.grade:
             raise UserError("give --grade")
         if bool(self.ore_share) != bool(self.waste_density):
             raise UserError("give --ore-share and --waste-density together: the rest of a block is waste, and has a mass")
+        if self.waste_share and not self.ore_share:
+            raise UserError("--waste-share goes with --ore-share: the rest of the block is air")
+        if self.ore_share and self.share:
+            raise UserError("--ore-share beside --share can be a part of the block, or of its rock: give --ore-share and --waste-share as parts "
+                            "of the block, in place of --share")
         if self.ore_share and self.tonnes:
             raise UserError("--ore-share goes with --density, which is that of the ore")
         if self.x_bearing is not None and self.y_azimuth is not None:
@@ -127,6 +141,10 @@ class Measure:
     factor: Decimal = Decimal(1)
     unit: str = ""
     divides: bool = False
+
+    @property
+    def is_percent(self) -> bool:
+        return self.unit in ("%", "pct")
 
     @property
     def plain_column(self) -> Optional[int]:
@@ -145,7 +163,7 @@ class Table:
     def find(self, key: Sequence[str]) -> Optional[str]:
         """The value of the first row that fits."""
         for texts, value in self.rows:
-            if all(text in ("*", cell) for text, cell in zip(texts, map(plain_name, key))):
+            if all(text in ("*", cell) for text, cell in zip(texts, map(code_name, key))):
                 return value
         return None
 
@@ -155,26 +173,26 @@ class Columns:
     """The formulas of an export, by its header."""
 
     measures: dict[str, Measure]
-    filters: list[tuple[Formula, set[int], set[int]]]
+    filters: list[Formula]
     zone: list[int]
     zones: Optional[Table]
     densities: Optional[Table]
     is_money: bool = False
-    told_units: list[str] = field(default_factory=list)
+    unnamed: Unnamed = field(default_factory=Unnamed)
 
     @property
     def needed(self) -> list[int]:
         """The columns that are read."""
         wanted = {at for measure in self.measures.values() for at in measure.formula.columns}
-        wanted |= {at for formula, _, _ in self.filters for at in formula.columns} | set(self.zone)
+        wanted |= {at for formula in self.filters for at in formula.columns} | set(self.zone)
         for table in (self.zones, self.densities):
             wanted |= set(table.columns) if table else set()
-        return sorted(wanted)
+        return sorted(wanted | set(self.unnamed.columns))
 
     @property
     def numeric(self) -> list[int]:
         """The columns that are read as numbers by formulas."""
-        return sorted({at for measure in self.measures.values() for at in measure.formula.columns})
+        return sorted({at for measure in self.measures.values() for at in measure.formula.numbers})
 
 
 def measure_of(text: str, kind: str, names: Sequence[str]) -> tuple[Measure, bool]:
@@ -204,7 +222,7 @@ def table_of(text: str, value: str, names: Sequence[str]) -> Table:
     if colon and "=" in rest:
         at = column_of(name, names)
         pairs = [pair.rpartition("=") for pair in rest.split(",")]
-        return Table([at], [([plain_name(key)], found.strip()) for key, _, found in pairs], text)
+        return Table([at], [([code_name(key)], found.strip()) for key, _, found in pairs], text)
     try:
         table = pd.read_csv(text, dtype=str, keep_default_na=False, sep=None, engine="python", encoding="utf-8-sig")
     except (OSError, ValueError, pd.errors.ParserError) as error:
@@ -214,7 +232,7 @@ def table_of(text: str, value: str, names: Sequence[str]) -> Table:
         raise UserError(f"{text}: its columns have to be `{value}` and some of the export's")
     given = named[-1]
     keys = [name for name in table.columns if name != given]
-    rows = [([plain_name(row[key]) for key in keys], str(row[given]).strip()) for _, row in table.iterrows()]
+    rows = [([code_name(row[key]) for key in keys], str(row[given]).strip()) for _, row in table.iterrows()]
     return Table([column_of(key, names) for key in keys], rows, text)
 
 
@@ -234,20 +252,25 @@ def columns_of(words: Words, names: Sequence[str]) -> Columns:
             is_money |= money
             hits += bool(measures[key].formula.columns)
         zone = [column_of(name, names) for name in words.zone]
-        filters = []
-        for text in words.where:
-            try:
-                formula = formula_of(text, names)
-            except Lacking as lacking:
-                lacking.args = (f"{lacking} (in a filter a text stands between double quotes)",)
-                raise
-            filters.append((formula, *number_columns(formula)))
+        filters = [filter_of(text, names) for text in words.where]
         zones = table_of(words.zones, "zone", names) if words.zones else None
         densities = table_of(words.density_by, "density", names) if words.density_by else None
     except Lacking as lacking:
         lacking.hits = hits
         raise
-    return Columns(measures, filters, zone, zones, densities, is_money)
+    return Columns(measures, filters, zone, zones, densities, is_money, unnamed_in(names, words))
+
+
+def filter_of(text: str, names: Sequence[str]) -> Formula:
+    """A filter over these columns."""
+    try:
+        formula = formula_of(text, names)
+    except Lacking as lacking:
+        lacking.args = (f"{lacking} (in a filter a text stands between double quotes)",)
+        raise
+    if not formula.is_condition:
+        raise UserError(f"`{text}` compares nothing: a filter is as CLASS <= 3 and ROCK != \"AIR\"")
+    return formula
 
 
 def unit_doubts(columns: Columns, names: Sequence[str], units: Sequence[Sequence[str]]) -> list[str]:

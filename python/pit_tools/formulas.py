@@ -1,7 +1,8 @@
 """Formulas over the columns of a table: `SG*XINC*YINC*ZINC`, `(AU + CU*0.9)`, `CLASS <= 3 and ROCK != "AIR"`.
 
 A column's name stands as its header has it, in any case, also with blanks and signs; the longest name is taken. One that cannot
-stand so stands between backquotes. Behind a formula there may be a unit. Formulas are computed by `DataFrame.eval`."""
+stand so stands between backquotes. Behind a formula there may be a unit. `where(CONDITION, THIS, THAT)`, also written as `if(..)`,
+chooses; its condition sees numbers as they stand, -99 too, and `missing(COLUMN)` is one. `formula_values` computes formulas."""
 from __future__ import annotations
 
 import ast
@@ -9,16 +10,15 @@ import difflib
 import re
 import unicodedata
 from dataclasses import dataclass
-from typing import Optional, Sequence
+from typing import Any, Callable, Optional, Sequence
 
 import pandas as pd
 
 from pit_tools.errors import UserError
+from pit_tools.formula_values import ARGUMENTS, COMPARISONS, OPERATORS, Rows
 
-FUNCTIONS = ("sqrt", "abs", "exp", "log", "log10", "floor", "ceil", "sin", "cos")
-
-ALLOWED = (ast.Expression, ast.BinOp, ast.UnaryOp, ast.BoolOp, ast.Compare, ast.Name, ast.Load, ast.Constant, ast.operator,
-           ast.unaryop, ast.boolop, ast.cmpop, ast.Call, ast.List, ast.Tuple)
+ALLOWED = (ast.Expression, ast.BinOp, ast.UnaryOp, ast.BoolOp, ast.Compare, ast.Name, ast.Load, ast.Constant, ast.Call, ast.IfExp,
+           ast.List, ast.Tuple, ast.And, ast.Or, ast.Not, ast.USub, ast.UAdd, ast.In, ast.NotIn, *OPERATORS, *COMPARISONS)
 
 
 class Lacking(UserError):
@@ -80,27 +80,48 @@ class Formula:
         """Whether it may have no value, as where it divides by 0."""
         return any(isinstance(node, (ast.Div, ast.FloorDiv, ast.Mod, ast.Call)) for node in ast.walk(ast.parse(self.code, mode="eval")))
 
-    def value(self, table: pd.DataFrame) -> pd.Series:
-        """What it gives for the rows of a table with its columns _at0, _at1, .. as numbers, NaN where one is missing. A term of its
-        outermost sum that is missing adds nothing to the others; where all are missing, so is the sum."""
-        terms = [self._one(code, table) for code in _terms(self.code)]
+    @property
+    def texts(self) -> set[int]:
+        """The columns that are compared with texts."""
+        return number_columns(self)[1]
+
+    @property
+    def numbers(self) -> set[int]:
+        """The columns that are read as numbers."""
+        return number_columns(self)[0]
+
+    @property
+    def is_condition(self) -> bool:
+        return any(isinstance(node, ast.Compare) or isinstance(node, ast.Call) and node.func.id == "missing" for node in ast.walk(_body(self.code)))
+
+    def value(self, table: pd.DataFrame, standing: Optional[pd.DataFrame] = None) -> pd.Series:
+        """What it gives for the rows of a table with its columns _at0, _at1, .. as numbers, NaN where one is missing; `standing` has
+        them as they stand, for conditions. A term of its outermost sum that is missing adds nothing to the others; where all are
+        missing, so is the sum."""
+        terms = [self._one(code, table, table if standing is None else standing) for code in _terms(self.code)]
         return terms[0] if len(terms) == 1 else pd.concat(terms, axis=1).sum(axis=1, min_count=1)
 
-    def holds(self, table: pd.DataFrame) -> pd.Series:
-        """Whether it holds of each row."""
-        return self._one(self.code, table).astype(bool)
+    def holds(self, table: pd.DataFrame, standing: pd.DataFrame) -> Any:
+        """Whether it holds of each row, as an array; texts of the tables are those of `code_name`."""
+        return self._computed(lambda rows: rows.holds(_body(self.code)), table, standing)
 
-    def _one(self, code: str, table: pd.DataFrame) -> pd.Series:
+    def _one(self, code: str, table: pd.DataFrame, standing: pd.DataFrame) -> pd.Series:
+        return pd.Series(self._computed(lambda rows: rows.value(_body(code)), table, standing), index=table.index)
+
+    def _computed(self, of: Callable[[Rows], Any], table: pd.DataFrame, standing: pd.DataFrame) -> Any:
         try:
-            value = table.eval(code, engine="python")
-        except Exception as error:  # what pandas raises is of many types
+            return of(Rows(*({name: one[name].to_numpy() for name in one} for one in (table, standing))))
+        except (TypeError, ValueError, AttributeError) as error:
             raise UserError(f"`{self.text}` cannot be computed: {' '.join(str(error).split())}") from None
-        return value if isinstance(value, pd.Series) else pd.Series(value, index=table.index)
+
+
+def _body(code: str) -> ast.expr:
+    return ast.parse(code, mode="eval").body
 
 
 def _terms(code: str) -> list[str]:
     """The terms of the outermost sum."""
-    tree = ast.parse(code, mode="eval").body
+    tree = _body(code)
     terms: list[str] = []
     while isinstance(tree, ast.BinOp) and isinstance(tree.op, (ast.Add, ast.Sub)):
         sign = "-" if isinstance(tree.op, ast.Sub) else ""
@@ -162,39 +183,58 @@ def _checked(code: str, text: str, names: Sequence[str]) -> str:
     """The code, where it is a formula over columns alone."""
     code = code.strip()
     own = {column_name(at) for at in range(len(names))}
-    try:
-        tree = ast.parse(code, mode="eval")
-    except (SyntaxError, ValueError):
-        words = [word for word in re.findall(r"[^\W\d]\w*", code) if word not in own and word not in FUNCTIONS]
+    tree = _tree_of(code) or _tree_of(re.sub(r"\bif\s*\(", "where(", code))
+    if tree is None:
+        words = [word for word in re.findall(r"[^\W\d]\w*", code) if word not in own and word not in ARGUMENTS and word != "if"]
         if words:
             raise Lacking(text.strip() if re.fullmatch(r"[\w ]+", text.strip()) else words[0], names) from None
-        raise UserError(f"`{text}` is no formula") from None
+        raise UserError(f"`{text}` is no formula")
     calls = {id(node.func) for node in ast.walk(tree) if isinstance(node, ast.Call)}
     for node in ast.walk(tree):
         if not isinstance(node, ALLOWED):
-            raise UserError(f"`{text}` is no formula: it may have columns, numbers, + - * / ** // % and parentheses")
-        if isinstance(node, ast.Name):
-            if id(node) in calls:
-                if node.id not in FUNCTIONS:
-                    raise UserError(f"`{text}`: no function `{node.id}`: there are {', '.join(FUNCTIONS)}")
-            elif node.id not in own:
-                raise Lacking(node.id, names)
+            raise UserError(f"`{text}` is no formula: it may have columns, numbers, + - * / ** // %, parentheses and where(CONDITION, THIS, "
+                            "THAT)")
+        if isinstance(node, ast.Call) and isinstance(node.func, ast.Name):
+            _judge_call(node, text)
+        if isinstance(node, ast.Name) and id(node) not in calls and node.id not in own:
+            raise Lacking(node.id, names)
+        if isinstance(node, (ast.List, ast.Tuple)) and not all(isinstance(one, ast.Constant) for one in node.elts):
+            raise UserError(f"`{text}`: a list has numbers or texts alone")
+        if isinstance(node, ast.Constant) and not isinstance(node.value, (int, float, str)):
+            raise UserError(f"`{text}` is no formula: `{node.value}` is no number")
     return ast.unparse(tree)
 
 
+def _tree_of(code: str) -> Optional[ast.Expression]:
+    try:
+        return ast.parse(code, mode="eval")
+    except (SyntaxError, ValueError, RecursionError, MemoryError):
+        return None
+
+
+def _judge_call(node: ast.Call, text: str) -> None:
+    """Stops at a function that is none, or has other arguments."""
+    name = node.func.id
+    if name not in ARGUMENTS:
+        raise UserError(f"`{text}`: no function `{name}`: there are {', '.join(ARGUMENTS)}")
+    if len(node.args) != ARGUMENTS[name] or node.keywords:
+        raise UserError(f"`{text}`: {name} has {ARGUMENTS[name]} arguments: where(CONDITION, THIS, THAT), missing(COLUMN)")
+
+
 def number_columns(formula: Formula) -> tuple[set[int], set[int]]:
-    """Of a filter: the columns that are compared with numbers, and those that are compared with texts. It raises UserError
-    where one is compared with both."""
+    """The columns that are read as numbers, and those that are compared with texts. It raises UserError where one is both."""
     numbers: set[int] = set()
     texts: set[int] = set()
-    for node in ast.walk(ast.parse(formula.code, mode="eval")):
+    nodes = list(ast.walk(_body(formula.code)))
+    for node in nodes:
         if isinstance(node, ast.Compare):
             values = [one for side in (node.left, *node.comparators) for one in ast.walk(side)]
             with_text = any(isinstance(one, ast.Constant) and isinstance(one.value, str) for one in values)
             columns = {int(one.id[3:]) for one in values if isinstance(one, ast.Name) and one.id.startswith("_at")}
             (texts if with_text else numbers).update(columns)
+    for node in nodes:
+        if isinstance(node, ast.Name) and node.id.startswith("_at") and int(node.id[3:]) not in texts:
+            numbers.add(int(node.id[3:]))
     if numbers & texts:
         raise UserError(f"`{formula.text}` compares a column with numbers and with texts")
-    if not numbers | texts:
-        raise UserError(f"`{formula.text}` compares nothing: a filter is as CLASS <= 3 and ROCK != \"AIR\"")
     return numbers, texts

@@ -3,14 +3,16 @@ from __future__ import annotations
 
 import re
 from collections import Counter
-from typing import Sequence
+from typing import Callable, Sequence
 
 import numpy as np
 import pandas as pd
 
-from pit_tools.export_words import Words
+from pit_tools.cells import MISSING
+from pit_tools.decimals import shortest
 from pit_tools.formulas import plain_name
 from pit_tools.gridding import Axis
+from pit_tools.import_reading import Reading
 from pit_tools.import_report import Report, figure
 
 
@@ -18,10 +20,11 @@ class Doubts:
     """Looks for what is no fault and is mostly wrong."""
 
     def __init__(self, rows: pd.DataFrame, air: pd.DataFrame, axes: Sequence[Axis], factors: Sequence[float], zones: Sequence[str],
-                 report: Report, words: Words) -> None:
-        self.rows, self.air, self.axes, self.zones, self.words = rows[rows["tonnes"] > 0], air, axes, zones, words
+                 report: Report, reading: Reading, with_cells: Callable[[int], str]) -> None:
+        self.rows, self.air, self.axes, self.zones, self.words = rows[rows["tonnes"] > 0], air, axes, zones, reading.words
+        self.reading, self.with_cells = reading, with_cells
         self.doubts = report.doubts
-        foot = 0.3048 ** 3 if words.in_feet else 1.0
+        foot = 0.3048 ** 3 if self.words.in_feet else 1.0
         metres = [axis.step * factor / 1000 for axis, factor in zip(axes, factors)]
         self.volume = metres[0] * metres[1] * metres[2] * foot
         self.factors = factors
@@ -40,8 +43,12 @@ class Doubts:
         self.light_blocks_below_others()
         self.full_box()
         self.upside_down()
+        self.other_weights()
         self.holes()
+        self.lost_below()
+        self.rock_and_air()
         self.names_alike()
+        self.names_missing()
         self.grades_apart()
 
     def indices_for_coordinates(self) -> None:
@@ -99,6 +106,61 @@ class Doubts:
         lacking = int((self.top[taken] - self.bottom[taken] + 1).sum()) - len(self.rows)
         if lacking and not self.words.holes:
             self.doubts.append(f"{lacking:,} places between rows of a column have none: holes (--holes keeps them), or rows that are lost")
+
+    def lost_below(self) -> None:
+        """Places below the lowest row of their column, at every bench that has rock beside them."""
+        wide, deep = self.axes[0].places, self.axes[1].places
+        order = np.argsort(self.rows["iz"].to_numpy(), kind="stable")
+        benches = self.rows["iz"].to_numpy()[order]
+        column = self.column[order]
+        lost: dict[int, int] = {}
+        for bench in np.unique(benches):
+            taken = np.zeros(wide * deep, bool)
+            taken[column[np.searchsorted(benches, bench):np.searchsorted(benches, bench, "right")]] = True
+            lacking = int((~taken & (self.bottom > bench) & (self.top >= 0)).sum())
+            if lacking:
+                lost[int(bench)] = lacking
+        if lost:
+            heights = [shortest(self.axes[2].first + bench * self.axes[2].step, 3) for bench in (min(lost), max(lost))]
+            where = f"z = {heights[0]}" + (f" to {heights[1]}" if len(lost) > 1 else "")
+            self.doubts.append(f"{sum(lost.values()):,} places below the lowest row of their column have none, at {where}, where other columns have rock: rows "
+                               "that are lost, or a floor of the model that is not level?")
+
+    def other_weights(self) -> None:
+        """Tonnes of blocks below others beside those by a density or a volume that the export has too."""
+        if "other" not in self.rows:
+            return
+        tonnes, other = self.rows["tonnes"].to_numpy() / 1000, self.rows["other"].to_numpy()
+        below = (self.rows["iz"].to_numpy() < self.top[self.column]) & (other > 0)
+        if not below.any():
+            return
+        unnamed = self.reading.unnamed
+        by = unnamed.told([at for at in (unnamed.weight, unnamed.volume) if at is not None][:1])
+        ratio = other[below] / tonnes[below]
+        whole = float(other[below].sum() / tonnes[below].sum())
+        off = np.abs(ratio - whole) > 0.1 * whole
+        if abs(whole - 1) > 0.02:
+            self.doubts.append(f"blocks below others have {tonnes[below].sum():,.0f} t, and by {by} {other[below].sum():,.0f} t, {figure(whole)} times that: are "
+                               "blocks of another size than the grid's, or units others?")
+        elif off.sum() > 0.005 * len(ratio):
+            at = int(self.rows["row"].to_numpy()[below][np.flatnonzero(off)[0]])
+            self.doubts.append(f"{int(off.sum()):,} blocks below others weigh a tenth more or less than by {by}, one {figure(1 / ratio[off][0])} times that: "
+                               f"{self.with_cells(at)}: are they of another size?")
+
+    def rock_and_air(self) -> None:
+        """Places with a row that has tonnes and one that has none."""
+        if self.words.is_merged or not len(self.air):
+            return
+        both = self.air.merge(self.rows[["ix", "iy", "iz"]], "inner", ["ix", "iy", "iz"])
+        if len(both):
+            self.doubts.append(f"{len(both):,} rows without tonnes have the place of a row with tonnes, as {self.with_cells(int(both['row'].iloc[0]))}: do "
+                               "exports overlap?")
+
+    def names_missing(self) -> None:
+        for zone in self.zones:
+            if re.fullmatch(r"-9+(\.0*)?|-", zone) or zone.casefold() in MISSING:
+                count = int((self.rows["zone"] == self.zones.index(zone)).sum())
+                self.doubts.append(f"{count:,} blocks have the zone `{zone}`, a mark of what is missing: name theirs by --zones")
 
     def names_alike(self) -> None:
         plainly = Counter(re.sub(r"[\W_]", "", plain_name(zone)) for zone in self.zones)

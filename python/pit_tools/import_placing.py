@@ -10,11 +10,14 @@ import pandas as pd
 from pit_tools.decimals import plain, shortest
 from pit_tools.errors import UserError
 from pit_tools.export_words import Measure, columns_of
-from pit_tools.gridding import (Axis, Turn, axis_of, box_told, indices, parents_of, sizes_of, thousandths, turn_of, turn_told,
-                                turned_by)
+from pit_tools.gridding import Axis, Turn, axis_of, box_told, indices, sizes_of, thousandths, turn_of, turn_told, turned_by
+from pit_tools.import_causes import causes, judge_ends, judge_neighbours, likelier_order
 from pit_tools.import_doubts import Doubts
+from pit_tools.import_masses import Masses
 from pit_tools.import_reading import COORDINATES, Reading
-from pit_tools.import_report import Report
+from pit_tools.import_repeats import Repeats, is_again
+from pit_tools.import_report import Report, figure
+from pit_tools.import_sizes import Parts, Sizes, judge_sizes, parts_of, sizes_told
 from pit_tools.imported_blocks import Imported
 from pit_tools.plan_file import Grid
 from pit_tools.source import Source
@@ -31,22 +34,33 @@ class Placing:
         self.reading, self.sources, self.report, self.words = reading, sources, report, reading.words
         self.turn: Optional[Turn] = None
         self.factors = [1.0, 1.0, 1.0]
+        self.sizes: Optional[Sizes] = None
+        self.parts: Optional[Parts] = None
+        # where rows of sub-blocks are, one number for each centroid
+        self.spot: Optional[np.ndarray] = None
         self.record, self.file = reading.joined("record"), reading.joined("file")
+        self.count = len(self.record)
 
     def line(self, at: int) -> str:
-        source = self.sources[self.file[at]]
-        return f"{source.path}: line {source.line_of(int(self.record[at]))}"
+        return self.sources[self.file[at]].place_of(int(self.record[at]))
+
+    def with_cells(self, at: int) -> str:
+        """Where a row stands, and its cells."""
+        cells = self.sources[self.file[at]].cells_of(int(self.record[at]))
+        more = f" and {len(cells) - 12} more" if len(cells) > 12 else ""
+        return f"{self.line(at)} ({', '.join(cells[:12])}{more})"
 
     def imported(self) -> Imported:
-        reading, report = self.reading, self.report
+        report = self.report
         axes, places = self.placed()
-        tonnes = self.tonnes(axes)
-        rows = pd.DataFrame({"ix": places[0], "iy": places[1], "iz": places[2], "tonnes": tonnes, "grade": reading.joined("grade"),
-                             "zone": reading.joined("zone"), "row": np.arange(len(tonnes))})
+        rows = self.rows_of(axes, places)
+        if self.words.is_listed:
+            self.judge_order(rows)
         records = pd.DataFrame({"file": self.file, "record": self.record, **{name: rows[name].to_numpy() for name in ("ix", "iy", "iz")}})
-        self.tell_rows(rows)
+        self.tell_rows()
+        rows = self.without_repeats(rows)
         rows, air = self.without_air(rows)
-        rows = self.one_row_a_block(rows)
+        rows = self.one_row_a_block(rows, axes)
         if self.words.holes:
             rows, air = self.with_holes(rows, air)
         rows, zones = self.zoned(rows)
@@ -58,9 +72,52 @@ class Placing:
         report.facts.append("")
         self.tell_zones(rows, zones)
         self.tell_grid(rows, axes)
-        Doubts(rows, air, axes, self.factors, zones, report, self.words).look()
-        return Imported(self.words, self.sources, grid, axes, self.turn, zones, rows.drop(columns="row").reset_index(drop=True), records,
-                        report, benches)
+        Doubts(rows, air, axes, self.factors, zones, report, self.reading, self.with_cells).look()
+        rows = rows[["ix", "iy", "iz", "tonnes", "grade", "zone"]]
+        return Imported(self.words, self.sources, grid, axes, self.turn, zones, rows.reset_index(drop=True), records, report, benches)
+
+    def taken(self, name: str) -> Optional[np.ndarray]:
+        """A column of what was read, a row for each part of the export's rows; None where it was not read of all."""
+        column = self.reading.joined(name)
+        if column is None or len(column) != self.count:
+            return None
+        return column if self.parts is None else column[self.parts.row]
+
+    def rows_of(self, axes: Sequence[Axis], places: Sequence[np.ndarray]) -> pd.DataFrame:
+        """A row for each part: its place, tonnes, grade, zone and number, and its tonnes by a column that nobody named."""
+        parts, count = self.parts, self.count
+        if parts is not None:
+            self.record, self.file = self.record[parts.row], self.file[parts.row]
+        is_cut = parts is not None and len(parts.row) > count
+        if is_cut:
+            cut = parts.number[parts.many > 1]
+            self.report.facts.append(f"{int((cut == 0).sum()):,} rows take several places, and are cut into {len(cut):,} parts of equal tonnes")
+        volume = self.volumes(axes, len(self.record))
+        masses = Masses(self.words, self.reading, self.report, self.taken, volume, parts.many if is_cut else None, parts.number if is_cut else None,
+                        self.with_cells, lambda key: self.measure_of(key).unit)
+        tonnes, other = masses.tonnes(), masses.by_other()
+        rows = pd.DataFrame({"ix": places[0], "iy": places[1], "iz": places[2], "tonnes": tonnes, "grade": masses.grade,
+                             "zone": self.taken("zone"), "row": np.arange(len(tonnes))})
+        if other is not None:
+            rows["other"] = other
+        if self.words.parents and self.sizes is not None:
+            self.judge_volumes(rows, axes)
+        return rows
+
+    def judge_volumes(self, rows: pd.DataFrame, axes: Sequence[Axis]) -> None:
+        """Stops where rows of a place have more volume than it, but rows that stand twice."""
+        sized = self.sizes.volumes(self.factors)
+        sized = sized[self.parts.row] / self.parts.many if len(self.parts.row) > self.count else sized
+        again = is_again(rows, self.spot)
+        codes, _ = pd.factorize(key_of(rows))
+        sums = np.bincount(codes, np.where(again, 0, np.nan_to_num(sized)))
+        whole = axes[0].step * axes[1].step * axes[2].step / 1e9 * self.factors[0] * self.factors[1] * self.factors[2]
+        over = np.flatnonzero(sums > 1.02 * whole)
+        if len(over):
+            within = np.flatnonzero((codes == over[0]) & ~again)
+            raise UserError(f"the sub-blocks of {len(over):,} parents have more than their volume, one {figure(sums[over[0]] / whole)} of it: "
+                            f"{self.with_cells(int(within[0]))} and {self.with_cells(int(within[1]))} are two of these: do exports overlap, or are "
+                            f"{self.sizes.names} no sizes?")
 
     # The grid.
 
@@ -70,23 +127,57 @@ class Placing:
         for axis, key in enumerate(COORDINATES):
             measure = self.measure_of(key)
             self.factors[axis] = float(measure.factor) if measure else 1.0
-        if words.is_listed:
-            return self.listed()
-        if words.is_indexed:
-            return self.indexed()
+        if words.is_listed or words.is_indexed:
+            axes, places = self.listed() if words.is_listed else self.indexed()
+            self.sizes = self.sizes_of_rows()
+            if self.sizes is not None:
+                judge_sizes(self.sizes, axes, self.with_cells)
+            return axes, places
         values = [self.reading.joined(key) for key in COORDINATES]
+        judge_ends(values, self.with_cells)
         if words.is_turned:
             values[:2] = self.turned(values)
+        self.sizes = self.sizes_of_rows()
+        if words.parents:
+            return self.parents(values)
+        axes = self.axes_of(values)
+        self.judge_blocks(axes)
+        if self.sizes is not None:
+            judge_sizes(self.sizes, axes, self.with_cells)
+        places = [indices(values[axis], axes[axis]) for axis in range(3)]
+        judge_neighbours(places, [axis.step for axis in axes], self.with_cells)
+        return axes, places
+
+    def axes_of(self, values: Sequence[np.ndarray]) -> list[Axis]:
+        """The grid that coordinates lie on. It raises UserError with what may be the cause where there is none."""
+        words = self.words
         sizes: list[Optional[int]] = list(sizes_of(words.size, "--size")) if words.size else [None] * 3
+        firsts: list[Optional[int]] = list(thousandths(words.first, "--first")) if words.first else [None] * 3
         try:
-            if words.parents:
-                return self.parents(values)
-            firsts: list[Optional[int]] = list(thousandths(words.first, "--first")) if words.first else [None] * 3
             axes = [axis_of(values[axis], sizes[axis], "xyz"[axis], firsts[axis]) for axis in range(3)]
         except UserError as error:
-            raise UserError(f"{error}{self.turn_hint(values)}") from None
-        self.judge_blocks(axes)
-        return axes, [indices(values[axis], axes[axis]) for axis in range(3)]
+            if self.sizes is not None:
+                raise UserError(f"{error}. {self.sizes.names} has sizes along x of {sizes_told(self.sizes.along[0])}: --parents X,Y,Z, with the size that "
+                                "blocks are to have, sums up smaller ones and cuts greater ones") from None
+            why = self.turn_hint(values) or ("" if words.size else "".join(f". {cause}" for cause in causes(values, self.with_cells)))
+            raise UserError(f"{error}{why}") from None
+        if self.reading.unclear_point and not words.decimal and min(axis.step for axis in axes) < 500:
+            raise UserError(f"{box_told(axes)} m: has `{self.reading.unclear_point}` a decimal point, or "
+                            "one between thousands? Say which by --decimal . or --thousands .")
+        return axes
+
+    def sizes_of_rows(self) -> Optional[Sizes]:
+        """The sizes that rows have of their own: by columns that are named, or that the header names as sizes."""
+        unnamed = self.reading.unnamed
+        along = [self.reading.joined("size_" + axis) for axis in COORDINATES]
+        if along[0] is not None:
+            units = [self.measure_of("size_" + axis) for axis in COORDINATES]
+            factors = [float(one.factor) / own if one.unit else 1.0 for one, own in zip(units, self.factors)]
+            return Sizes([size * factor for size, factor in zip(along, factors)], self.words.sub_size, True)
+        along = [self.reading.joined("own_size_" + axis) for axis in COORDINATES]
+        if along[0] is None or not all(np.isfinite(size).any() for size in along):
+            return None
+        return Sizes([size * 1000 for size in along], unnamed.told(unnamed.sizes), False)
 
     def measure_of(self, key: str) -> Optional[Measure]:
         text = self.words.formulas().get(key)
@@ -155,6 +246,17 @@ class Placing:
         firsts, sizes = thousandths(words.first, "--first"), sizes_of(words.size, "--size")
         return [Axis(first, size, many, 0) for first, size, many in zip(firsts, sizes, blocks)], places
 
+    def judge_order(self, rows: pd.DataFrame) -> None:
+        """Looks whether rock would hang together far better in another order."""
+        blocks = [size // 1000 for size in sizes_of(self.words.blocks, "--blocks")]
+        rock = np.zeros(blocks[0] * blocks[1] * blocks[2], bool)
+        rock[self.record - self.reading.first_record] = (rows["tonnes"] > 0).to_numpy()
+        order = [cell.strip() for cell in self.words.order.split(",")]
+        found = likelier_order(rock, blocks, order)
+        if found:
+            self.report.doubts.append(f"in the order {self.words.order} rock and air lie scattered, and in the order {found} they hang together: is it "
+                                      f"--order {found}, or with signs, as {found.replace('z', '-z')}?")
+
     def indexed(self) -> tuple[list[Axis], list[np.ndarray]]:
         """The places of rows by their indices."""
         words, axes, places = self.words, [], []
@@ -179,42 +281,36 @@ class Placing:
             if axis == 2 and words.from_top:
                 place = many - 1 - place
                 self.report.facts.append(f"benches count from the top: {many - 1 + start} is the lowest, at z = {shortest(firsts[2], 3)}")
+            if axis == 1 and words.from_north:
+                place = many - 1 - place
+                self.report.facts.append(f"rows count from the north: {many - 1 + start} is the southernmost, at y = {shortest(firsts[1], 3)}")
             axes.append(Axis(firsts[axis], sizes[axis], many, 0))
             places.append(place)
         self.report.facts.append(f"indices count from {start}")
         return axes, places
 
     def parents(self, values: list[np.ndarray]) -> tuple[list[Axis], list[np.ndarray]]:
-        """The parents of sub-blocks."""
-        words, sizes = self.words, sizes_of(self.words.parents, "--parents")
+        """The parents of sub-blocks, and the places of blocks that are greater."""
+        words, parents, sizes = self.words, sizes_of(self.words.parents, "--parents"), self.sizes
         if words.corner:
             corners = thousandths(words.corner, "--corner")
+        elif sizes is None:
+            raise UserError("--parents needs --corner, the least corner of a parent, or --sub-size, the columns with the sizes of sub-blocks")
         else:
-            corners = self.corners_by_size(values, sizes)
-        places, axes = [], []
-        for axis in range(3):
-            place = parents_of(values[axis], corners[axis], sizes[axis], "xyz"[axis])
+            corners = [int(np.rint(np.nanmin(value - size / 2))) for value, size in zip(values, sizes.along)]
+        if sizes is not None and not sizes.are_named:
+            self.report.facts.append(f"sizes of rows are those of {sizes.names}")
+        for parent in parents:
+            if parent % 2:
+                raise UserError(f"--parents: half of {shortest(parent, 3)} has more than 3 decimals")
+        self.parts = parts_of(values, sizes, corners, parents, self.with_cells, bool(words.corner))
+        self.spot = pd.factorize(pd.MultiIndex.from_arrays(values))[0][self.parts.row] if len(values[0]) else None
+        axes, places = [], []
+        for axis, place in enumerate(self.parts.places):
             least = int(place.min())
-            if sizes[axis] % 2:
-                raise UserError(f"--parents: half of {shortest(sizes[axis], 3)} has more than 3 decimals")
-            axes.append(Axis(corners[axis] + least * sizes[axis] + sizes[axis] // 2, sizes[axis], int(place.max()) - least + 1, 0))
+            axes.append(Axis(corners[axis] + least * parents[axis] + parents[axis] // 2, parents[axis], int(place.max()) - least + 1, 0))
             places.append(place - least)
         return axes, places
-
-    def corners_by_size(self, values: list[np.ndarray], sizes: Sequence[int]) -> list[int]:
-        """A corner of a parent, by the least edge of a sub-block along each axis."""
-        if not self.words.sub_size:
-            raise UserError("--parents needs --corner, the least corner of a parent, or --sub-size, the columns with the sizes of sub-blocks")
-        halves = [self.reading.joined("size_" + axis) / 2 for axis in COORDINATES]
-        corners = [int(np.rint((value - half).min())) for value, half in zip(values, halves)]
-        for axis, (value, half, corner, size) in enumerate(zip(values, halves, corners, sizes)):
-            parent = np.floor_divide(value - corner, size)
-            room = size / 1000 + 1
-            beyond = (value - half < corner + parent * size - room) | (value + half > corner + (parent + 1) * size + room)
-            if beyond.any():
-                raise UserError(f"{self.line(int(np.flatnonzero(beyond)[0]))}: the sub-block goes beyond its parent along {'xyz'[axis]}: are "
-                                "parents of another size, or is --corner to be given?")
-        return corners
 
     def grid(self, axes: Sequence[Axis]) -> Grid:
         """The grid in metres."""
@@ -234,68 +330,27 @@ class Placing:
 
     # The rows.
 
-    def tonnes(self, axes: Sequence[Axis]) -> np.ndarray:
-        """Tonnes in parts, -1 where missing; densities become tonnes by the volume of a block."""
-        found = self.reading.joined("tonnes")
-        if found is not None:
-            return found
-        density = self.reading.joined("density")
-        if self.words.tonnes:
-            mass = density
-        else:
-            mass = self.masses(density, self.volumes(axes, len(density)))
-        share = self.shares("share")
-        mass = mass if share is None else mass * share
-        known = np.isfinite(mass) & (mass > 0)
-        parts = np.rint(np.where(known, mass, 0) * 10 ** self.reading.fine["tonnes"]).astype(np.int64)
-        return np.where(known & (parts > 0), parts, -1)
-
     def volumes(self, axes: Sequence[Axis], count: int) -> np.ndarray:
         """Cubic metres of each row's block."""
-        volume, sub_volume = self.reading.joined("volume"), self.reading.joined("sub_volume")
-        if volume is not None:
-            return volume
         foot = 0.3048 ** 3 if self.words.in_feet else 1.0
-        if sub_volume is not None:
-            return sub_volume * foot
-        if self.words.parents:
+        many = self.parts.many if self.parts is not None else 1
+        volume = self.taken("volume")
+        if volume is not None:
+            return volume / many
+        if self.sizes is not None and (self.words.parents or self.sizes.are_named):
+            sized = self.sizes.volumes(self.factors) * foot
+            return sized if self.parts is None else sized[self.parts.row] / many
+        if self.words.parents and not self.words.tonnes:
             raise UserError("the tonnes of a sub-block need its own volume: give --volume or --sub-size")
+        return np.full(count, self.volume_of(axes))
+
+    def volume_of(self, axes: Sequence[Axis]) -> float:
+        """Cubic metres of a block of the grid."""
+        foot = 0.3048 ** 3 if self.words.in_feet else 1.0
         metres = [axis.step * factor / 1000 for axis, factor in zip(axes, self.factors)]
-        return np.full(count, metres[0] * metres[1] * metres[2] * foot)
+        return metres[0] * metres[1] * metres[2] * foot
 
-    def masses(self, density: np.ndarray, volume: np.ndarray) -> np.ndarray:
-        """Tonnes of each row. Of a percent model the rest of a block is waste, and its grade that of ore and waste together."""
-        share = self.shares("ore_share")
-        if share is None:
-            return density * volume
-        waste = self.reading.joined("waste_density")
-        share = np.nan_to_num(share)
-        ore = np.nan_to_num(density) * share
-        rest = np.where(share < 1, np.nan_to_num(waste) * (1 - share), 0)
-        whole = ore + rest
-        grade = self.reading.joined("grade")
-        with np.errstate(divide="ignore", invalid="ignore"):
-            mixed = np.where((grade >= 0) & (whole > 0), np.rint(grade * ore / whole), -1).astype(np.int64)
-        self.reading.keep(grade=np.where((share == 0) & (whole > 0), 0, mixed))
-        self.report.facts.append(f"{int(((share > 0) & (share < 1)).sum()):,} blocks are part ore and part waste: tonnes and grades are of both")
-        return np.where(whole > 0, whole * volume, np.nan)
-
-    def shares(self, key: str) -> Optional[np.ndarray]:
-        """Shares from 0 to 1; those of a hundred are known by their greatest, where no unit says it."""
-        share = self.reading.joined(key)
-        if share is None:
-            return None
-        most = np.nanmax(share) if np.isfinite(share).any() else 0
-        name = key.replace("_", "-")
-        measure = self.measure_of(key)
-        if measure is not None and not measure.unit and 1.000001 < most <= 100.000001:
-            share = share / 100
-            self.report.facts.append(f"--{name} is read as percent, since it goes up to {most:g}")
-        elif most > 1.000001:
-            raise UserError(f"--{name} goes up to {most:g}: a share is 0 to 1, or 0 to 100 %")
-        return np.minimum(share, 1)
-
-    def tell_rows(self, rows: pd.DataFrame) -> None:
+    def tell_rows(self) -> None:
         counts, facts = self.reading.counts, self.report.facts
         facts.append(f"{counts['rows'] + counts['filtered']:,} rows read")
         for what in ("empty lines", "headers that stand again", "lines behind the last row, as totals"):
@@ -307,6 +362,11 @@ class Placing:
             if set(texts) - {""}:
                 told = ", ".join(f"`{text}`" if text else "empty" for text, _ in texts.most_common(4))
                 facts.append(f"missing in {name}: {sum(texts.values()):,} cells ({told})")
+        for name, shown in self.reading.percents.items():
+            facts.append(f"{name} is shown in percent: {shown}")
+        for (name, _), spelled in self.reading.spellings.items():
+            if len(spelled) > 1:
+                facts.append(f"in {name} a filter takes for one: {', '.join(f'`{text}`' for text in sorted(spelled))}")
         if self.reading.unknown_densities:
             told = ", ".join(f"`{key}` ({many:,} rows)" for key, many in self.reading.unknown_densities.most_common(5))
             facts.append(f"without a density: {told.replace(chr(9), ' ')}")
@@ -316,7 +376,7 @@ class Placing:
         missing = (rows["tonnes"] < 0).to_numpy()
         air, rows = rows[missing], rows[~missing].copy()
         if rows.empty:
-            raise UserError("no row has tonnes: " + ("is --density the right column?" if self.words.density else "is --tonnes the right column?"))
+            raise UserError("no row has tonnes: " + self.no_tonnes_told())
         self.report.facts.append(f"left out: {len(air):,} rows without tonnes (air, holes)")
         barren = (rows["grade"] < 0).to_numpy()
         if self.reading.counts["money"]:
@@ -326,21 +386,40 @@ class Placing:
         rows.loc[barren, "grade"] = 0
         return rows, air
 
-    def one_row_a_block(self, rows: pd.DataFrame) -> pd.DataFrame:
+    def no_tonnes_told(self) -> str:
+        """Why no row may have tonnes."""
+        if self.words.density_by:
+            told = ", ".join(f"`{key}` ({many:,} rows)" for key, many in self.reading.unknown_densities.most_common(5))
+            return f"--density-by has none of {told.replace(chr(9), ' ')}"
+        return f"is {'--density' if self.words.density else '--tonnes'} the right column?"
+
+    def without_repeats(self, rows: pd.DataFrame) -> pd.DataFrame:
+        """The rows without those that are the same as an earlier one, where that is asked for."""
+        if not self.words.drop_repeats:
+            return rows
+        again = is_again(rows, key_of(rows) if self.spot is None else self.spot)
+        self.report.facts.append(f"left out: {int(again.sum()):,} rows that are the same as an earlier one")
+        return rows[~again]
+
+    def one_row_a_block(self, rows: pd.DataFrame, axes: Sequence[Axis]) -> pd.DataFrame:
         """Sums up the rows of each block, where that is asked for; else it stops where a place stands twice."""
-        places = [rows[name].to_numpy() for name in ("ix", "iy", "iz")]
-        key = (places[2] * 20_000 + places[1]) * 20_000 + places[0]
-        if not self.words.is_merged:
-            order = np.argsort(key, kind="stable")
-            again = np.flatnonzero(key[order][1:] == key[order][:-1])
-            if len(again):
-                at, before = rows["row"].to_numpy()[order[again[0] + 1]], rows["row"].to_numpy()[order[again[0]]]
-                raise UserError(f"{len(again):,} rows have a place that stands before: {self.line(at)} repeats {self.line(before)}. Several rows "
-                                "a block are summed up by --merge, sub-blocks by --parents")
+        words, key = self.words, key_of(rows)
+        spot = key if self.spot is None else self.spot[rows["row"].to_numpy()]
+        again = np.zeros(len(rows), bool) if words.drop_repeats else is_again(rows, spot)
+        by_density = not words.tonnes and not words.volume and not (self.sizes is not None and words.is_merged)
+        repeats = Repeats(rows, key, spot, again, self.reading.fine["tonnes"], self.volume_of(axes), self.report, self.with_cells, self.line)
+        repeats.judge(by_density, words.is_merged, bool(words.parents))
+        if not words.is_merged:
             return rows
         merged = _merged(rows, key, self.reading.fine)
-        what = "sub-blocks are" if self.words.parents else "rows are"
-        self.report.facts.append(f"{len(rows):,} {what} {len(merged):,} blocks: tonnes summed, grades by tonnes, the zone with most tonnes")
+        what = "sub-blocks are" if words.parents else "rows are"
+        summed = np.bincount(pd.factorize(key)[0])
+        several = summed > 1
+        weights = merged["tonnes"].to_numpy() / 1000 / self.volume_of(axes)
+        told = f"; {int(several.sum()):,} are sums of 2 to {int(summed.max()):,}" if several.any() else ""
+        if several.any() and not words.parents and len(weights) == len(summed):
+            told += f", and weigh {figure(weights[several].min())} to {figure(weights[several].max())} t/m3"
+        self.report.facts.append(f"{len(rows):,} {what} {len(merged):,} blocks: tonnes summed, grades by tonnes, the zone with most tonnes{told}")
         return merged
 
     def with_holes(self, rows: pd.DataFrame, air: pd.DataFrame) -> tuple[pd.DataFrame, pd.DataFrame]:
@@ -422,6 +501,12 @@ class Placing:
                 self.report.facts.append(f"{name} is put on the grid: rows lie up to {shortest(axis.beside, 3)} beside it")
 
 
+def key_of(rows: pd.DataFrame) -> np.ndarray:
+    """One number for each place."""
+    ix, iy, iz = (rows[name].to_numpy() for name in ("ix", "iy", "iz"))
+    return (iz * 20_000 + iy) * 20_000 + ix
+
+
 def _merged(rows: pd.DataFrame, key: np.ndarray, fine: dict[str, int]) -> pd.DataFrame:
     """One row for each block: tonnes are summed exactly, grades weighed by tonnes, and the zone is the one with most tonnes, the first
     of equals."""
@@ -438,4 +523,6 @@ def _merged(rows: pd.DataFrame, key: np.ndarray, fine: dict[str, int]) -> pd.Dat
     found["tonnes"] = (mass + 5 * 10 ** (fine["tonnes"] - 4)) // 10 ** (fine["tonnes"] - 3)
     found["grade"] = np.rint(metal / mass / 10 ** (fine["grade"] - 6)).astype(np.int64)
     found["zone"] = most["zone"].to_numpy()
+    if "other" in rows:
+        found["other"] = np.bincount(codes, rows["other"].to_numpy(), len(firsts))
     return found[found["tonnes"] > 0]

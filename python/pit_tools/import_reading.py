@@ -8,12 +8,15 @@ from typing import Optional, Sequence
 import numpy as np
 import pandas as pd
 
-from pit_tools.cells import Marks, marks_of
+from pit_tools.cells import Marks, Spelled, marks_of
 from pit_tools.errors import UserError
 from pit_tools.export_words import Columns, Measure, Table, Words, columns_of, unit_doubts
-from pit_tools.formulas import column_name
+from pit_tools.formula_values import code_name
+from pit_tools.formulas import Formula, column_name
 from pit_tools.import_report import Report
-from pit_tools.source import Source, is_number_like, source_of
+from pit_tools.source import Source, is_number_like, sources_of
+from pit_tools.unnamed_columns import Unnamed
+from pit_tools.workbook import UNCOMPUTED
 
 # Decimals that tonnes and grades keep until several rows of one block are summed.
 FINE = {"tonnes": 6, "grade": 9}
@@ -33,15 +36,26 @@ class Reading:
         self.zone_numbers: dict[str, int] = {}
         self.missing: dict[str, Counter] = {}
         self.counts: Counter = Counter()
-        self.first_of: dict[str, tuple[int, int]] = {}
         self.fine = FINE if words.is_merged else {"tonnes": 3, "grade": 6}
         self.source_at = 0
         self.first_record = 0
         self.unknown_densities: Counter = Counter()
+        # texts that a filter takes for one, by column and code; a cell with a sign of percent, by column
+        self.spellings: dict[tuple[str, str], set[str]] = {}
+        self.percents: dict[str, str] = {}
+        self.unnamed = Unnamed()
+        # a number whose point may stand between thousands
+        self.unclear_point = ""
 
     def keep(self, **columns: np.ndarray) -> None:
         for name, values in columns.items():
             self.pieces.setdefault(name, []).append(values)
+
+    def agree_on(self, unnamed: Unnamed, source: Source) -> None:
+        """Keeps what a header has beside what is read. It raises UserError where another export has no such columns of sizes."""
+        if self.source_at and bool(unnamed.sizes) != bool(self.unnamed.sizes):
+            raise UserError(f"{source.path}: of the exports some have columns of sizes, and others none: read them apart")
+        self.unnamed = unnamed
 
     def joined(self, name: str) -> Optional[np.ndarray]:
         """A column of all pieces, or None; the pieces are given up."""
@@ -49,15 +63,23 @@ class Reading:
         return np.concatenate(pieces) if pieces else None
 
 
-def read_export(path: str, words: Words, reading: Reading, report: Report) -> Source:
-    """Reads one export into the arrays."""
+def read_export(path: str, words: Words, reading: Reading, report: Report) -> list[Source]:
+    """Reads one export into the arrays; of a workbook all sheets with its header."""
     found: list[Columns] = []
 
     def resolve(names: Sequence[str]) -> None:
         found[:] = [columns_of(words, names)]
 
-    source = source_of(path, resolve, encoding=words.encoding, separator=words.separator, names=words.names, sheet=words.sheet)
-    columns, marks = found[0], None
+    sources = sources_of(path, resolve, encoding=words.encoding, separator=words.separator, names=words.names, sheet=words.sheet)
+    for source in sources:
+        read_source(source, found[0], reading, report)
+    return sources
+
+
+def read_source(source: Source, columns: Columns, reading: Reading, report: Report) -> None:
+    """Reads the rows of one text or sheet."""
+    words, marks = reading.words, None
+    reading.agree_on(columns.unnamed, source)
     key = _key_column(columns)
     for table in source.chunks(columns.needed):
         if marks is None:
@@ -65,22 +87,23 @@ def read_export(path: str, words: Words, reading: Reading, report: Report) -> So
             reading.first_record = int(table.index[0])
             marks = marks_of((table[at] for at in columns.numeric), decimal=words.decimal, thousands=words.thousands,
                              missing=words.missing)
+            reading.unclear_point = reading.unclear_point or marks.unclear_point
             report.facts.append(source.told())
             report.doubts += unit_doubts(columns, source.names, source.units)
         Piece(table, source, columns, marks, reading).take()
     if marks is not None:
         report.facts += _marks_told(marks)
-        report.facts.append(_columns_told(columns, source.names))
+        if not reading.source_at:
+            report.facts.append(_columns_told(columns, source.names))
         reading.counts["money"] += columns.is_money
     reading.source_at += 1
-    return source
 
 
 def _key_column(columns: Columns) -> int:
     """A column that has a number in each row, by which rows of units are known."""
     for key in (*COORDINATES, "i", "tonnes", "density", "grade"):
-        if key in columns.measures and columns.measures[key].formula.columns:
-            return columns.measures[key].formula.columns[0]
+        if key in columns.measures and columns.measures[key].formula.numbers:
+            return min(columns.measures[key].formula.numbers)
     raise UserError("no formula has a column")
 
 
@@ -89,12 +112,17 @@ def _without_units(table: pd.DataFrame, key: int, source: Source) -> pd.DataFram
     if not source.has_header:
         return table
     for at in range(min(len(table), 100)):
-        if is_number_like(table[key].iloc[at]):
+        if is_number_like(table[key].iloc[at]) and not _is_counted(table.iloc[at]):
             if at:
                 source.units = [_row_of(table.iloc[row], len(source.names)) for row in range(at)]
             return table.iloc[at:]
     raise UserError(f"{source.path}: no row below the header in line {source.header_line} has a number in the column "
                     f"{source.names[key]}")
+
+
+def _is_counted(row: pd.Series) -> bool:
+    """Whether a row has the numbers of the columns, counted from 0 or 1."""
+    return len(row) > 3 and any(all(str(cell).strip() == str(at + start) for at, cell in row.items()) for start in (0, 1))
 
 
 def _row_of(row: pd.Series, width: int) -> list[str]:
@@ -138,15 +166,16 @@ class Piece:
             if key in self.columns.measures:
                 self.reading.keep(**{key: self.place(key)})
         self.take_sizes()
+        self.take_unnamed()
         self.take_tonnes()
         self.take_grade()
         self.take_zone()
         self.reading.counts["rows"] += len(self.table)
         self.reading.keep(record=self.table.index.to_numpy(np.int64), file=np.full(len(self.table), self.reading.source_at, np.int16))
 
-    def line(self, at: int) -> str:
-        """Where a row of the piece stands."""
-        return f"{self.source.path}: line {self.source.line_of(int(self.table.index[at]))}"
+    def line(self, at: int, column: Optional[int] = None) -> str:
+        """Where a row of the piece, or a cell of it, stands."""
+        return self.source.place_of(int(self.table.index[at]), column)
 
     def drop_lines_that_are_no_rows(self) -> None:
         """Leaves out rows that are empty where formulas look, the header where it stands again, and totals behind the last row."""
@@ -176,27 +205,56 @@ class Piece:
     def filter(self) -> None:
         """Leaves out the rows that a filter does not let through."""
         kept = np.ones(len(self.table), bool)
-        for formula, numbers, texts in self.columns.filters:
-            values = {column_name(at): self.marks.spelled(self.table[at]).floats for at in numbers}
-            values.update({column_name(at): self.keys_of([at]) for at in texts})
-            kept &= formula.holds(pd.DataFrame(values, index=self.table.index)).to_numpy()
+        for formula in self.columns.filters:
+            known, standing = self.values(formula, has_negatives=False)
+            kept &= formula.holds(known, standing)
         self.reading.counts["filtered"] += int((~kept).sum())
         self.table = self.table[kept]
 
-    def floats(self, measure: Measure, what: str) -> np.ndarray:
-        """A formula's values, in its own unit, NaN where a cell is missing. Negative ones of a measure are those of marks as -99."""
-        values = {}
-        for at in measure.formula.columns:
-            cells = self.marks.spelled(self.table[at])
+    def values(self, formula: Formula, has_negatives: bool, as_percent: bool = False, counted: bool = False) -> tuple[pd.DataFrame, pd.DataFrame]:
+        """The columns of a formula by their names in code: numbers, NaN where a cell is missing, and texts; and the same as they stand.
+        Negative numbers are missing too, but where a measure has such."""
+        known, standing = {}, {}
+        for at in sorted(formula.numbers):
+            cells = self.marks.spelled(self.table[at], as_percent)
+            if counted:
+                self.refuse(cells.wrong, at)
+                self.note_percent(cells, at)
             numbers = cells.floats
-            self.refuse(cells.wrong, at)
-            if what not in COORDINATES and what not in "ijk":
-                self.count_missing(at, np.isnan(numbers) | (numbers < 0))
-                numbers[numbers < 0] = np.nan
-            values[column_name(at)] = numbers
-        table = pd.DataFrame(values, index=self.table.index)
-        found = measure.formula.value(table).to_numpy(float).copy()
-        self.refuse_vast(np.isinf(found) & ~measure.formula.divides, what)
+            missing = np.isnan(numbers) if has_negatives else ~(numbers >= 0)
+            if counted and not has_negatives:
+                self.count_missing(at, missing)
+            standing[column_name(at)], known[column_name(at)] = numbers, np.where(missing, np.nan, numbers)
+        for at in sorted(formula.texts):
+            known[column_name(at)] = self.codes_of(at)
+        return pd.DataFrame(known, index=self.table.index), pd.DataFrame({**known, **standing}, index=self.table.index)
+
+    def codes_of(self, column: int) -> pd.Series:
+        """A column's texts as filters compare them."""
+        texts = self.table[column]
+        codes = {text: code_name(text) for text in texts.unique()}
+        for text, code in codes.items():
+            self.reading.spellings.setdefault((self.source.names[column], code), set()).add(text.strip())
+        return texts.map(codes)
+
+    def note_percent(self, cells: Spelled, column: int) -> None:
+        """Keeps a cell with a sign of percent. It raises UserError for a number without one in the same column."""
+        if not cells.percent.any():
+            return
+        name, shown = self.source.names[column], self.table[column]
+        bare = ~cells.percent & (cells.floats > 0)
+        with_sign = shown.iloc[int(np.flatnonzero(cells.percent)[0])].strip()
+        if bare.any():
+            at = int(np.flatnonzero(bare)[0])
+            raise UserError(f"{self.line(at, column)}: the column {name} has `{shown.iloc[at].strip()}`, and others have a sign of percent, as `{with_sign}`")
+        self.reading.percents.setdefault(" ".join(name.split()), f"`{with_sign}` is {self.marks.plain(with_sign)}")
+
+    def floats(self, measure: Measure, what: str) -> np.ndarray:
+        """A formula's values, in its own unit, NaN where a cell is missing. Negative cells of a measure are marks, as -99."""
+        known, standing = self.values(measure.formula, what in COORDINATES or what in "ijk", measure.is_percent, counted=True)
+        found = measure.formula.value(known, standing).to_numpy(float).copy()
+        if not measure.formula.divides:
+            self.refuse_vast(np.isinf(found), what)
         found[np.isinf(found)] = np.nan
         return found
 
@@ -212,7 +270,7 @@ class Piece:
         at = int(np.flatnonzero(wrong)[0])
         text = self.table[column].iloc[at].strip()
         name = " ".join(self.source.names[column].split())
-        raise UserError(f"{self.line(at)}: the column {name} has `{text}`{_hint(text, self.marks)}")
+        raise UserError(f"{self.line(at, column)}: the column {name} has `{text}`{_hint(text, self.marks)}")
 
     def count_missing(self, column: int, missing: np.ndarray) -> None:
         """Counts the texts that stand for what is missing."""
@@ -243,6 +301,7 @@ class Piece:
         if at is not None:
             cells = self.marks.spelled(self.table[at])
             self.refuse(cells.wrong, at)
+            self.refuse_percent(cells, key, at)
             parts = cells.parts(places)
             missing = cells.missing | (parts < 0)
             self.count_missing(at, missing)
@@ -251,6 +310,14 @@ class Piece:
         missing = np.isnan(values) | (values < 0)
         self.refuse_vast(values > MOST, key)
         return np.rint(np.where(missing, 0, values) * 10 ** places).astype(np.int64), missing
+
+    def refuse_percent(self, cells: Spelled, key: str, column: int) -> None:
+        """Stops at a cell with a sign of percent in a column whose unit is not said."""
+        if cells.percent.any():
+            at = int(np.flatnonzero(cells.percent)[0])
+            name = " ".join(self.source.names[column].split())
+            advice = f"give the unit, as --grade '{name} %'" if key == "grade" else f"is {name} the right column for --{key.replace('_', '-')}?"
+            raise UserError(f"{self.line(at, column)}: the column {name} has `{self.table[column].iloc[at].strip()}`: {advice}")
 
     def in_pitc_units(self, key: str) -> np.ndarray:
         """A measure as floats in the unit of pitc."""
@@ -262,18 +329,25 @@ class Piece:
         return values
 
     def take_sizes(self) -> None:
-        """The sizes of sub-blocks, in thousandths of their unit, and their volumes in cubic metres."""
+        """The sizes of sub-blocks, in thousandths of their unit."""
         if "size_x" not in self.columns.measures:
             return
-        volume = np.ones(len(self.table))
         for axis in COORDINATES:
-            measure = self.columns.measures["size_" + axis]
-            size = self.floats(measure, "size_" + axis)
+            size = self.floats(self.columns.measures["size_" + axis], "size_" + axis)
             if not (size > 0).all():
                 raise UserError(f"{self.line(int(np.flatnonzero(~(size > 0))[0]))}: the size of a sub-block along {axis} is missing or 0")
             self.reading.keep(**{"size_" + axis: size * 1000})
-            volume *= size * float(measure.factor)
-        self.reading.keep(sub_volume=volume)
+
+    def take_unnamed(self) -> None:
+        """Columns that nobody named, as floats: NaN where there is no number above 0, but 0 of a share."""
+        found = self.columns.unnamed
+        kept = {"own_size_" + axis: at for axis, at in zip(COORDINATES, found.sizes)}
+        kept.update({name: at for name, at in (("own_weight", found.weight), ("own_volume", found.volume)) if at is not None})
+        for name, at in kept.items():
+            numbers = self.marks.spelled(self.table[at]).floats
+            self.reading.keep(**{name: np.where(numbers > 0, numbers, np.nan)})
+        for number, at in enumerate(found.rests):
+            self.reading.keep(**{f"rest_{number}": self.marks.spelled(self.table[at], as_percent=True).floats})
 
     def take_tonnes(self) -> None:
         """Tonnes in parts, -1 where missing; or, of a density, floats until the volume of a block is known."""
@@ -283,12 +357,29 @@ class Piece:
                 self.reading.keep(tonnes=np.where(missing | (tonnes == 0), -1, tonnes))
                 return
             # Of a share of the block: tonnes wait for it as densities do for a volume.
-            self.reading.keep(density=np.where(missing, np.nan, tonnes / 10.0 ** self.reading.fine["tonnes"]))
+            self.reading.keep(density=np.where(missing | (tonnes == 0), np.nan, tonnes / 10.0 ** self.reading.fine["tonnes"]))
         else:
             self.reading.keep(density=self.densities())
-        for key in ("volume", "share", "ore_share", "waste_density"):
+        for key in ("volume", "share", "ore_share", "waste_share", "waste_density"):
             if key in self.columns.measures:
                 self.reading.keep(**{key: self.in_pitc_units(key)})
+        self.judge_share()
+
+    def judge_share(self) -> None:
+        """Stops where a share is missing of a row that has a mass: it may be whole or none."""
+        if "share" not in self.columns.measures:
+            return
+        lacking = np.isnan(self.reading.pieces["share"][-1]) & (self.reading.pieces["density"][-1] > 0)
+        if lacking.any():
+            at = int(np.flatnonzero(lacking)[0])
+            measure = self.columns.measures["share"]
+            column = sorted(measure.formula.numbers)[0]
+            name = " ".join(self.source.names[column].split())
+            whole = 100 if measure.unit or self.marks.spelled(self.table[column]).floats.max(initial=0) > 1 else 1
+            unit = f" {measure.unit}" if measure.unit else ""
+            raise UserError(f"{self.line(at)}: the share is missing, {name} being `{self.table[column].iloc[at].strip()}`, as in "
+                            f"{int(lacking.sum()):,} rows that have a mass: where that says whole, give --share 'where(missing({name}), {whole}, "
+                            f"{name}){unit}'; where it says none, 0 in place of {whole}")
 
     def densities(self) -> np.ndarray:
         """Tonnes a cubic metre, by the column and, where that is missing, by the table of rock codes."""
@@ -306,7 +397,7 @@ class Piece:
 
     def keys_of(self, columns: Sequence[int]) -> pd.Series:
         """The texts of some columns, as one text each row."""
-        stripped = [self.table[at].map({text: text.strip() for text in self.table[at].unique()}) for at in columns]
+        stripped = [self.table[at].map({text: re.sub(r"^(-?\d+)\.0+$", r"\1", text.strip()) for text in self.table[at].unique()}) for at in columns]
         keys = stripped[0]
         for other in stripped[1:]:
             keys = keys + "\t" + other
@@ -348,8 +439,12 @@ def _hint(text: str, marks: Marks) -> str:
     """What may be meant by a cell that is no number."""
     if not text:
         return ", which is empty"
-    if text.endswith("%"):
-        return ": a share of a hundred is named by a unit, as --grade 'CU %', and its cells have no sign"
+    if text == UNCOMPUTED:
+        return ", a formula that no program has computed: open the workbook in a spreadsheet, and save it"
+    if text.startswith("#"):
+        return f", an error of a spreadsheet: mend it there, or give --missing '{text}' where it stands for what is not known"
+    if re.match(r"(?i)(bench|level|rl|elevation|z)\b", text):
+        return ", a heading between rows and no row: take such lines out"
     if text.startswith("<"):
         return f": if it stands for nothing, give --missing '{text}'"
     if "," in text and marks.decimal == "." and not marks.thousands:

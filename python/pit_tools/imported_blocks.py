@@ -70,7 +70,7 @@ class Imported:
         """Writes the zone files, and BASE.json with the words, the grid, the zones, the turn and what was told. It answers the zone files' paths."""
         paths = self.file_names(base)
         told = {
-            "tool": f"pit-tools {VERSION}", "exports": [source.path for source in self.sources],
+            "tool": f"pit-tools {VERSION}", "exports": list(dict.fromkeys(source.path for source in self.sources)),
             "words": {key: value for key, value in asdict(self.words).items() if value not in ("", (), [], None, False)},
             "grid": {"origin": [plain(value) for value in self.grid.origin], "size": [plain(value) for value in self.grid.size],
                      "blocks": [axis.places for axis in self.axes]},

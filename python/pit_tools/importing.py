@@ -27,7 +27,7 @@ def import_export(paths: Sequence[str], words: Words) -> Imported:
     report. Nothing is written."""
     words.judge()
     reading, report = Reading(words), Report()
-    sources = [read_export(path, words, reading, report) for path in paths]
+    sources = [source for path in paths for source in read_export(path, words, reading, report)]
     if not reading.counts["rows"]:
         raise UserError(f"{paths[0]}: there is no row below the header" + (" that the filter lets through" if words.where else ""))
     return Placing(reading, sources, report).imported()

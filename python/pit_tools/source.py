@@ -13,13 +13,15 @@ import re
 import zipfile
 import zlib
 from dataclasses import dataclass, field
+from itertools import islice
 from typing import IO, Any, BinaryIO, Callable, Iterator, Optional, Sequence, TextIO
 
 import numpy as np
 import pandas as pd
 
 from pit_tools.errors import UserError
-from pit_tools.formulas import Lacking
+from pit_tools.formulas import Lacking, plain_name
+from pit_tools.workbook import cell_name, sheets_of
 
 # How many rows are texts at a time.
 CHUNK = 100_000
@@ -163,6 +165,7 @@ class Source:
     units: list[list[str]] = field(default_factory=list)
     sheet: Optional[pd.DataFrame] = None
     sheet_name: str = ""
+    sheets_left: list[str] = field(default_factory=list)
 
     def __post_init__(self) -> None:
         if len(self.names) > MOST_COLUMNS:
@@ -178,7 +181,8 @@ class Source:
             how = f"cells between {SEPARATORS.get(self.separator, repr(self.separator))}, {self.encoding_told}"
         header = f"header in line {self.header_line}" if self.has_header else "no header"
         units = f"; {len(self.units)} between it and the first number left out" if self.units else ""
-        return f"{self.path}: {how}; {header}{units}"
+        left = f"; left out: {', '.join(f'`{name}`' for name in self.sheets_left)}, without these columns" if self.sheets_left else ""
+        return f"{self.path}: {how}; {header}{units}{left}"
 
     def handle(self) -> io.TextIOWrapper:
         """The text from the header on, or from the first row."""
@@ -251,8 +255,33 @@ class Source:
         width = len(self.names)
         for line, found in widths:
             if found != width:
-                more = "is a separator in a cell without quotes, or at the ends of lines?" if found > width else "is the file cut short?"
-                raise UserError(f"{self.path}: line {line + above} has {found} cells, and the header {width}: {more}")
+                why = "is a separator in a cell without quotes, or at the ends of lines?" if found > width else self._lacking_told(line + above)
+                raise UserError(f"{self.path}: line {line + above} has {found} cells, and the header {width}: {why}")
+
+    def _lacking_told(self, number: int) -> str:
+        """What a line with too few cells may be, by its text."""
+        with self.handle() as text:
+            line = next(islice(text, number - self.above - 1, None), "").strip()
+        shown = f"`{line[:60]}{'..' if line[60:] else ''}`"
+        if self.separator == " " and re.search(r"\d\.\d+[-.]?\d*\.\d", line):
+            return f"{shown} has numbers without a blank between them: export it with a separator, or wider columns"
+        if not re.search(r"\d[\d.,]*[\s,;|]+-?\d", line):
+            return f"{shown} is a heading between rows, as of a bench, and no row: take such lines out"
+        return f"{shown}: is the file cut short, or are these rows of another kind?"
+
+    def place_of(self, record: int, column: Optional[int] = None) -> str:
+        """Where a record, or a cell of it, stands, as `a.csv: line 12`."""
+        if self.sheet is None:
+            return f"{self.path}: line {self.line_of(record)}"
+        where = f"row {self.line_of(record)}" if column is None else f"cell {cell_name(self.line_of(record), column + 1)}"
+        return f"{self.path}: sheet `{self.sheet_name}`, {where}"
+
+    def cells_of(self, record: int) -> list[str]:
+        """The cells of a record as they stand."""
+        for table in self.chunks(range(len(self.names))):
+            if record in table.index:
+                return [str(cell).strip() for cell in table.loc[record]]
+        return []
 
     def line_of(self, record: int) -> int:
         """The line on which a record ends, counted from 1 in the file: blank lines and line breaks within quotes count."""
@@ -354,14 +383,19 @@ def gslib_of(path: str, head: str, encoding: str, told: str) -> Optional[Source]
     return Source(path, encoding, told, " ", names, columns + 2, False, 0, kind="GSLIB")
 
 
-def source_of(path: str, resolve: Callable[[Sequence[str]], object], *, encoding: str = "", separator: str = "",
-              names: Sequence[str] = (), sheet: str = "") -> Source:
-    """Opens an export. `resolve` is called with the names of a header that may be one, and raises Lacking where a column is not
+def sources_of(path: str, resolve: Callable[[Sequence[str]], object], *, encoding: str = "", separator: str = "",
+               names: Sequence[str] = (), sheet: str = "") -> list[Source]:
+    """Opens an export: one text, or the sheets of a workbook. `resolve` is called with the names of a header that may be one, and raises Lacking where a column is not
     among them: the first line that it accepts is the header.
 
     It raises UserError where no line has all the columns, and tells what the closest one has."""
     if is_workbook(path):
         return workbook_of(path, resolve, names, sheet)
+    return [text_of(path, resolve, encoding, separator, names)]
+
+
+def text_of(path: str, resolve: Callable[[Sequence[str]], object], encoding: str, separator: str, names: Sequence[str]) -> Source:
+    """Opens a text, as `sources_of` says."""
     told = encoding
     if not encoding:
         encoding, told = encoding_of(path)
@@ -387,6 +421,7 @@ def source_of(path: str, resolve: Callable[[Sequence[str]], object], *, encoding
                 shared = len(row) + 1000 * lacking.hits - 500 * (sum(map(is_number_like, row)) > len(row) / 2)
                 if shared > closest[0]:
                     closest = shared, f"{lacking} in line {line}, which has {_names_told(row)}"
+    judge_turns(path, head, separator)
     first = records_of(head, separator or closest_separator(head))[0][0]
     if len(first) > 3 and sum(map(is_number_like, first)) > len(first) / 2:
         raise UserError(f"{path}: there is no header, since line 1 has numbers: name its {len(first)} columns by --names X,Y,..")
@@ -406,9 +441,21 @@ def closest_separator(head: str) -> str:
     return max(SEPARATORS, key=lambda one: min(len(line.split() if one == " " else line.split(one)) for line in lines) - (one == " "))
 
 
+def judge_turns(path: str, head: str, separator: str) -> None:
+    """Stops where lines of two widths take turns: a model of blocks and their parcels."""
+    widths = [len(row) for row, _, _ in records_of(head, separator or closest_separator(head)) if row]
+    usual = [width for width in set(widths) if widths.count(width) >= len(widths) / 5]
+    if len(usual) > 1 and len(widths) > 9:
+        told = " and ".join(map(str, sorted(usual)))
+        raise UserError(f"{path}: lines of {told} cells take turns, as `{' '.join(head.splitlines()[0].split())[:60]}` and "
+                        f"`{' '.join(head.splitlines()[1].split())[:60]}`: a model of blocks and their parcels, as Whittle writes it? Export one row for "
+                        "each block")
+
+
 def headerless(path: str, resolve: Callable, head: str, encoding: str, told: str, separator: str, names: Sequence[str]) -> Source:
     """A list without a header, whose columns are named."""
     resolve(names)
+    judge_turns(path, head, separator)
     tried = [separator] if separator else list(SEPARATORS)
     for one in tried:
         for row, above, _ in records_of(head, one):
@@ -418,29 +465,47 @@ def headerless(path: str, resolve: Callable, head: str, encoding: str, told: str
     raise UserError(f"{path}: --names has {len(names)} names, and lines have {', '.join(map(str, widths))} cells")
 
 
-def workbook_of(path: str, resolve: Callable, names: Sequence[str], sheet: str) -> Source:
-    """A sheet of a workbook: the one that is named, or the first that has all the columns."""
-    sheets = pd.read_excel(path, sheet_name=sheet or None, header=None, dtype=object)
-    if not isinstance(sheets, dict):
-        sheets = {sheet: sheets}
+def workbook_of(path: str, resolve: Callable[[Sequence[str]], object], names: Sequence[str], sheet: str) -> list[Source]:
+    """All sheets of a workbook that have all the columns, or the one that is named. It raises UserError where their headers differ, or
+    another sheet has rows of as many numbers below another header."""
+    found: list[Source] = []
+    others: dict[str, pd.DataFrame] = {}
     told = ""
-    for name, table in sheets.items():
-        texts = table.apply(lambda column: column.map(_cell_text))
-        for at in range(min(HEAD_LINES, len(texts))) if not names else [0]:
+    for name, texts in sheets_of(path, sheet):
+        at, lacking = _header_at(texts, resolve, names)
+        if at is None:
+            told = told or (f"{lacking} in sheet `{name}`" if lacking else "")
+            others[name] = texts
+        else:
             row = list(names) or texts.iloc[at].tolist()
-            try:
-                resolve(row)
-            except Lacking as lacking:
-                told = told or f"{lacking} in sheet `{name}`"
-                continue
-            if len(row) != texts.shape[1]:
-                raise UserError(f"{path}: --names has {len(row)} names, and the sheet `{name}` {texts.shape[1]} columns")
-            return Source(path, "", "", "", row, at, not names, at + 1, kind="workbook", sheet=texts.iloc[at:], sheet_name=name)
-    raise UserError(f"{path}: {told or 'the workbook is empty'}")
+            found.append(Source(path, "", "", "", row, at, not names, at + 1, kind="workbook", sheet=texts.iloc[at:], sheet_name=name))
+    if not found:
+        raise UserError(f"{path}: {told or 'the workbook is empty'}")
+    for one in found[1:]:
+        if [*map(plain_name, one.names)] != [*map(plain_name, found[0].names)]:
+            raise UserError(f"{path}: the sheets `{found[0].sheet_name}` and `{one.sheet_name}` have these columns below headers that differ: "
+                            "name one by --sheet")
+    for name, texts in others.items():
+        least = max(3, sum(map(is_number_like, found[0].sheet.iloc[-1])))
+        many = int((texts.apply(lambda row: sum(map(is_number_like, row)), axis=1) >= least).sum()) if len(texts) else 0
+        if many > 2:
+            raise UserError(f"{path}: the sheet `{name}` has {many:,} rows of numbers as `{found[0].sheet_name}`, and no header with its columns: "
+                            "give it the header, or name the sheet that is meant by --sheet")
+        found[0].sheets_left.append(name)
+    resolve(found[0].names)
+    return found
 
 
-def _cell_text(cell: object) -> str:
-    """A cell of a workbook as the text that it stands for."""
-    if cell is None or cell is pd.NaT or (isinstance(cell, float) and cell != cell):
-        return ""
-    return repr(cell) if isinstance(cell, float) else str(cell)
+def _header_at(texts: pd.DataFrame, resolve: Callable, names: Sequence[str]) -> tuple[Optional[int], Optional[Lacking]]:
+    """The row of a sheet that is its header, or None and what it lacks; 0 where the columns are named and are as many."""
+    if names:
+        resolve(names)
+        return (0 if texts.shape[1] == len(names) else None), None
+    first = None
+    for at in range(min(HEAD_LINES, len(texts))):
+        try:
+            resolve(texts.iloc[at].tolist())
+            return at, None
+        except Lacking as lacking:
+            first = first or lacking
+    return None, first

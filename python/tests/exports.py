@@ -162,8 +162,8 @@ def old_exports() -> Iterable[Export]:
 
     text = table("I,J,K,TONNES,AU,ZONE", lambda b: ",".join([str(b.i + 1), str(b.j + 1), str(NZ - b.k), *usual(b, "")[3:]]))
     yield Export("indices from 1, benches from the top", {"a.csv": text.encode()},
-                 {"i": "I", "j": "J", "k": "K", "from_top": True, "first": "1000,2000,300", "size": "20,20,10", "tonnes": "TONNES", "grade": "AU",
-                  "zone": ["ZONE"]}, truth(), told=("indices count from 1", "benches count from the top: 7 is the lowest, at z = 300"))
+                 {"i": "I", "j": "J", "k": "K", "from_top": True, "blocks": f"{NX},{NY},{NZ}", "first": "1000,2000,300", "size": "20,20,10",
+                  "tonnes": "TONNES", "grade": "AU", "zone": ["ZONE"]}, truth(), told=("indices count from 1", "benches count from the top: 7 is the lowest, at z = 300"))
 
     text = table("X,Y,DEPTH,TONNES,AU,ZONE", lambda b: ",".join([str(b.x), str(b.y), str(400 - b.z), *usual(b, "")[3:]]))
     yield Export("depths", {"a.csv": text.encode()}, {**USUAL, "z": "400 - DEPTH"}, truth())
@@ -374,7 +374,7 @@ def further_exports() -> Iterable[Export]:
             lines += [f"{block.x},{block.y},{block.z},{dec(mass, 3)},{known(block.grade, 6, '')},{zone}"
                       for mass, zone in ((first, "dyke"), (block.kilograms - first, block.zone))]
     yield Export("several rows a block", {"a.csv": "\n".join(lines).encode()}, {**USUAL, "merge": True}, truth(),
-                 refused="rows have a place that stands before: a.csv: line 3 repeats a.csv: line 2", first={"merge": False})
+                 refused="rows have a place that stands before, .*: a.csv: line 3 .* parts of a block are summed up by --merge", first={"merge": False})
 
     text = table("X,Y,Z,TONNES,AU,ZONE", lambda b: ",".join(usual(b)))
     holes = {(b.x * 1000, b.y * 1000, b.z * 1000): (0, 0) for b in MINE if b.rock == "VOID"}

@@ -7,12 +7,13 @@ import re
 import pytest
 
 from exports import Export, Rows, exports
+from package_exports import later_exports
 from pit_tools.errors import UserError
 from pit_tools.export_words import Words
 from pit_tools.importing import Imported, import_export
 from pit_tools.zone_files import read_zone_file
 
-EXPORTS = exports()
+EXPORTS = [*exports(), *later_exports()]
 
 
 def imported_by(export: Export, folder, **changed) -> Imported:
@@ -36,7 +37,7 @@ def rows_of(imported: Imported, base: str) -> Rows:
     return found
 
 
-@pytest.mark.parametrize("export", EXPORTS, ids=lambda export: export.name)
+@pytest.mark.parametrize("export", [one for one in EXPORTS if one.rows], ids=lambda export: export.name)
 def test_an_export_gives_the_blocks_of_its_mine(export, tmp_path, monkeypatch):
     monkeypatch.chdir(tmp_path)
     imported = imported_by(export, tmp_path)
@@ -60,7 +61,15 @@ def test_what_was_found_of_an_export_is_told(export, tmp_path, monkeypatch):
 
 
 @pytest.mark.parametrize("export", [one for one in EXPORTS if one.refused], ids=lambda export: export.name)
-def test_an_export_stops_where_its_words_are_lacking(export, tmp_path, monkeypatch):
+def test_an_export_stops_or_is_doubted_where_its_words_are_lacking(export, tmp_path, monkeypatch):
     monkeypatch.chdir(tmp_path)
-    with pytest.raises(UserError, match=export.refused):
-        imported_by(export, tmp_path, **export.first)
+    try:
+        doubts = "\n".join(imported_by(export, tmp_path, **export.first).report.doubts)
+    except UserError as error:
+        doubts = str(error)
+    assert re.search(export.refused, doubts), doubts
+
+
+def test_each_export_has_a_name_and_a_truth_or_a_cause():
+    assert len({one.name for one in EXPORTS}) == len(EXPORTS) >= 80
+    assert all(one.rows or one.refused for one in EXPORTS)

@@ -55,14 +55,14 @@ STOPS = [
     (lambda: with_cell(20, 2, "x"), {}, "line 21: the column Z has `x`"),
     (lambda: with_cell(20, 3, "2,5 t"), {}, "line 21 has 7 cells, and the header 6"),
     (lambda: with_cell(20, 4, "<0.01"), {}, "if it stands for nothing, give --missing '<0.01'"),
-    (lambda: with_cell(20, 4, "1.2%"), {}, "a share of a hundred is named by a unit"),
+    (lambda: with_cell(20, 4, "1.2%"), {}, "give the unit, as --grade 'AU %'"),
     (lambda: with_cell(20, 4, "2024-03-01"), {}, "a spreadsheet has made a date"),
     (lambda: with_cell(20, 5, ""), {}, "line 21: it has tonnes and no zone, as 1 rows"),
     (lambda: with_cell(20, 3, "2700000000"), {}, "line 21: a block has 2,700,000,000 t"),
     (lambda: with_cell(20, 4, "2000000"), {}, "more than all metal"),
     (lambda: with_cell(20, 0, "43"), {}, "x has 6 values, and a grid of 1 would have 44 places"),
     (lambda: with_cell(20, 0, "43"), {"size": "10,10,10"}, "x 43 is 3 beside the grid of 10 through 0"),
-    (lambda: with_cell(20, 0, "0"), {}, "1 rows have a place that stands before: .*line 21 repeats .*line 17"),
+    (lambda: with_cell(20, 0, "0"), {}, "1 rows have a place that stands before, .*line 21 .* and .*line 17 .* each is a whole block"),
     (rows, {"grade": "GOLD"}, "no column `GOLD` in line 1, which has `X` `Y`"),
     (rows, {"grade": "AU oz/t"}, "`oz/t` is read in two ways"),
     (rows, {"tonnes": "T tons"}, "`tons` is read in two ways"),
@@ -137,6 +137,7 @@ def test_marks_are_found_where_they_can_only_mean_one_thing(cells, decimal, thou
 
 
 @pytest.mark.parametrize("cells, told", [(["10,935", "7,120"], "is a number with a decimal comma, or one of thousands"),
+                                         (["800", "1.020"], "has a decimal point, or one between thousands"),
                                          (["1.5", "2,5"], "has a decimal point, and `2,5` a decimal comma")])
 def test_marks_that_may_mean_two_things_are_refused(cells, told):
     with pytest.raises(UserError, match=told):
@@ -155,7 +156,8 @@ def test_a_cell_is_spelled_plainly_or_is_no_number(cell, marks, plain):
 
 @pytest.mark.parametrize("text, value", [
     ("a*2 + b", 7.0), ("(a + b)*2", 10.0), ("-a", -2.0), ("a b - a", 8.0), ("a-b", 50.0), ("`10`*a", 22.0), ("b/a", 1.5), ("a**2", 4.0),
-    ("b//a", 1.0), ("b%a", 1.0), ("sqrt(a*2)", 2.0), ("A*2+B", 7.0),
+    ("b//a", 1.0), ("b%a", 1.0), ("where(a < b, 7, 8)", 7.0), ("if(a == 2 and not b < 3, 7, 8)", 7.0), ("7 if b > 3 else 8", 8.0),
+    ("min(a, b) + max(a, b)*2", 8.0), ("where(missing(a), 7, a)", 2.0), ("sqrt(a*2)", 2.0), ("A*2+B", 7.0),
 ])
 def test_a_formula_takes_the_longest_name(text, value):
     names = ["a", "b", "a b", "a-b", "10"]

@@ -9,8 +9,8 @@ what is odd, and the records grid and zone of the plan.
 
     pit-tools import export.csv --x XC --y YC --z ZC --tonnes TONNAGE --grade AU_PPM --zone DOMAIN --base from
 
-Columns are named as in the header, in any case, or are formulas with + - * / ** // % and
-parentheses; a unit may stand behind: --grade 'AU oz/st', --tonnes 'TONS st', --z=-DEPTH. A cell
+Columns are named as in the header, in any case, or are formulas with + - * / ** // %, parentheses and
+where(CONDITION, THIS, THAT); a unit may stand behind: --grade 'AU oz/st', --tonnes 'TONS st', --z=-DEPTH. A cell
 without a formula goes through digit for digit, and is rounded as a decimal; a formula is computed in
 double precision.
 
@@ -35,7 +35,8 @@ def add_arguments(parser: argparse.ArgumentParser) -> None:
     for axis in "ijk":
         places.add_argument(f"--{axis}", default="", metavar="FORMULA", help="or its index, with --first and --size" if axis == "i" else None)
     places.add_argument("--index-from", type=int, metavar="N", help="the index of the first block, 0 or 1")
-    places.add_argument("--from-top", action="store_true", help="k counts benches from the top")
+    places.add_argument("--from-top", action="store_true", help="k counts benches from the top, with --blocks")
+    places.add_argument("--from-north", action="store_true", help="j counts rows from the north, with --blocks")
     places.add_argument("--size", default="", metavar="X,Y,Z", help="the size of a block, where coordinates do not tell it")
     places.add_argument("--first", default="", metavar="X,Y,Z", help="the centroid of the first block")
     places.add_argument("--blocks", default="", metavar="X,Y,Z", help="the numbers of blocks; of rows without coordinates, in --order")
@@ -52,7 +53,8 @@ def add_arguments(parser: argparse.ArgumentParser) -> None:
     contents.add_argument("--volume", default="", metavar="FORMULA", help="cubic metres, where it is not that of a block of the grid")
     contents.add_argument("--share", default="", metavar="FORMULA", help="the part of the block that is rock; the rest is air")
     contents.add_argument("--ore-share", default="", metavar="FORMULA", help="the part that is ore; the rest is waste")
-    contents.add_argument("--waste-density", default="", metavar="FORMULA", help="the density of that rest")
+    contents.add_argument("--waste-share", default="", metavar="FORMULA", help="the part that is waste, where the rest is air")
+    contents.add_argument("--waste-density", default="", metavar="FORMULA", help="the density of the waste")
     contents.add_argument("--grade", default="", metavar="FORMULA", help="grams a tonne, or with a unit")
     contents.add_argument("--zone", action="append", default=[], metavar="COLUMN", help="the zone; given twice, both columns make it")
     contents.add_argument("--zones", default="", metavar="TABLE", help="zones by a table: a file with columns of the export and `zone`")
@@ -60,9 +62,10 @@ def add_arguments(parser: argparse.ArgumentParser) -> None:
                           help="split a flatter zone by benches below a steeper one, since its cones go on through that")
     rows = parser.add_argument_group("which rows")
     rows.add_argument("--where", action="append", default=[], metavar="FILTER", help="rows that stay, as 'CLASS <= 3 and ROCK != \"AIR\"'")
-    rows.add_argument("--parents", default="", metavar="X,Y,Z", help="the size of the parents to which sub-blocks are summed up")
+    rows.add_argument("--parents", default="", metavar="X,Y,Z", help="the size of blocks: smaller ones are summed up, greater ones cut")
     rows.add_argument("--corner", default="", metavar="X,Y,Z", help="the least corner of a parent")
-    rows.add_argument("--sub-size", default="", metavar="X,Y,Z", help="the columns with the sizes of sub-blocks")
+    rows.add_argument("--sub-size", default="", metavar="X,Y,Z", help="the columns with the sizes of rows' blocks, where they are not found")
+    rows.add_argument("--drop-repeats", action="store_true", help="take rows that are the same as an earlier one once")
     rows.add_argument("--merge", action="store_true", help="sum up several rows of one block")
     rows.add_argument("--holes", action="store_true", help="keep rows without tonnes that lie below rock, with 0 tonnes")
     text = parser.add_argument_group("how it is written, where that is not found")
@@ -72,7 +75,7 @@ def add_arguments(parser: argparse.ArgumentParser) -> None:
     text.add_argument("--decimal", default="", metavar="SIGN", help="the decimal mark, a point or a comma")
     text.add_argument("--thousands", default="", metavar="SIGN", help="what stands between thousands")
     text.add_argument("--encoding", default="", metavar="NAME", help="as cp1252 or utf-16")
-    text.add_argument("--sheet", default="", metavar="NAME", help="the sheet of a workbook")
+    text.add_argument("--sheet", default="", metavar="NAME", help="the sheet of a workbook; else all with these columns")
 
 
 def run(args: argparse.Namespace) -> int:
