@@ -8,14 +8,23 @@ Brings MineLib files of other programs into the form that `pitc check` and this 
 instance as the library publishes its files. **The library's files are known here by hearsay alone: none
 was tried.** Look at what is told, and at docs/formats.md, before you trust a file.
 
-    pit-tools minelib --blocks marvin.blocks --prec marvin.prec --cpit marvin.cpit --tonnes 5 --grade 6 --out mine
+    pit-tools minelib --blocks marvin.blocks --prec marvin.prec --cpit marvin.cpit --tonnes 5 --grade 6 \\
+        --out mine
+    pit-tools minelib --to-published mine.pit --ids mine.ids --out marvin.pit
     pit-tools minelib --publish deposit --out published --order brd --immediate
 
 Inward, comments, `EOF`, exponents, other cases, orders and spellings, identifiers from 1, lines only for
 blocks that have predecessors, and a second number behind `L` or `G` are taken; of UPIT, CPIT and PCPSP
 what is lacking is made of the others; --tonnes, --grade and --zone are fields of a block line, counted
-from 1. Each change is told. General side constraints are refused, or left out by --without-general.
-Outward each model ends with `EOF`.
+from 1, and its other fields are skipped, words too. What is changed, rounded or left out is told, with
+its first line. What is not known, does not fit, or is none that `pitc check` takes is refused with its
+line. General side constraints are refused, or left out by --without-general. Where a coefficient's
+fields fit several orders, --order has to say which.
+
+Where a predecessor stands before its block, blocks are put into an order in which it comes later.
+OUT.ids has a line for each block: its identifier in OUT and the one in the published files.
+--to-published and --from-published bring the lines of a pit or a schedule from one to the other.
+Outward each model ends with `EOF`; with --ids blocks stand in the published order.
 """
 
 ENDINGS = ("blocks", "prec", "upit", "cpit", "pcpsp")
@@ -24,38 +33,95 @@ WRITES = "texts of an instance"
 
 
 def add_arguments(parser: argparse.ArgumentParser) -> None:
+    """The words of the command."""
     for ending in ENDINGS:
         parser.add_argument(f"--{ending}", metavar="FILE", help=f"the published {ending} file")
-    parser.add_argument("--publish", metavar="BASE", help="an instance that is written as published files")
-    parser.add_argument("--out", required=True, metavar="BASE", help="where the files go")
+    parser.add_argument("--publish", metavar="BASE",
+                        help="an instance that is written as published files")
+    parser.add_argument("--to-published", metavar="FILE",
+                        help="a pit or a schedule, to be written with published identifiers")
+    parser.add_argument("--from-published", metavar="FILE", help="the same from these")
+    parser.add_argument("--ids", metavar="FILE", help="BASE.ids of an instance of published files")
+    parser.add_argument("--out", required=True, metavar="BASE", help="where the files go, or the lines")
     for name in ("tonnes", "grade", "zone"):
-        parser.add_argument(f"--{name}", type=int, default=0, metavar="N", help=f"the field of a block line that has the {name}, counted from 1")
-    parser.add_argument("--order", choices=["bdr", "brd"], default="bdr", help="fields of a PCPSP's coefficient: block, destination, resource (bdr) or block, resource, destination")
-    parser.add_argument("--without-general", action="store_true", help="leaves general side constraints out")
+        parser.add_argument(f"--{name}", type=int, default=0, metavar="N",
+                            help=f"the field of a block line that has the {name}, counted from 1")
+    parser.add_argument("--order", choices=["bdr", "brd", "rbd"],
+                        help="the order of fields in a coefficient, as b for the block, d for the "
+                        "destination and r for the resource (bdr outward, inward what alone fits)")
+    parser.add_argument("--without-general", action="store_true",
+                        help="leaves general side constraints out")
     parser.add_argument("--immediate", action="store_true", help="without arcs that others imply")
 
 
 def run(args: argparse.Namespace) -> int:
+    """Does it; answers the status."""
+    from pit_tools.errors import UserError
+
+    files = {ending: getattr(args, ending) for ending in ENDINGS if getattr(args, ending)}
+    lines = args.to_published or args.from_published
+    if sum(map(bool, (files, args.publish, args.to_published, args.from_published))) != 1:
+        raise UserError("give published files, or an instance by --publish, or lines by --to-published "
+                        "or --from-published")
+    if lines and not args.ids:
+        raise UserError("give the file of identifiers by --ids")
+    if lines:
+        return _rename(args, lines)
+    return _publish(args) if args.publish else _bring_in(args, files)
+
+
+def _bring_in(args: argparse.Namespace, files: dict[str, str]) -> int:
+    from dataclasses import replace
+
+    from pit_tools.closure import immediate
+    from pit_tools.identifiers import write_identifiers
+    from pit_tools.instance import write_instance
+    from pit_tools.minelib import Columns, read_published
+    from pit_tools.published_lines import Told
+
+    told = Told()
+    columns = Columns(args.tonnes, args.grade, args.zone)
+    mine, identifiers = read_published(files, columns, args.order, args.without_general, told)
+    if args.immediate:
+        mine = replace(mine, precedence=immediate(mine.precedence))
+    write_instance(mine, args.out)
+    write_identifiers(identifiers, f"{args.out}.ids")
+    for line in told.lines:
+        print(line)
+    print(mine.counts())
+    return 0
+
+
+def _publish(args: argparse.Namespace) -> int:
     from dataclasses import replace
 
     from pit_tools.closure import immediate
     from pit_tools.errors import UserError
-    from pit_tools.instance import read_instance, write_instance
-    from pit_tools.minelib import Columns, Told, read_published, write_published
+    from pit_tools.identifiers import read_identifiers, reordered
+    from pit_tools.instance import read_instance
+    from pit_tools.minelib import write_published
 
-    files = {ending: getattr(args, ending) for ending in ENDINGS if getattr(args, ending)}
-    if bool(args.publish) == bool(files):
-        raise UserError("give published files, or an instance by --publish")
-    told = Told()
-    mine = read_instance(args.publish) if args.publish else \
-        read_published(files, Columns(args.tonnes, args.grade, args.zone), args.order, args.without_general, told)
+    mine = read_instance(args.publish)
     if args.immediate:
         mine = replace(mine, precedence=immediate(mine.precedence))
-    if args.publish:
-        write_published(mine, args.out, args.order)
-    else:
-        write_instance(mine, args.out)
-    for line in told.lines:
-        print(line)
+    if args.ids:
+        identifiers = read_identifiers(args.ids)
+        if mine.blocks is None or len(identifiers.published) != len(mine.blocks):
+            raise UserError(f"{args.ids}: it has {len(identifiers.published)} blocks, and "
+                            f"{args.publish} has others")
+        mine = reordered(mine, identifiers.blocks())
+        if identifiers.first:
+            print(f"identifiers count from 0: each is {identifiers.first} less than the published one")
+    write_published(mine, args.out, args.order or "bdr")
     print(mine.counts())
+    return 0
+
+
+def _rename(args: argparse.Namespace, path: str) -> int:
+    from pit_tools.identifiers import lines_renamed, read_identifiers
+
+    lines = list(lines_renamed(path, read_identifiers(args.ids), bool(args.to_published)))
+    with open(args.out, "w", encoding="ascii") as file:
+        file.writelines(lines)
+    print(f"{len(lines)} lines")
     return 0

@@ -1,0 +1,262 @@
+"""Lines of files as other programs write them: some megabytes at a time, each with its number.
+
+A byte order mark, CR, comments from `%` on and a last line `EOF` are dropped, and a comma is a blank.
+What is no number, or none that can be held, is refused with its line.
+"""
+from __future__ import annotations
+
+import csv
+import io
+import os
+import re
+from dataclasses import dataclass
+from typing import BinaryIO, Iterable, Iterator, Optional, Sequence
+
+import numpy as np
+import pandas as pd
+
+from pit_tools.errors import UserError
+from pit_tools.spelling import EXACT
+
+#: Bytes that are read at a time, and that a line may have.
+_PIECE = 1 << 22
+_LONGEST = 1 << 26
+
+#: Decimals of numbers that are too great for more.
+FEWEST = 2
+
+_COMMENT = re.compile(rb"%[^\n]*")
+_END = re.compile(rb"(?im)^[ \t]*eof[ \t]*$")
+_VANISHES = re.compile(rb"[eE]-0*[1-9][0-9]{2}")
+
+
+class Told:
+    """What was changed or left out, a line of words each."""
+
+    def __init__(self) -> None:
+        self.lines: list[str] = []
+
+    def tell(self, text: str) -> None:
+        """Adds a line."""
+        self.lines.append(text)
+
+    def tell_rows(self, pieces: Iterable["Piece"], row: int, count: int, text: str) -> None:
+        """Adds a line on so many rows, of which `row` is the first one in these pieces."""
+        piece, row = _piece_of(pieces, row)
+        number, _ = piece.line_of(row)
+        more = f" and {count - 1} more" if count > 1 else ""
+        self.tell(f"{os.path.basename(piece.path)}: line {number}{more}: {text}")
+
+
+@dataclass(frozen=True)
+class Piece:
+    """Whole lines of a file with LF behind each; its rows are those that have a field."""
+
+    path: str
+    first: int  #: the number of its first line, counted from 1
+    text: bytes
+
+    def lines(self) -> Iterator[tuple[int, str]]:
+        """The number and the text of each row."""
+        for number, line in enumerate(self.text.split(b"\n"), self.first):
+            if line.strip():
+                yield number, line.strip().decode("utf-8", "replace")
+
+    def line_of(self, row: int) -> tuple[int, str]:
+        """The number and the text of a row."""
+        for at, line in enumerate(self.lines()):
+            if at == row:
+                return line
+        raise IndexError(row)
+
+    def refuse(self, row: int, told: str) -> None:
+        """Raises UserError for a row, with its line."""
+        number, text = self.line_of(row)
+        raise UserError(f"{self.path}: line {number}: {told}: `{text[:60]}`")
+
+    def between(self, start: int, end: int) -> "Piece":
+        """The lines between two places of its text, each behind a line end."""
+        return Piece(self.path, self.first + self.text.count(b"\n", 0, start), self.text[start:end])
+
+
+def _piece_of(pieces: Iterable[Piece], row: int) -> tuple[Piece, int]:
+    """The piece that has a row of all pieces, and which of its rows that is."""
+    for piece in pieces:
+        rows = len(line_lengths(piece.text))
+        if row < rows:
+            return piece, row
+        row -= rows
+    raise IndexError(row)
+
+
+def refuse_row(pieces: Iterable[Piece], row: int, told: str) -> None:
+    """Raises UserError for a row of all these pieces, with its line."""
+    piece, row = _piece_of(pieces, row)
+    piece.refuse(row, told)
+
+
+def _whole_lines(file: BinaryIO, path: str) -> Iterator[bytes]:
+    """The bytes of a file, cut at line ends, without a mark at the front."""
+    rest, number = file.read(3), 1
+    rest = b"" if rest == b"\xef\xbb\xbf" else rest
+    while more := file.read(_PIECE):
+        cut = more.rfind(b"\n") + 1
+        if cut:
+            number += rest.count(b"\n") + more.count(b"\n")
+            yield rest + more[:cut]
+            rest = more[cut:]
+        else:
+            rest += more
+        if len(rest) > _LONGEST:
+            raise UserError(f"{path}: line {number} is longer than {_LONGEST >> 20} MB")
+    if rest:
+        yield rest + b"\n"
+
+
+def pieces_of(path: str) -> Iterator[Piece]:
+    """The lines of a file.
+
+    Raises UserError where it cannot be opened, is no text, or has lines behind `EOF`.
+    """
+    number, has_ended = 1, False
+    try:
+        file = open(path, "rb")
+    except OSError as error:
+        raise UserError(f"cannot open {path}: {error.strerror}") from None
+    with file:
+        for text in _whole_lines(file, path):
+            count = text.count(b"\n")
+            if b"\0" in text:
+                raise UserError(f"{path}: it has bytes of 0: no text of ASCII or UTF-8")
+            piece = Piece(path, number, _plain(text))
+            if end := _END.search(piece.text) if b"f" in text or b"F" in text else None:
+                behind = piece.between(end.end() + 1, len(piece.text))
+                piece, has_ended = piece.between(0, end.start()), True
+            elif has_ended:
+                piece, behind = Piece(path, number, b""), piece
+            if has_ended and behind.text.strip():
+                behind.refuse(0, "it stands behind EOF")
+            number += count
+            if piece.text.strip():
+                yield piece
+
+
+def _plain(text: bytes) -> bytes:
+    if b"\r" in text:
+        text = text.replace(b"\r", b" ")
+    if b"%" in text:
+        text = _COMMENT.sub(b"", text)
+    return text.replace(b",", b" ") if b"," in text else text
+
+
+def line_lengths(text: bytes) -> np.ndarray:
+    """How many fields each line has that has one."""
+    characters = np.frombuffer(text, dtype=np.uint8)
+    is_blank = characters <= 32
+    begins = ~is_blank
+    begins[1:] &= is_blank[:-1]
+    so_far = np.searchsorted(np.flatnonzero(begins), np.flatnonzero(characters == 10))
+    lengths = np.diff(so_far, prepend=0)
+    return lengths[lengths > 0]
+
+
+def numbers_of(piece: Piece, fields: Sequence[int], what: str,
+               length: Optional[int] = None) -> np.ndarray:
+    """The numbers of some fields of each row, float64 (fields, rows); fields count from 0.
+
+    Raises UserError, with the line, where a row has not `length` fields or lacks one of these, and
+    where one is no number, infinite, NaN, or so small that it would become 0.
+    """
+    lengths = line_lengths(piece.text)
+    last = max(fields)
+    is_wrong = lengths <= last if length is None else lengths != length
+    if is_wrong.any():
+        wanted = f"at least {last + 1}" if length is None else str(length)
+        row = int(is_wrong.argmax())
+        piece.refuse(row, f"{lengths[row]} fields, and {what} has {wanted}")
+    if _VANISHES.search(piece.text):
+        _look_at_each(piece, fields, what)
+    try:
+        table = pd.read_csv(io.BytesIO(piece.text), sep=r"\s+", header=None, dtype=float,
+                            names=range(max(last + 1, int(lengths.max()))), index_col=False,
+                            usecols=sorted(set(fields)), na_filter=False, float_precision="high",
+                            quoting=csv.QUOTE_NONE)
+        found = np.stack([table[field].to_numpy() for field in fields])
+    except (ValueError, OverflowError, pd.errors.ParserError):
+        found = np.full((1, 1), np.nan)
+    if not np.isfinite(found).all():
+        _look_at_each(piece, fields, what)
+        raise UserError(f"{piece.path}: {what} in lines from {piece.first} on cannot be read")
+    return found
+
+
+def _look_at_each(piece: Piece, fields: Sequence[int], what: str) -> None:
+    """Refuses the first row with a field that is no number which can be held."""
+    for row, (_, line) in enumerate(piece.lines()):
+        cells = line.split()
+        for field in fields:
+            cell = cells[field]
+            if not re.fullmatch(r"[+-]?(\d+\.?\d*|\.\d+)([eE][+-]?\d+)?", cell, re.ASCII):
+                piece.refuse(row, f"field {field + 1} of {what}, `{cell}`, is no number")
+            if abs(float(cell)) == np.inf:
+                piece.refuse(row, f"field {field + 1} of {what}, `{cell}`, is too great")
+            if float(cell) == 0 and re.search("[1-9]", re.split("[eE]", cell)[0]):
+                piece.refuse(row, f"field {field + 1} of {what}, `{cell}`, is too small")
+
+
+def whole_of(piece: Piece, numbers: np.ndarray, what: str, least: int = 0,
+             most: int = 2**31 - 1) -> np.ndarray:
+    """Numbers of a piece's rows as int32.
+
+    Raises UserError, with the line, where one is not whole or lies outside.
+    """
+    is_wrong = (numbers != np.floor(numbers)) | (numbers < least) | (numbers > most)
+    if is_wrong.any():
+        row = int(is_wrong.argmax())
+        piece.refuse(row, f"{what} is {numbers[row]:.15g}, and no whole number from {least} to {most}")
+    return numbers.astype(np.int32)
+
+
+def _first_row(is_it: np.ndarray) -> int:
+    """The first row in which one of (rows,) or (columns, rows) is it."""
+    return int(np.atleast_2d(is_it).any(axis=0).argmax())
+
+
+class Rounding:
+    """Rounds numbers to decimals, and counts those that had more. A number above some nine billion
+    keeps two, where six could not be told apart."""
+
+    def __init__(self, decimals: int):
+        self.decimals = decimals
+        self.rows = 0
+        self.count = 0
+        self.first = 0
+
+    def of(self, piece: Piece, numbers: np.ndarray, what: str) -> np.ndarray:
+        """The numbers (rows,) or (columns, rows), each as the float nearest to its decimals.
+
+        Raises UserError, with the line, where one is too great for them.
+        """
+        multiples, scales = numbers * 10.0**self.decimals, np.array(10.0**self.decimals)
+        is_great = np.abs(multiples) >= EXACT
+        if is_great.any():
+            scales = np.where(is_great, 10.0**FEWEST, scales)
+            multiples = numbers * scales
+            is_wrong = np.abs(multiples) >= EXACT
+            if is_wrong.any():
+                piece.refuse(_first_row(is_wrong), f"{what} is too great to be held")
+        whole = np.rint(multiples)
+        # A reader may be off by two of the last places, and the product by one.
+        is_off = np.abs(multiples - whole) > 4 * np.spacing(np.abs(multiples))
+        if is_off.any():
+            if not self.count:
+                self.first = self.rows + _first_row(is_off)
+            self.count += int(is_off.sum())
+        self.rows += numbers.shape[-1]
+        return whole / scales
+
+    def tell(self, pieces: Iterable[Piece], what: str, told: Told) -> None:
+        """Tells how many were rounded, where one was."""
+        if self.count:
+            told.tell_rows(pieces, self.first, self.count,
+                           f"{what} rounded to {self.decimals} decimals")
