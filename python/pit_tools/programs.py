@@ -212,8 +212,10 @@ def write_lp(program: Program, file: TextIO) -> None:
     if not program.objective.any():
         file.write(f"  0 {names[0]}\n" if names else "")
     file.write("Subject To\n")
-    for text in _row_texts(program, names):
-        file.write(text)
+    file.writelines(_row_texts(program, names))
+    if not program.rows.shape[0] and names:
+        # Readers, as that of glpsol, want a row in the section.
+        file.write(f" l0: 0 {names[0]} <= 0\n")
     file.write("Bounds\n")
     file.writelines(f" 0 <= {name} <= 1\n" for name, whole in zip(names, program.whole) if not whole)
     if program.whole.any():

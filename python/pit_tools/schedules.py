@@ -7,7 +7,7 @@ from __future__ import annotations
 
 import re
 from dataclasses import dataclass
-from typing import Iterator
+from typing import Iterator, Optional, Sequence
 
 import numpy as np
 import pandas as pd
@@ -36,6 +36,25 @@ class Schedule:
 
     def __len__(self) -> int:
         return len(self.block)
+
+    @classmethod
+    def of(cls, block: Sequence[int], period: Sequence[int], destination: Optional[Sequence[int]] = None,
+           share: Optional[Sequence[float]] = None) -> "Schedule":
+        """The schedule of lines (m,): destination 0 and the whole block, where these are not given."""
+        blocks = np.asarray(block, dtype=np.int64)
+        return cls(blocks, np.asarray(period, dtype=np.int64),
+                   np.zeros(len(blocks), np.int64) if destination is None
+                   else np.asarray(destination, dtype=np.int64),
+                   np.ones(len(blocks)) if share is None else np.asarray(share, dtype=float))
+
+    def sums(self, problem: Problem) -> tuple[np.ndarray, np.ndarray, np.ndarray, np.ndarray]:
+        """The block, the period, the destination and the share of each place that has lines, the
+        share being the sum of theirs."""
+        shape = (len(problem.values), problem.periods, problem.destinations)
+        places, lines = np.unique(np.ravel_multi_index((self.block, self.period, self.destination), shape),
+                                  return_inverse=True)
+        shares = np.bincount(lines, self.share, len(places))
+        return (*np.unravel_index(places, shape), shares)
 
     def mined(self, blocks: int, periods: int) -> np.ndarray:
         """The share of each block that is mined in each period, (blocks, periods)."""
@@ -73,9 +92,9 @@ def read_schedule(path: str, problem: Problem) -> Schedule:
     lines = table.index.to_numpy() + 1
     numbers = table[list(range(fields + 1))].copy()
     numbers.loc[~given, fields] = "1"
-    numbers = numbers.apply(pd.to_numeric, errors="coerce")
+    numbers = numbers.apply(pd.to_numeric, errors="coerce").astype(float)
     what = "block, period, destination and share" if is_pcpsp else "block, period and share"
-    bad = numbers.isna().any(axis=1).to_numpy() | (table[fields + 1] != "").to_numpy()
+    bad = ~np.isfinite(numbers).all(axis=1).to_numpy() | (table[fields + 1] != "").to_numpy()
     _refuse(path, lines, bad, table, f"no {what}")
     columns = [numbers[at].to_numpy(float) for at in range(fields + 1)]
     ends = [len(problem.values), problem.periods, problem.destinations][:fields]
@@ -127,8 +146,13 @@ def check(schedule: Schedule, problem: Problem, precedence: sparse.csr_matrix, r
 
 
 def _shares(schedule: Schedule, problem: Problem, relaxed: bool) -> Iterator[str]:
-    for at in np.flatnonzero(schedule.share < -ROOM):
+    """What is wrong with shares: of each line, of all lines of one place, and of each block. A line
+    below 0 is wrong however small it is, since many of them would make room for others."""
+    for at in np.flatnonzero(~(schedule.share >= 0)):
         yield f"block {schedule.block[at]} has the share {schedule.share[at]:g}"
+    for block, period, destination, share in zip(*schedule.sums(problem)):
+        if share > 1 + ROOM:
+            yield f"block {block} has the share {share:g} in period {period} at destination {destination}"
     mined = schedule.mined(len(problem.values), problem.periods)
     if not relaxed:
         for block, period in zip(*np.nonzero((mined > ROOM) & (mined < 1 - ROOM))):
@@ -157,7 +181,9 @@ def _order(schedule: Schedule, problem: Problem, precedence: sparse.csr_matrix, 
 
 
 def _limits(schedule: Schedule, problem: Problem) -> tuple[list[str], list[str]]:
-    used, uses, broken = schedule.used(problem), [], []
+    used = schedule.used(problem)
+    uses: list[str] = []
+    broken: list[str] = []
     for limit in problem.limits:
         amount = used[limit.resource, limit.period]
         line = f"resource {limit.resource}, period {limit.period}: {amount:.3f} t of {limit_told(limit)}"

@@ -1,6 +1,8 @@
 """Programs and schedules of CPIT and PCPSP against all schedules of small mines, and known answers."""
 import itertools
 import re
+import shutil
+import subprocess
 
 import numpy as np
 import pytest
@@ -106,21 +108,111 @@ def test_programs_and_checks_against_all_schedules(kind, seed):
         assert solve(program_of(problem, arcs, relaxed=True), seconds=60).value >= best - 1e-6
 
 
-@pytest.mark.parametrize("lines, told", [
-    ("0 0 0\n1 1 0\n2 2 0\n3 0 2\n4 0 1\n5 1 2\n", []),
-    ("0 0 0\n1 0 0\n2 2 0\n3 0 2\n4 0 1\n5 1 2\n", ["block 1 is mined in period 0, before block 5", "resource 0, period 0: 5400.000 t of L 2700",
-                                                      "resource 1, period 0: 10700.000 t of I 0 8100"]),
-    ("3 0 2\n3 1 2\n", ["block 3 is mined 2 times"]),
-    ("3 0 2 0.5\n", ["block 3 is split: 0.5 of it in period 0"]),
-    ("3 0 2 0.5\n3 0 0 0.5\n", []),
-    ("4 0 2 1.5\n4 1 2 -0.5\n", ["block 4 has the share -0.5"]),
-    ("2 1 0\n", ["block 2 is mined in period 1, before block 4", "block 2 is mined in period 1, before block 5"]),
-])
+BEST = "0 0 0;1 1 0;2 2 0;3 0 2;4 0 1;5 1 2"
+
+# Lines of schedules of the PCPSP, by `;`, which hold.
+RIGHT = [
+    BEST,
+    "",
+    "3 0 2",
+    "3 0 2 1",
+    "3 0 2 1e0",
+    "5 1 2;4 0 1;3 0 2;2 2 0;1 1 0;0 0 0",
+    "  3\t0  2 \r;;\r;4 0 1 ",
+    "3 0 2 0.5;3 0 0 0.5",
+    "3 0 2 0.5;3 0 2 0.5",
+    "3 0 2 0.25;3 0 1 0.25;3 0 0 0.25;3 0 2 0.25",
+    "3 0 2 0.9999995",
+    "3 0 2 1.0000005",
+    "3 0 2;0 0 0 0",
+    "3 2 2;4 2 2;5 2 2",
+    "3 0 2;4 0 2;5 0 2",
+    "3 0 1;4 0 0;5 0 2;0 1 0;1 2 0",
+]
+
+# Lines which break something, and the first things that they break.
+WRONG = [
+    (BEST.replace("1 1 0", "1 0 0"), ["block 1 is mined in period 0, before block 5",
+                                      "resource 0, period 0: 5400.000 t of L 2700",
+                                      "resource 1, period 0: 10700.000 t of I 0 8100"]),
+    (BEST.replace("2 2 0", "2 2 0 1.9"), ["block 2 has the share 1.9 in period 2 at destination 0",
+                                          "block 2 is mined 1.9 times"]),
+    (BEST.replace("2 2 0", "2 2 0 1.9;2 2 2 -0.9"), ["block 2 has the share -0.9"]),
+    (BEST.replace("2 2 0", "2 2 0 1.0009" + 1000 * ";2 2 2 -0.0000009"),
+     ["block 2 has the share -9e-07"] * 1000 + ["block 2 has the share 1.0009 in period 2 at destination 0"]),
+    (BEST + ";2 2 2 -0.0000009", ["block 2 has the share -9e-07"]),
+    (BEST.replace("2 2 0", "2 2 0 0.999"), ["block 2 is split: 0.999 of it in period 2"]),
+    (BEST.replace("2 2 0", "2 2 0 1.001"), ["block 2 has the share 1.001 in period 2 at destination 0"]),
+    (BEST.replace("2 2 0", "2 1 2 0.5;2 2 2 0.5"), ["block 2 is split: 0.5 of it in period 1"]),
+    (BEST.replace("4 0 1", "4 0 1;4 0 1"), ["block 4 has the share 2 in period 0 at destination 1",
+                                            "block 4 is mined 2 times"]),
+    (BEST.replace("4 0 1", "4 0 1;4 1 1"), ["block 4 is mined 2 times"]),
+    (BEST.replace("4 0 1", "4 0 1;4 0 2"), ["block 4 is mined 2 times"]),
+    (BEST.replace("4 0 1", "4 0 1 0.6;4 0 2 0.6"), ["block 4 is mined 1.2 times"]),
+    ("3 0 2;3 1 2", ["block 3 is mined 2 times"]),
+    ("3 0 2 0.5", ["block 3 is split: 0.5 of it in period 0"]),
+    ("3 0 2 0.5;3 1 2 0.5", ["block 3 is split: 0.5 of it in period 0",
+                             "block 3 is split: 0.5 of it in period 1"]),
+    ("4 0 2 1.5;4 1 2 -0.5", ["block 4 has the share -0.5",
+                              "block 4 has the share 1.5 in period 0 at destination 2"]),
+    ("2 1 0", ["block 2 is mined in period 1, before block 4", "block 2 is mined in period 1, before block 5"]),
+    ("0 0 2;3 0 2", ["block 0 is mined in period 0, before block 4"]),
+    ("0 1 0;3 2 2;4 0 2", ["block 0 is mined in period 1, before block 3"]),
+    ("3 0 0;4 0 0", ["resource 0, period 0: 5300.000 t of L 2700"]),
+    ("3 0 0 0.6;3 0 2 0.4;4 0 0 0.6;4 0 2 0.4", ["resource 0, period 0: 3180.000 t of L 2700"]),
+    ("3 2 0;4 2 0", ["resource 0, period 2: 5300.000 t of L 2700"]),
+    ("3 0 2;4 0 2;5 0 2;0 0 2", ["resource 1, period 0: 10650.000 t of I 0 8100"]),
+]
+
+# Lines that state no schedule, the second of a file, and how they are refused.
+REFUSED = [
+    ("9 0 0", "no block below 6"), ("-1 0 0", "no block below 6"), ("0.5 0 0", "no block below 6"),
+    ("0 3 0", "no period below 3"), ("0 -1 0", "no period below 3"), ("0 0 3", "no destination below 3"),
+    ("0 0 0.5", "no destination below 3"), ("0 0", "no block, period, destination and share"),
+    ("0", "no block, period"), ("0 0 0 x", "no block, period"), ("0 0 0 1 1", "no block, period"),
+    ("0,0,0", "no block, period"), ("0 0 0 nan", "no block, period"), ("0 0 0 inf", "no block, period"),
+    ("0 0 0 -1e400", "no block, period"),
+]
+
+
+def told_of(folder, lines):
+    """What the check of a schedule's lines finds broken."""
+    mine = read_instance(one_block_of_mill(folder))
+    (folder / "schedule").write_text(lines.replace(";", "\n") + "\n", newline="")
+    return check(read_schedule(str(folder / "schedule"), mine.pcpsp), mine.pcpsp, mine.precedence)
+
+
+@pytest.mark.parametrize("lines", RIGHT)
+def test_a_right_schedule_holds(tmp_path, lines):
+    assert told_of(tmp_path, lines).broken == []
+
+
+@pytest.mark.parametrize("lines, told", WRONG)
 def test_what_a_schedule_breaks(tmp_path, lines, told):
+    found = told_of(tmp_path, lines)
+    assert found.broken[:len(told)] == told and not found.holds
+
+
+@pytest.mark.parametrize("line, told", REFUSED)
+def test_a_line_that_is_no_schedule_is_named(tmp_path, line, told):
+    with pytest.raises(UserError, match=f"line 2: {told}"):
+        told_of(tmp_path, f"3 0 2;{line}")
+
+
+def test_lines_below_zero_make_no_room_for_others(tmp_path, capsys):
+    """So many lines just below 0 that, counted one by one, none would be seen."""
+    base = one_block_of_mill(tmp_path)
+    (tmp_path / "schedule").write_text(BEST.replace("2 2 0", "2 2 0 1.09").replace(";", "\n") + 100_000 * "\n2 2 2 -0.0000009")
+    assert main(["check-schedule", base + ".pcpsp", base + ".prec", str(tmp_path / "schedule"), "--most", "1"]) == 1
+    assert "broken: block 2 has the share -9e-07" in capsys.readouterr().out
+
+
+@pytest.mark.parametrize("lines, broken", [("3 0;4 0;0 1", 0), ("3 0;3 1", 1), ("3 0;3 0", 2), ("0 0;3 0", 1), ("3 0 0.5", 1), ("3 0 -1", 2)])
+def test_schedules_of_a_cpit(tmp_path, lines, broken):
     mine = read_instance(one_block_of_mill(tmp_path))
-    (tmp_path / "schedule").write_text(lines)
-    found = check(read_schedule(str(tmp_path / "schedule"), mine.pcpsp), mine.pcpsp, mine.precedence)
-    assert found.broken == told
+    (tmp_path / "schedule").write_text(lines.replace(";", "\n"))
+    found = check(read_schedule(str(tmp_path / "schedule"), mine.cpit), mine.cpit, mine.precedence)
+    assert bool(found.broken) == bool(broken) and len(found.broken) >= broken
 
 
 def test_shares_of_a_cpit_are_heeded(tmp_path):
@@ -129,15 +221,6 @@ def test_shares_of_a_cpit_are_heeded(tmp_path):
     found = check(read_schedule(str(tmp_path / "schedule"), mine.cpit), mine.cpit, mine.precedence)
     assert found.worth == pytest.approx(0.25 * 24645 + 0.75 * 24645 / 1.5) and len(found.broken) == 2
     assert check(read_schedule(str(tmp_path / "schedule"), mine.cpit), mine.cpit, mine.precedence, relaxed=True).holds
-
-
-@pytest.mark.parametrize("line, told", [("9 0 0", "no block below 6"), ("0 3 0", "no period below 3"), ("0 0 3", "no destination below 3"),
-                                        ("0 0", "no block, period, destination and share"), ("0 0 0 x", "no block, period"), ("0 0 0 1 1", "no block, period")])
-def test_a_line_that_is_no_schedule_is_named(tmp_path, line, told):
-    mine = read_instance(one_block_of_mill(tmp_path))
-    (tmp_path / "schedule").write_text(f"3 0 2\n\n{line}\n")
-    with pytest.raises(UserError, match=f"line 3: {told}"):
-        read_schedule(str(tmp_path / "schedule"), mine.pcpsp)
 
 
 CBC = """Optimal - objective value 579877.59259300
@@ -214,6 +297,22 @@ def test_the_text_is_the_program(tmp_path, kind, options):
         part = {names[at]: row[at] for at in np.flatnonzero(row)}
         wanted += [(part, "=", low)] if low == high else [(part, sign, end) for sign, end in ((">=", low), ("<=", high)) if np.isfinite(end)]
     assert [(part, sign, end) for part, sign, end in rows] == wanted
+
+
+@pytest.mark.skipif(not shutil.which("glpsol"), reason="no glpsol")
+@pytest.mark.parametrize("make, kind, value", [
+    (lambda folder: mines.compiled(folder, "\n".join(mines.SIX) + "\n", ["".join(mines.SIX_ROWS.splitlines(True)[:4])]), "upit", 221940 + 309420 + 61560),
+    (one_block_of_mill, "upit", 606965),
+    (one_block_of_mill, "cpit", 322498.3333),
+])
+def test_glpsol_takes_the_text(tmp_path, make, kind, value):
+    """The first is one bench: without arcs the ultimate pit has no rows."""
+    base = make(tmp_path)
+    assert main(["lp", f"{base}.{kind}", base + ".prec", "--out", str(tmp_path / "lp")]) == 0
+    done = subprocess.run(["glpsol", "--lp", str(tmp_path / "lp"), "--output", str(tmp_path / "answer")], capture_output=True, text=True)
+    assert done.returncode == 0 and "OPTIMAL" in done.stdout, done.stdout
+    answer = re.search(r"Objective: +value = (\S+)", (tmp_path / "answer").read_text())
+    assert float(answer[1]) == pytest.approx(value, abs=0.01)
 
 
 def test_the_flow_in_dimacs(tmp_path):

@@ -16,7 +16,8 @@ A line of a schedule is a block and its period, and for a PCPSP its destination,
 block where that is not 1. --solution reads what cbc or `glpsol --output` answered to a program of
 `pit-tools lp`. In a CPIT and a PCPSP a block is mined in one period; --relaxed lets it be split, as
 relaxations do: these are bounds and no schedules. A value of period t counts 1 / (1 + rate)^t. The status
-is 1 where something is broken. What is off by a millionth is not counted.
+is 1 where something is broken. What is off by a millionth is not counted; but a share below 0 is broken,
+however small it is.
 """
 
 WRITES = "schedules"
