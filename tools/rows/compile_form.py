@@ -1,4 +1,6 @@
 """Which files `compile` writes and which it leaves, and what it tells of plans and zone files."""
+import os
+
 from rows.instance import (
     LIMITED, LIMITED_TEXTS, NINE, NINE_TEXTS, NO_BLOCK, ONE_ORE_BLOCK, ORE, OTHER_ORE, PLAN, SAME,
     TWO_ZONES, at, plain_texts, plan_of,
@@ -23,6 +25,12 @@ def zones(count):
     return plan_of(cones=["1,1,1"] * count)
 
 
+# A plan of many periods without a resource.
+HUNDRED = plan_of(rest="periods,100|rate,0.1|")
+
+# One cent, and no more, which less than a nanogram of metal brings.
+CENT = plan_of("leach,heap,3,0,0,1|mill,m,1,3,0|"), zone_file("0,0,0,1.873,177967.609895")
+
 LATE = [f"{n % 30 * 10},{n // 30 * 10},0,1,0" for n in range(898)]
 
 MANY = zones(64), *(zone_file(f"{file * 10},0,0,1,{file}") for file in range(64))
@@ -36,6 +44,8 @@ FILES = {
     "limited": LIMITED[0],
     "nine": NINE[0],
     "same": SAME[0],
+    "hundred": HUNDRED,
+    "cent": CENT[0],
     "longest": PLAN.ljust(MOST, b"\n"),
     "long": PLAN.ljust(MOST + 1, b"\n"),
     "faulty": b"name,a b\n",
@@ -55,6 +65,7 @@ FILES = {
     "void": b"grade,tonnes,z,y,x",
     "waste": zone_file("10,0,0,1,0"),
     "limited_zone": LIMITED[1],
+    "cent_zone": CENT[1],
     "nine_zone": NINE[1],
     "same0": SAME[1],
     "same1": SAME[2],
@@ -78,6 +89,8 @@ WRITTEN = [
     ("nine blocks of many numbers", "nine --valuers 2 --capacity 4 nine_zone", NINE_TEXTS),
     ("no block in two files", "two none --valuers 1 void", NO_BLOCK),
     ("two zones in their order", "two --valuers 2 --capacity 1 waste ore", TWO_ZONES),
+    ("a hundred periods without a resource", "hundred ore", plain_texts(HUNDRED, ORE)),
+    ("a cent of metal", "cent cent_zone", plain_texts(*CENT)),
     # each of these is the second file, and the first one has none of its features
     *(
         (f"a file that is {second}, as the second", f"{plan} waste {second}", TWO_ZONES)
@@ -200,6 +213,11 @@ def files_that_are_written():
     yield replaces._replace(files={**replaces.files, "base.blocks": ORE})
     name, base = "a base with a blank and a point", "an instance.v2"
     yield writes(name, "one ore", ONE_ORE_BLOCK, base)
+    for name, base in [("zone file", "ore"), ("plan", "one"), ("folder", "place"), ("path", "place/"),
+                       ("path behind a folder", "place/../base"), ("path in a folder", "place/one")]:
+        run = writes(f"a base that is a {name}", "one ore", ONE_ORE_BLOCK, base)
+        left = {os.path.normpath(name) if ".." in name else name: text for name, text in run.left.items()}
+        yield run._replace(files={**run.files, "place": Folder()}, left=left)
     for front in (FAR, "./" * 199 + "/", FARTHER):
         far = compile_words("one ore", front + "base")
         far["words"][-2:] = [front + "one", front + "ore"]

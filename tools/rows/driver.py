@@ -13,6 +13,10 @@ SECONDS = 120
 # How many bytes the name of a row may have.
 LONGEST_NAME = 200
 
+# Files that no row names, beside its files and above its folder: no run reads them in the place of
+# one that is not there, and they stay as they are.
+AROUND = {"backup": b"a file beside\n", "../above": b"a file above\n"}
+
 
 class Answer(NamedTuple):
     """How a run ended, what it printed, and the files that it left."""
@@ -44,9 +48,19 @@ def found(path):
     if os.path.islink(path):
         return Link(os.readlink(path))
     if os.path.isdir(path):
-        return os.listdir(path) or Folder()
+        return Folder()
     with open(path, "rb") as file:
         return file.read()
+
+
+def all_found(folder, front=""):
+    """What stands in a folder and in those within, by names that begin so."""
+    for name in os.listdir(folder):
+        path = os.path.join(folder, name)
+        content = found(path)
+        yield front + name, content
+        if isinstance(content, Folder):
+            yield from all_found(path, f"{front}{name}/")
 
 
 def run(program, words, trial, folder, **how):
@@ -63,13 +77,16 @@ def run(program, words, trial, folder, **how):
 
 def answer(program, trial, **how):
     """What a row's run answers and leaves, behind the runs before it."""
-    with tempfile.TemporaryDirectory() as folder:
+    with tempfile.TemporaryDirectory() as top:
+        folder = os.path.join(top, "row")
+        os.mkdir(folder)
         put_all(folder, trial.files)
         for words in [*trial.before, trial.words]:
             ran = run(program, words, trial, folder, **how)
             if ran.returncode != 0:
                 break
-        files = {name: found(os.path.join(folder, name)) for name in os.listdir(folder)}
+        files = {os.path.relpath(name, "row"): content for name, content in all_found(top)}
+    del files["."]
     return Answer(ran.returncode, ran.stdout, ran.stderr, files)
 
 
@@ -83,6 +100,7 @@ def in_time(differ: Callable[[], Iterable[str]]) -> List[str]:
 
 def differences(program, trial, **how):
     """What a row's run answered or left that it should not have."""
+    trial = trial._replace(files={**AROUND, **trial.files})
     return in_time(lambda: trial.differences(*answer(program, trial, **how)))
 
 

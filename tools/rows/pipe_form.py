@@ -63,6 +63,11 @@ PARTS = [
         "== blocks|0 0 0 0 2 0 0|1 1 0 0 1 0 0|== prec|",
     ),
     (
+        "marks in the plan and in each piece",
+        piped(MARK + THREE, *(MARK + zone_file(f"{at}0,0,0,1,0") for at in (2, 1, 0))),
+        "== blocks|0 0 0 0 1 0 2|1 1 0 0 1 0 1|2 2 0 0 1 0 0|== prec|",
+    ),
+    (
         "a column zone: the number of the file is the zone",
         piped(THREE_KS, *ZONE_COLUMNS),
         "== blocks|0 0 0 0 1 0 0|1 1 0 0 1 0 1|2 1 0 1 1 0 1|3 0 0 2 1 0 2|4 1 0 2 1 0 2|"

@@ -1,6 +1,7 @@
 """MineLib texts by `pitc check`: the counts of those that are taken, and the first faulty line of
 the others."""
 import itertools
+import random
 import re
 from typing import NamedTuple, Optional, Sequence, Union
 
@@ -170,9 +171,10 @@ FAULTS_OF_A_PCPSP = [
     ("COEFFICIENTS+1", "Range", "2 0 0 ?", "0 0 -1 1000"),
     ("LIMITS+1", "Fields", "0", "0 0", "0 0 L", "0 0 L 1 2", "0 0 IN 1 2", "0 0 I", "0 0 I 1 2 3"),
     ("LIMITS+1", "Fields", "0 9 ? 1 2", "9 9 ? 1 2", "9 9 I 1", "?"),
-    ("LIMITS+1", "Name", "0 0 E 1", "0 0 IN 1", "0 0 L% 1", '0 0 "L" 1', "0 0 l 1"),
+    ("LIMITS+1", "Name", "0 0 E 1", "0 0 IN 1", "0 0 L% 1", '0 0 "L" 1', "0 0 l 1", "0 0 < 1"),
     ("LIMITS+1", "Key", "0 0 L: 1", "0:0 L 1"),
-    ("LIMITS+1", "Number", "0 0 L 1%", "0 0 L %", "0 0 I 2 x", "0 0 I x 1", "0 0 L 1\r "),
+    ("LIMITS+1", "Number", "0 0 L 1%", "0 0 L %", "0 0 I 2 x", "0 0 I x 1", "0 0 L 1\r ",
+     "0 0 G -inf"),
     ("LIMITS+1", "Range", "0 2 I 2 1", "1 0 I 2 1", "2 9 ? 1"),
     ("LIMITS+1", "Order", "0 0 I 2.000001 2", "0 0 I -1 -2", "0 0 I 0.000001 0",
      "0 0 I 0 -0.000001"),
@@ -199,6 +201,16 @@ FAULTS_OF_A_PCPSP = [
     ("OBJECTIVE+2", "Order", "0 12000 -2000", "00 12000 -2000", "-0 1 1"),
     ("LIMITS+3", "Key", before("LIMITS+3", "EOF:"), before("LIMITS+3", "OBJECTIVE_FUNCTION:")),
     ("LIMITS+3", "Fields", before("LIMITS+3", "EOF"), before("LIMITS+3", "0 1 I")),
+    # the last line of a section
+    ("OBJECTIVE+2", "TooFine", "1 0 0.0000001"),
+    ("LIMITS", "Fields", before("LIMITS", "1 0 0")),
+    ("LIMITS", "Number", before("LIMITS", "1 0 0 ?")),
+    ("LIMITS", "TooFine", before("LIMITS", "1 0.5 0 1")),
+    ("LIMITS", "Range", before("LIMITS", "1 2 0 1")),
+    ("LIMITS+2", "Number", "0 1 L x"),
+    ("LIMITS+2", "TooFine", "0 1 L 0.0000001"),
+    ("LIMITS+2", "Range", "0 2 G 1"),
+    ("LIMITS+2", "Name", "0 1 < 1"),
 ]
 
 FAULTS_OF_ONE_ORE_BLOCK = [
@@ -280,13 +292,22 @@ FAULTS_OF_A_CPIT = [
     ("COEFFICIENTS+1", "Range", "2 0 1000"),
     ("LIMITS", "Order", before("COEFFICIENTS+1", "0 0 7")),
     ("LIMITS+1", "Fields", "0 0 G", "0 0", "0", "0 0 IN 1 2", "0 0 I 1"),
-    ("LIMITS+1", "Name", "0 0 E 1", "0 0 IN 1"),
+    ("LIMITS+1", "Name", "0 0 E 1", "0 0 IN 1", "0 0 < 1"),
+    ("LIMITS+1", "Number", "0 0 G -inf", "0 0 L %"),
     ("LIMITS+1", "Range", "1 0 L 1", "0 2 I 2 1"),
     ("LIMITS+1", "Order", "0 0 I 2.000001 2", "0 0 I 0 -0.000001"),
     ("LIMITS+2", "Order", "0 0 G 1", "0 1 I 2 1"),
     ("LIMITS+3", "Order", before("LIMITS+3", "0 1 I 0 900"), before("LIMITS+3", "0 0 L 1")),
     ("LIMITS+3", "Fields", before("LIMITS+3", "EOF")),
     ("LIMITS+3", "Key", before("LIMITS+3", "EOF:")),
+    ("NBLOCKS", "Count", "NBLOCKS: 3"),
+    ("NPERIODS", "Range", "NPERIODS: 101"),
+    ("RATE", "TooFine", "DISCOUNT_RATE: 0.0000001"),
+    ("RATE", "Twice", "NAME: one"),
+    ("OBJECTIVE+2", "TooFine", "1 0.0000001"),
+    ("COEFFICIENTS+1", "Number", "0 ? 1000"),
+    ("LIMITS+2", "TooFine", "0 1 L 0.0000001"),
+    ("LIMITS+2", "Name", "0 1 < 1"),
 ]
 
 # A CPIT that ends within its objective, or that is hostile.
@@ -433,8 +454,11 @@ TEXTS_OF_NO_BLOCK = [
     (b"% none\n\n0 0 % none\n", NO_PCPSP, "prec line 3: Range"),
 ]
 
-# Lines that are skipped, and others, which have one field or none of their own, and no colon.
-SKIPPED = ["", " ", "\t \t", "\r", " \t\r", "%", "% a: b", "  % x", "\t%x\r", "%%"]
+# Lines that are skipped, and others, which have one field or none of their own, and no colon. The
+# byte FF stands as U+DCFF.
+SKIPPED = [
+    "", " ", "\t \t", "\r", " \t\r", "%", "% a: b", "  % x", "\t%x\r", "%%", "% \udcff", "% \0", "% x\rx",
+]
 NOT_SKIPPED = ["\r\r", "\v", "\f", "#", "//%", "\0", "\r%", ";"]
 
 # By hand: remarks, blank lines, runs of blanks, line ends of two bytes, header keys in another
@@ -698,6 +722,10 @@ def headers(of):
         yield of.answered(name, turned, first, "Key")
         changed = put(first, turned[first - 1] + " 1").of(turned)
         yield of.answered(f"{name} and a field", changed, first, "Key")
+    for seed in range(8):
+        keys = random.Random(seed).sample(of.good[: of.head], of.head)
+        name = f"keys_in_mixed_order: {', '.join(key.partition(':')[0] for key in keys)}"
+        yield of.answered(name, [*keys, *of.good[of.head :]])
     ends = [("", 1), ("% x\n\n \n", 4), ("% x\n ", 3), ("\r", 2)]
     for count, (rest, more) in itertools.product(range(len(of.good)), ends):
         text = whole(of.good[:count]) + rest.encode()
@@ -780,7 +808,7 @@ def words_of_headers(of):
 
 
 def bytes_of_lines():
-    """Each byte between two fields, in front of a line and at its end."""
+    """Each byte between two fields, in front of a line, at its end and in a remark."""
     def answers(name, line, place, kind):
         texts = b"0 0 0 0 1000 5000 0\n" + line + b"\n", PREC, whole(PCPSP)
         return answered(name, texts, place, kind, TWO_BLOCKS)
@@ -799,6 +827,8 @@ def bytes_of_lines():
             yield answers(f"bytes_before_fields: {byte}", line, place, kind)
         kind = None if byte in BLANKS + b"\n\r.0123456789" else "Number"
         yield answers(f"bytes_behind_fields: {byte}", b"1 1 0 0 0 7 0" + byte, place, kind)
+        line, kind = b"% " + byte + b"x\n1 1 0 0 0 7 0", "Fields" if byte == b"\n" else None
+        yield answers(f"bytes_of_a_remark: {byte}", line, "blocks line 3", kind)
 
 
 def lines_between():
@@ -810,7 +840,7 @@ def lines_between():
             changed = [*texts[:number], changed, *texts[number + 1 :]]
             return answered(name, changed, f"{file} line {line}", kind, TWO_BLOCKS + " cpit 1")
         for line in SKIPPED + NOT_SKIPPED:
-            changed = text.replace(b"\n", f"\n{line}\n".encode(), 1)
+            changed = text.replace(b"\n", f"\n{line}\n".encode(errors="surrogateescape"), 1)
             kind = None if line in SKIPPED else "Fields" if is_line else "Key"
             yield answers(f"lines_between: {file}: {line!r}", changed, 2, kind)
         tabbed = text.replace(b" ", b" \t ").replace(b"\n", b"\t \n  ")
@@ -957,6 +987,13 @@ def lines_of_nothing():
             text = whole(before(line, other).of(lines_of(good)))
             texts = (b"", b"", text) if file == "pcpsp" else (b"", b"", NO_PCPSP, text)
             yield answered(f"lines_of_nothing: {file} {line}: {other}", texts, place, kind)
+    # no block, but a resource
+    for file, good, *items in [("pcpsp", NO_PCPSP, "5 0 0 1", "0 0 0 1"), ("cpit", NO_CPIT, "5 0 1", "0 0 1")]:
+        good = put("NRESOURCE_SIDE_CONSTRAINTS", "NRESOURCE_SIDE_CONSTRAINTS: 1").of(lines_of(good))
+        for item in items:
+            texts = [b"", b"", NO_PCPSP, b""][:2 if file == "pcpsp" else 3] + [whole(before("COEFFICIENTS+1", item).of(good))]
+            line = f"{file} line {number_of(good, 'COEFFICIENTS+1')}: Range"
+            yield faulty(f"lines_of_nothing: {file} of a resource: {item}", texts, line)
     # beside a PCPSP of two periods and two resources
     two = whole(put("NRESOURCE_SIDE_CONSTRAINTS", "NRESOURCE_SIDE_CONSTRAINTS: 2").of(PCPSP))
     no_resource = put("NRESOURCE_SIDE_CONSTRAINTS", "NRESOURCE_SIDE_CONSTRAINTS: 0").of(CPIT)

@@ -70,7 +70,7 @@ class Pieces(NamedTuple):
 
 
 class Folder(NamedTuple):
-    """An empty folder in the place of a file."""
+    """A folder in the place of a file. What stands in it is named with its own name in front."""
 
 
 class Link(NamedTuple):

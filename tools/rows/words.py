@@ -116,6 +116,8 @@ REFUSED = [
         ]
     ),
     "compile --plan one.plan --out base ore.csv --valuers 257",
+    "compile --plan one.plan --out base ore.csv --valuers 5 --valuers 5",
+    "compile --valuers 5 --plan one.plan --valuers=5 --out base ore.csv",
     "compile --plan one.plan --out base ore.csv --valuers 4 --valuers 4",
     "compile --plan one.plan --out base --out base ore.csv",
     "check base --valuers 4",
@@ -190,6 +192,15 @@ REFUSED_WHOLE = [
 NOT_UTF8 = [b"\xFF", b"check \xFF", b"compile --plan one.plan --out base \xFF"]
 
 
+# A run of all options, whose words are left out and said twice one by one, and what is told: of a
+# number that is no longer an option's, as of a file that is not there.
+ALL = "compile --plan one.plan --out base --valuers 2 --capacity 3 ore.csv".split()
+LEFT_OUT = {"--valuers": "file 0: FeedFailed", "--capacity": "file 0: FeedFailed"}
+TWICE = {
+    "one.plan": "settings: Files", "base": "settings: Files", "ore.csv": "settings: Files",
+    "2": "file 0: FeedFailed", "3": "file 0: FeedFailed",
+}
+
 # The files that runs of other bases begin with.
 FEW = {"one.plan": PLAN, "ore.csv": ORE}
 
@@ -207,8 +218,27 @@ def of_bases():
         yield refused(f"words that are taken: {words}", line, words=words, files=FEW)
 
 
+def one_by_one():
+    """Each word of a run but the first left out, and said twice: the run, and the line that is told
+    or None where the text is that of refused words."""
+    for at, word in enumerate(ALL[1:], 1):
+        yield f"without {word}", ALL[:at] + ALL[at + 1 :], LEFT_OUT.get(word)
+        yield f"twice {word}", [*ALL[: at + 1], *ALL[at:]], TWICE.get(word)
+
+
+def of_each_word(front=0, files={**FEW, "base": b"older\n"}):
+    """The same as rows, without so many words at the front."""
+    for name, words, line in one_by_one():
+        given = {"words": words[front:], "files": files}
+        if line:
+            yield refused(f"one_by_one: {name}", line, **given)
+        else:
+            yield Trial(f"one_by_one: {name}", 2, errors=Front(b"error: "), **given)
+
+
 def trials():
     yield from of_bases()
+    yield from of_each_word()
     for words in TAKEN:
         left = at("base", ONE_ORE_BLOCK)
         yield Trial(words, words=words.split(), files=FILES, out=b"rows 1\n", left=left)

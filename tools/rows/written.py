@@ -72,6 +72,21 @@ SHOWN = [
         b"0,0,0,1000,2.5\n1,0,0,1000,2.499999\n2,0,0,1000,0.999999\n",
         "OBJECTIVE_FUNCTION:|0 111500|1 73999.97|2 -1000|== pcpsp|",
     ),
+    (
+        "limits_at_their_ends",
+        small(
+            "dump,d,1|",
+            "periods,5|rate,0|resource,r,d|limit,r,0,L,1000000000000|limit,r,1,I,0,1000000000000|"
+            "limit,r,2,L,0|limit,r,3,I,0,0|limit,r,4,I,1000000000000,1000000000000|",
+        ),
+        ONE_BLOCK,
+        "LIMITS:|0 0 L 1000000000000|0 1 I 0 1000000000000|0 2 L 0|0 3 I 0 0|"
+        "0 4 I 1000000000000 1000000000000|== cpit|",
+    ),
+    # 333.333333333335 g of metal are recovered, at three cents a kilogram: a thousandth of a
+    # nanogram decides, by hand
+    ("metal_below_a_nanogram", small("mill,m,1,3,0|"), b"0,0,0,1.873,177967.609895\n",
+     "OBJECTIVE_FUNCTION:|0 0.01|== pcpsp|"),
     # numbers and not their texts have an order: period 10 comes behind 2, and resources stand as in
     # the plan; one without a limit is counted
     (

@@ -248,6 +248,9 @@ RECORDS_OF_TEXTS = [
     (MARK + b" x,y,z,tonnes,grade\n" + b"0,0,0,1,2\n", ONE),
     (HEADER + MARK + b"0,0,0,1,2\n", "row 2 column x: Number"),
     (b"x,y,z,tonnes,grade,rock\n0,0,0,1,2,\xFF\x00\n10,0,0,3,4," + MARK + b"\n", TWO),
+    (b"x,y,z,tonnes,grade,\xFF\xE9\n0,0,0,1,2,\n", ONE),
+    (b"\xE9rock,\xC3,x,y,\xFF,z,tonnes,grade\n,,0,0,,0,1,2\n", ONE),
+    (b"\xFFx,y,z,tonnes,grade\n", NO_X),
     # no comments, and no escapes
     (b"#,x,y,z,tonnes,grade\n#a,0,0,0,1,2\n", ONE),
     (b'rock,x,y,z,tonnes,grade\n\\"b,0,0,0,1,2\n\\n,10,0,0,3,4\n', TWO),

@@ -1,0 +1,257 @@
+"""Two faults in one run: in two records of a plan, in two rows, in two files and in two texts.
+
+Each kind of fault stands before each other kind. The order alone decides what is told: that of the
+first faulty record, line, file or text. Each name ends with it.
+"""
+import itertools
+
+from rows.cells import Cell, with_cell
+from rows.instance import MILL, at, plan_of
+from rows.plans import (
+    EIGHT_DUMPS, EIGHT_RESOURCES, FIVE_HUNDRED_BANDS, SIXTEEN_BANDS, SIXTY_FOUR_ZONES,
+)
+from rows.texts import (
+    BLOCKS, CPIT, FAULTS_OF_A_CPIT, FAULTS_OF_A_PCPSP, FAULTS_OF_BLOCKS, FAULTS_OF_PRECEDENCES,
+    PCPSP, PREC, TEN_BLOCKS, number_of, put, whole,
+)
+from rows.trial import HEADER, Folder, Link, lines, piped, refused, short, zone_file
+from shared import CHECKED, ENDINGS, compile_words
+
+# What stands before the faulty records of a plan, and records that are faulty behind it.
+FRONT = "name,one|periods,2|dump,d,1|resource,r,d|limit,r,0,L,2|"
+RECORDS = [
+    ("Key", "pit,1"), ("Key", ",name,one"),
+    ("Width", "periods"), ("Width", "grid,0,0,0,10,10"), ("Width", "limit,r,1,I,1"),
+    ("Number", "rate,x"), ("Number", "zone,1,x,1"),
+    ("TooFine", "rate,0.0000001"), ("TooFine", "leach,h,1,1,0,1.5"),
+    ("Range", "dump,q,99999999"), ("Range", "zone,1,1,21"), ("Range", "limit,r,2,L,1"),
+    ("Name", "resource,s,heap"), ("Name", "mill,?,1,1,1"), ("Name", "limit,r,1,X,1"),
+    ("Twice", "name,two"), ("Twice", "dump,d,2"), ("Twice", "limit,r,0,G,1"),
+    ("Order", "leach,h,1,1,2,300,1,400"), ("Order", "limit,r,1,I,2,1"),
+    ("TooMany", SIXTEEN_BANDS + ",16,0"), ("TooMany", FIVE_HUNDRED_BANDS),
+]
+
+# Plans with as many records of a key as there may be, the one that is too many, and records that
+# are faulty behind each of them.
+FULL = [
+    (SIXTY_FOUR_ZONES, "zone,1,1,1"), (EIGHT_DUMPS, "dump,i,1"), (EIGHT_RESOURCES, "resource,i,d"),
+]
+OF_FULL = [
+    ("Key", "pit,1"), ("Width", "periods"), ("Number", "rate,x"), ("TooFine", "rate,0.0000001"),
+    ("Range", "periods,101"), ("Name", "name,?"),
+]
+
+# Faulty rows of a zone file.
+GOOD_ROW = [Cell("0"), Cell("0"), Cell("0"), Cell("1"), Cell("0")]
+CELLS = [("Number", "?"), ("TooFine", "0.0000001"), ("Range", "-10"), ("OffGrid", "5")]
+ROWS = [("whole: Width", "0,0,0,1"), ("whole: Width", "0,0,0,1,0,0")] + [
+    (f"{column}: {kind}", ",".join(with_cell(GOOD_ROW, place, cell)))
+    for (kind, cell), (place, column) in itertools.product(
+        CELLS, enumerate(["x", "y", "z", "tonnes", "grade"]))
+    if kind != "OffGrid" or place < 3
+]
+
+# Zone files with a fault: of the header, and of the third row, behind a block that is the same in all.
+FILES = [
+    ("row 1 column x: MissingColumn", b""),
+    ("row 1 column tonnes: MissingColumn", b"x,y,z,grade\n?,0,0,1\n"),
+    ("row 1 column y: TwiceColumn", b"x,y,Y,z,tonnes,grade\n0\n"),
+    *(("row 3 column " + fault, zone_file("0,0,0,1,0", row)) for fault, row in ROWS[1::2]),
+]
+
+# One fault of each kind of a zone file.
+KINDS_OF_FILES = list({answer.rsplit(" ")[-1]: (answer, text) for answer, text in FILES}.values())
+
+# Lines of a block file and of a precedence file of ten blocks, which have this identifier.
+BLOCK_LINES = [
+    ("Fields", "{} 0 0 0 1 0"), ("Number", "{} x 0 0 1 0 0"), ("Number", "{} 0 0 0 1 0 ?"),
+    ("TooFine", "{} 0 0 0 1.0001 0 0"), ("TooFine", "0.5 0 0 0 1 0 0"), ("Range", "{} 0 0 0 1 0 64"),
+    ("Range", "64000000 0 0 0 1 0 0"), ("Order", "7 0 0 0 1 0 0"),
+]
+PREC_LINES = [
+    ("Fields", "{}"), ("Number", "{} x"), ("Number", "{} 1 x"), ("TooFine", "{} 1 0.5"),
+    ("Range", "{} 1 10"), ("Range", "10 0"), ("Order", "7 0"), ("Count", "{} 2 9"), ("Count", "{} 0 9"),
+    ("Twice", "{0} 1 {0}"), ("Twice", "{} 2 9 9"),
+]
+
+
+def compiled(name, line, plan, zones, **more):
+    """A run of `compile` on these files that is refused."""
+    files = {"plan": plan, **{f"zone{number}": text for number, text in enumerate(zones)}}
+    words = compile_words("plan", "b", list(files)[1:])
+    return refused(f"{short(name)}: {line}", line, words=words, files={**files, **more})
+
+
+def in_two_records():
+    """Of plans, the first record of two; also behind as many of a key as there may be, and before
+    more records than there may be."""
+    def told(front, kind, first, second, name=""):
+        line = f"plan row {front.count('|') + 1}: {kind}"
+        name = short(f"two records: {first} before {name or second}")
+        return refused(f"{name}: {line}", line, given=lines(f"{front}{first}|{second}"))
+
+    for (kind, first), (_, second) in itertools.permutations(RECORDS, 2):
+        yield told(FRONT, kind, first, second)
+    for front, too_many in FULL:
+        front = "name,one|" + front
+        for kind, other in OF_FULL[:-1]:
+            yield told(front, kind, other, too_many)
+        for _, other in OF_FULL:
+            yield told(front, "TooMany", too_many, other)
+    for kind, record in RECORDS:
+        yield told(FRONT, kind, record, ",|" * 10_000, "10,000 records")
+
+
+def in_two_rows():
+    """Of a zone file, the first row of two; also behind rows that repeat a block."""
+    plan = plan_of()
+    for (fault, first), (_, second) in itertools.permutations(ROWS, 2):
+        line, text = f"file 0 row 3 column {fault}", zone_file("0,0,0,1,0", first, second)
+        yield refused(f"two rows: {first} before {second}: {line}", line, given=piped(plan, text))
+    for fault, row in ROWS:
+        line, text = f"file 0 row 4 column {fault}", zone_file("0,0,0,1,0", "0,0,0,1,0", row)
+        yield refused(f"two rows: repeated before {row}: {line}", line, given=piped(plan, text))
+
+
+def in_two_files(files):
+    """Of zone files, the first of two and of three, whatever is wrong with the others; the same
+    block stands in each of them."""
+    good, two, three = zone_file("0,0,0,1,0"), plan_of(cones=["1,1,1"] * 2), plan_of(cones=["1,1,1"] * 3)
+    for (first, text), (second, other) in itertools.product(files, repeat=2):
+        name = f"two files: {first} before {second}"
+        yield compiled(name, f"file 0 {first}", two, [text, other])
+    for answer, text in files:
+        name = f"two files: a repetition before {answer}"
+        yield compiled(name, f"file 2 {answer}", three, [good, good, text])
+        for what, put_there in [("a folder", Folder()), ("none", Link("nothing"))]:
+            is_first = what == "a folder"
+            line = f"file 0 {answer}" if is_first else "file 1: FeedFailed"
+            yield compiled(f"two files: {answer} before {what}", line, two, [text, put_there])
+        line = "file 0: FeedFailed"
+        yield compiled(f"two files: a folder before {answer}", line, two, [Folder(), text])
+
+
+def in_two_texts():
+    """The plan before its zone files, these before their number is looked at, and all before what is
+    written."""
+    full = {f"b.{ending}": Link("/dev/full") for ending in ENDINGS}
+    plan, repeated = plan_of(), zone_file("0,0,0,1,0", "0,0,0,1,0")
+    for kind, record in {kind: (kind, record) for kind, record in RECORDS}.values():
+        faulty, line = lines(FRONT + record), f"plan row 6: {kind}"
+        for answer, text in KINDS_OF_FILES:
+            name = f"two texts: {record} before {answer}"
+            yield compiled(name, line, faulty, [text], **full)
+        for what, put_there in [("a folder", Folder()), ("none", Link("nothing"))]:
+            yield compiled(f"two texts: {record} before {what}", line, faulty, [put_there])
+        yield compiled(f"two texts: {record} before a number of files", line, faulty, [repeated] * 3)
+    for answer, text in KINDS_OF_FILES:
+        yield compiled(f"two texts: a number of files before {answer}", "settings: Files", plan, [text] * 2)
+        yield compiled(f"two texts: {answer} before a full output", f"file 0 {answer}", plan, [text], **full)
+    name, line = "two texts: a repetition before a full output", "file 0 row 3 repeats file 0 row 2"
+    yield compiled(name, line, plan, [repeated], **full)
+
+
+def checked(name, line, texts):
+    """A check of these texts that is refused."""
+    files = at("b", dict(zip(CHECKED, texts)))
+    return refused(f"{short(name)}: {line}", line, words=["check", "b"], files=files)
+
+
+def in_two_lines():
+    """Of a block file and of a precedence file, the first line of two."""
+    blocks, rest = TEN_BLOCKS.decode().splitlines(), [whole(PCPSP), whole(CPIT)]
+    for (kind, first), (_, second) in itertools.permutations(BLOCK_LINES, 2):
+        text = whole([*blocks[:3], first.format(3), second.format(4), *blocks[5:]])
+        line = f"blocks line 4: {kind}"
+        yield checked(f"two lines: {first} before {second}", line, [text, PREC, *rest])
+    for (kind, first), (_, second) in itertools.permutations(PREC_LINES, 2):
+        text = whole(["0 0", "1 0", first.format(2), second.format(3)])
+        line = f"prec line 3: {kind}"
+        yield checked(f"two lines: {first} before {second}", line, [TEN_BLOCKS, text, *rest])
+
+
+def last_of(good, number, change):
+    """The number, before a change, of the last line that is changed or told."""
+    start = number_of(good, change.line)
+    is_behind = number >= start + len(change.others)
+    told = number + change.count - len(change.others) if is_behind else number
+    return max(told, start + change.count - 1)
+
+
+def one_of_each(good, table):
+    """Of the faults of a model file one of each kind at each line: the line, the kind and the change."""
+    found = {}
+    for line, kind, change, *_ in table:
+        change = put(line, change) if isinstance(change, str) else change
+        found.setdefault((number_of(good, line), kind), change)
+    return [(number, kind, change) for (number, kind), change in found.items()]
+
+
+def pairs_of_lines(good, table):
+    """Each two faults of a model file of unlike kinds, one pair of them for the two sections where
+    they stand."""
+    faults, found = one_of_each(good, table), {}
+    section = [sum(line[-1] == ":" for line in good[:at]) for at in range(len(good) + 2)]
+    for (number, kind, first), (place, other, second) in itertools.product(faults, repeat=2):
+        if kind != other and first.count is not None:
+            if number_of(good, second.line) > last_of(good, number, first):
+                sections = section[number], section[place]
+                found.setdefault((kind, other, sections), (number, kind, first, second))
+    return found.values()
+
+
+def in_two_lines_of_a_model():
+    """Of a model file, the first line of two."""
+    for file, good, table, texts in [
+        ("pcpsp", PCPSP, FAULTS_OF_A_PCPSP, [BLOCKS, PREC]),
+        ("cpit", CPIT, FAULTS_OF_A_CPIT, [BLOCKS, PREC, whole(PCPSP)]),
+    ]:
+        for number, kind, first, second in pairs_of_lines(good, table):
+            text, line = whole(first.of(second.of(good))), f"{file} line {number}: {kind}"
+            name = f"two lines: {first} before {second}"
+            yield checked(name, line, [*texts, text, whole(CPIT)][:4])
+
+
+def of_each_kind(file, table):
+    """One text of each kind of fault, with its line."""
+    found = {}
+    for line, text, *_ in table:
+        if line.startswith(file):
+            found.setdefault(line.rsplit(" ", 1)[-1], (line, text))
+    return list(found.values())
+
+
+def of_model(file, good, table):
+    """The same of a model file."""
+    faults = one_of_each(good, table)
+    return of_each_kind(file, [
+        (f"{file} line {number}: {kind}", whole(change.of(good))) for number, kind, change in faults])
+
+
+def in_two_files_of_an_instance():
+    """Of the texts of an instance, the first of two."""
+    good = [BLOCKS, PREC, whole(PCPSP), whole(CPIT)]
+    faulty = [
+        of_each_kind("blocks", FAULTS_OF_BLOCKS), of_each_kind("prec", FAULTS_OF_PRECEDENCES),
+        of_model("pcpsp", PCPSP, FAULTS_OF_A_PCPSP), of_model("cpit", CPIT, FAULTS_OF_A_CPIT),
+    ]
+    for first, second in itertools.combinations(range(4), 2):
+        for (line, text), (other, behind) in itertools.product(faulty[first], faulty[second]):
+            texts = list(good)
+            texts[first], texts[second] = text, behind
+            yield checked(f"two texts: {line} before {other}", line, texts)
+
+
+def of_compile():
+    """Those of plans and zone files, by `compile`."""
+    yield from in_two_files(FILES)
+    yield from in_two_texts()
+
+
+def trials():
+    yield from in_two_records()
+    yield from in_two_rows()
+    yield from of_compile()
+    yield from in_two_lines()
+    yield from in_two_lines_of_a_model()
+    yield from in_two_files_of_an_instance()
