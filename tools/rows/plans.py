@@ -509,6 +509,14 @@ def of_the_mill(name, front, table):
             yield told(f"{name}: {record}", plan, f"row 7: {kind}" if kind else TAKEN)
 
 
+def table():
+    """The plans whose last record is faulty, and what is told of them."""
+    for front, kind, *records in FAULTS:
+        for plan in (front + record for record in records):
+            row = plan.rstrip("|").count("|") + 1 + (kind == "Missing")
+            yield plan, f"row {row}: {kind}"
+
+
 def trials():
     for before, key, cells in CELLS:
         yield from faults_of_cells(before, key, cells)
@@ -518,10 +526,8 @@ def trials():
     for key in NO_KEYS:
         yield told(f"no_keys: {key}", f"{key},one\n".encode(), "row 1: Key")
     yield from names()
-    for front, kind, *records in FAULTS:
-        for plan in (front + record for record in records):
-            row = plan.rstrip("|").count("|") + 1 + (kind == "Missing")
-            yield told(f"plan_table: {plan}", lines(plan), f"row {row}: {kind}")
+    for plan, answer in table():
+        yield told(f"plan_table: {plan}", lines(plan), answer)
     for plan, answer in PLANS:
         yield told(f"plan_table: {plan}", lines(plan), answer)
         yield told_by_compile(f"plan_table: {plan}", lines(plan), answer)

@@ -1,20 +1,32 @@
 """What pitc_thin writes and tells, by a plain computation of what is left, apart from the program's.
 
-Its rows are run by the program pitc_thin, which stands beside pitc.
+Its rows are run by the program pitc_thin, which stands beside pitc. rows.thin_files has those of its
+arguments, of faulty inputs and of the file that it writes.
 """
+import itertools
 import random
 
-from rows import words as words_of_compile
-from rows.compile_form import REFUSED, compile_words
-from rows.trial import Folder, Front, Link, Parts, Trial, refused, zone_file
+from rows import thin_files
+from rows.cells import shortest
+from rows.cones import BOUNDARIES
+from rows.trial import Trial, zone_file
 
 PLAN = """name,one
-grid,0,0,0,{sizes}
+grid,{grid}
 {zones}
 mill,mill,900,600,1500
 periods,1
 rate,0.1
 """
+
+# The tonnes and the grade of each block; and such of which some have no tonnage, or are worth
+# nothing, more or less.
+ALIKE = ["1,0"]
+UNLIKE = ["0,0", "1,0", "1000,5000", "0,7", "0.001,2777.777778", "1000000,1000000", "9,2777"]
+
+
+def millimetres(metres):
+    return [round(1000 * part) for part in metres]
 
 
 def takes_in(sizes, cone, low, high):
@@ -30,31 +42,49 @@ def takes_in(sizes, cone, low, high):
 
 
 def lists_of(sizes, cones, zones):
-    """The blocks of zones by identifier, and the list of each."""
-    blocks = sorted(((z, y, x), zone) for zone, places in enumerate(zones) for x, y, z in places)
-    places = [(x, y, z) for (z, y, x), zone in blocks]
-    return [
-        [high for high, place in enumerate(places) if takes_in(sizes, cones[zone], own, place)]
-        for own, (_, zone) in zip(places, blocks)
-    ]
+    """The list of each block of zones, by identifier: all blocks up to K benches higher are tried, and
+    each distance once."""
+    blocks = sorted((place[::-1], zone) for zone, places in enumerate(zones) for place in places)
+    benches, inside, lists = {}, [{} for _ in cones], []
+    for number, ((z, y, x), _) in enumerate(blocks):
+        benches.setdefault(z, []).append((number, x, y))
+    for (z, y, x), zone in blocks:
+        cone, known, found = cones[zone], inside[zone], []
+        for bench in range(z + 1, z + cone[-1] + 1):
+            for number, other_x, other_y in benches.get(bench, ()):
+                far = other_x - x, other_y - y, bench - z
+                if far not in known:
+                    known[far] = takes_in(sizes, cone, (0, 0, 0), far)
+                if known[far]:
+                    found.append(number)
+        lists.append(found)
+    return lists
+
+
+def mask_of(blocks):
+    """Blocks as the bits of a number."""
+    return sum(1 << block for block in blocks)
 
 
 def left_of(lists):
     """Of each list, from its first block on, those that stand in the list of none that is left."""
-    taken, left = [set(one) for one in lists], []
+    taken, left = list(map(mask_of, lists)), []
     for one in lists:
         left.append([])
+        covered = 0
         for c in one:
-            if not any(c in taken[d] for d in left[-1]):
+            if not covered >> c & 1:
                 left[-1].append(c)
+                covered |= taken[c]
     return left
 
 
 def reaches(lists):
     """Of each block all to which a way of arcs leads."""
-    found = [set() for _ in lists]
+    found = [0] * len(lists)
     for n in reversed(range(len(lists))):
-        found[n] = set(lists[n]).union(*(found[c] for c in lists[n]))
+        for c in lists[n]:
+            found[n] |= found[c] | 1 << c
     return found
 
 
@@ -75,21 +105,33 @@ def box(xs, ys, zs, holes=()):
     return [(x, y, z) for z in zs for y in ys for x in xs if (x, y, z) not in holes]
 
 
-def thinned(name, cells, zones, sizes=(10, 10, 10), words=()):
-    """A run that writes what is left of zones with these cells in the plan."""
-    lists = lists_of(sizes, list(map(cone_of, cells)), zones)
+def rows_of(places, sizes, origin, masses):
+    """The rows of blocks at these places, with the tonnes and grades of these in turn."""
+    for place, mass in zip(places, itertools.cycle(masses)):
+        metres = (shortest(o + at * size, 3) for o, at, size in zip(origin, place, sizes))
+        yield ",".join([*metres, mass])
+
+
+def written(text, lists):
+    """What a run writes at the file `thin` and tells of it, of blocks with these lists."""
+    counts = len(lists), text.count(b" ") - len(lists), sum(map(len, lists))
+    return {"out": b"rows %d arcs %d of %d\n" % counts, "left": {"thin": text}}
+
+
+def thinned(name, cells, zones, sizes=(10, 10, 10), words=(), origin=(0, 0, 0), masses=ALIKE):
+    """A run that writes what is left of zones with these cells in the plan. Sizes and origin are in
+    metres."""
+    lists = lists_of(millimetres(sizes), list(map(cone_of, cells)), zones)
     left = left_of(lists)
     assert reaches(left) == reaches(lists)
-    counts = len(lists), sum(map(len, left)), sum(map(len, lists))
-    files = {"plan": PLAN.format(
-        sizes=",".join(map(str, sizes)), zones="\n".join("zone," + cell for cell in cells)).encode()}
-    for number, places in enumerate(zones):
-        rows = (f"{x * sizes[0]},{y * sizes[1]},{z * sizes[2]},1,0" for x, y, z in places)
-        files[f"zone{number}"] = zone_file(*rows)
-    paths = [f"zone{number}" for number in range(len(zones))]
+    grid = ",".join(map(str, [*origin, *sizes]))
+    plan = PLAN.format(grid=grid, zones="\n".join("zone," + cell for cell in cells))
+    paths = {f"zone{number}": places for number, places in enumerate(zones)}
+    files = {path: zone_file(*rows_of(places, *map(millimetres, (sizes, origin)), masses))
+             for path, places in paths.items()}
     return Trial(
-        name, words=["--plan", "plan", "--out", "thin", *words, *paths], files=files,
-        out=b"rows %d arcs %d of %d\n" % counts, left={"thin": text_of(left)})
+        name, words=["--plan", "plan", "--out", "thin", *words, *paths],
+        files={"plan": plan.encode(), **files}, **written(text_of(left), lists))
 
 
 def of_zones():
@@ -128,59 +170,116 @@ def of_random_zones():
         yield thinned(f"random zones {seed}", cells, zones, sizes)
 
 
-def thin_words(words):
-    """The words of a run of compile, as those of pitc_thin, and its files."""
-    run = compile_words(words)
-    return {"words": ["--out", "thin", *run["words"][3:]], "files": run["files"]}
+def of_masses():
+    """What a block holds or is worth decides on no arc."""
+    whole, cells = box(range(5), range(5), range(5)), ["1,1,2", "1,1,5", "1,1,2,1,1,2,3,2,6"]
+    for cell in cells:
+        yield thinned(f"masses: unlike, {cell}", [cell], [whole], masses=UNLIKE)
+    for mass in UNLIKE:
+        yield thinned(f"masses: {mass} each", ["1,1,3"], [whole], masses=[mass])
+        others = ["5,0", *[mass] * 2]
+        yield thinned(f"masses: {mass}, two of three", ["1,2,3"], [whole], masses=others)
+    middle = [[(0, 0, 0)], [(0, 0, 1)], [(0, 0, 2), (1, 0, 2)]]
+    for turn in range(3):
+        masses = ["0,0", "1,0", "1,5000"][turn:] + ["0,0", "1,0", "1,5000"][:turn]
+        yield thinned(f"masses: zones, {masses}", ["1,1,2"] * 3, middle, masses=masses)
 
 
-def of_refusals():
-    for name, line, words in REFUSED:
-        yield refused(name, line, **thin_words(words))
-    for name, put in (("a folder", Folder()), ("a full device", Link("/dev/full"))):
-        run = thin_words("one ore")
-        run["files"]["thin"] = put
-        yield refused(f"{name} in the place of the file", "sink prec: SinkFailed", **run)
+def of_orders():
+    """Rows in no order, within a zone file and over them."""
+    whole = box(range(5), range(5), range(5))
+    yield thinned("orders: from the last to the first", ["1,1,4"], [whole[::-1]])
+    for seed in range(4):
+        places = random.Random(seed).sample(whole, len(whole))
+        yield thinned(f"orders: {seed}", ["1,1,4"], [places], masses=UNLIKE)
+        parts = [places[:50], places[50:90], places[90:]]
+        yield thinned(f"orders: three zones, {seed}", ["1,1,4", "2,1,3", "1,2,2"], parts)
 
 
-# The words of a run of pitc_thin that ask for a text, and parts of it.
-ABOUT = "Writes the precedences of a model without arcs that follow from others."
-SHOWN = [
-    ("--help", ABOUT, "a solver has fewer arcs to take", "prints `rows N arcs M of L`", "[default: 64]"),
-    ("-h", ABOUT), ("--version", "pitc_thin "), ("-V", "pitc_thin "),
-    ("--plan one.plan --help", ABOUT), ("ore.csv -h", ABOUT),
-    ("--plan one.plan --out base ore.csv --version", "pitc_thin "),
-    ("--plan one.plan --out base --version ore.csv", "pitc_thin "),
-]
-
-# The words that are refused beside those of compile.
-ALSO_REFUSED = ["help", "check base", "compile", "ore.csv help"]
+def of_many_zones():
+    """Zones with slopes and K of their own, some of them without a block."""
+    for count in (4, 5, 20, 64):
+        chance = random.Random(count)
+        cells = [f"{chance.randrange(1, 4)},{chance.randrange(1, 4)},{zone % 20 + 1}" for zone in range(count)]
+        zones = [[] for _ in cells]
+        for place in box(range(6), range(6), range(7)):
+            chance.choice(zones[: count - count // 10]).append(place)
+        yield thinned(f"{count} zones", cells, zones)
+        yield thinned(f"{count} zones, turned round", cells[::-1], zones[::-1], masses=UNLIKE)
 
 
-def of_words():
-    """The words of runs of compile, but for their first, and the words that are those of pitc_thin alone."""
-    files, one = words_of_compile.FEW, {"out": b"rows 1 arcs 0 of 0\n", "files": words_of_compile.FEW}
-    for words in words_of_compile.TAKEN:
-        yield Trial(f"words that are taken: {words}", words=words.split()[1:], left={"base": b"0 0\n"}, **one)
-    for base, named in words_of_compile.BASES:
-        words = [*words_of_compile.ONE, *named, "ore.csv"]
-        if base:
-            yield Trial(f"a file of any spelling: {words}", words=words, left={base: b"0 0\n"}, **one)
-        else:
-            yield refused(f"a file without a name: {words}", "sink prec: SinkFailed", words=words, files=files)
-    for words, *parts in SHOWN:
-        out = Parts([part.encode() for part in parts])
-        yield Trial(f"words that ask: {words}", words=words.split(), files=files, out=out)
-    of_compile = [words.split()[1:] for words in words_of_compile.REFUSED if words.split()[0] == "compile"]
-    asking = [words.split() for words, *_ in SHOWN]
-    for words in [*of_compile, *map(str.split, ALSO_REFUSED)]:
-        if words not in asking:
-            yield Trial(f"words that are refused: {words}", 2, words=words, files=files, errors=Front(b"error: "))
-    yield refused("words that are not UTF-8", "command line: NotUtf8", words=[b"--plan", b"\xFF"], files=files)
+def of_places():
+    """Origins and sizes of many kinds, at either end of the grid; and blocks about the boundary of a cone,
+    below blocks of a steep and of a flat zone."""
+    near, far = box(range(5), range(5), range(5)), box(range(9995, 10_000), range(9995, 10_000), range(9995, 10_000))
+    for origin, sizes in [
+        ((-30.5, -1000000000, 999999999.5), (0.5, 100, 0.001)), ((0.001, -0.001, -5), (12.25, 7.5, 3.125)),
+        ((1000000000, -0.5, 0), (0.001, 0.002, 0.003)), ((0, 0, 0), (100, 99.999, 65.536)),
+    ]:
+        cells = [f"1,{max(1, min(1000, round(2 * max(sizes[:2]) / sizes[2])))},4"]
+        for name, places in (("near", near), ("far", far)):
+            yield thinned(f"places: {origin}, {sizes}, {name}", cells, [places], sizes, origin=origin)
+    for number, (sizes, cone, inside, outside) in enumerate(BOUNDARIES):
+        at = 0 if cone.count(",") == 2 else 20
+        ups = [tuple(map(int, place.split())) for place in f"{inside}, {outside}".split(", ")]
+        above = [(at + x, at + y, 3 + z) for x, y, z in dict.fromkeys(ups)]
+        for other in ("1000,1,1", "1,3,2"):
+            name = f"places: boundary {number}, {sizes}, {cone}, below {other}"
+            metres = tuple(size / 1000 for size in sizes)
+            yield thinned(name, [cone, other], [[(at, at, 3)], above], metres)
+
+
+def of_wide_cones():
+    """Hundreds of arcs that are left of a block, all of which cover."""
+    low = [(10, 10, 0)]
+    for name, cells, zones in [
+        ("12 x 12 x 3", ["1,5,2"], [box(range(12), range(12), range(3))]),
+        ("14 x 14 x 4", ["1,3,3"], [box(range(14), range(14), range(4))]),
+        ("below two benches of 20 x 20", ["1,100,2"], [low + box(range(20), range(20), (1, 2))]),
+        ("below two benches, the upper one wider", ["1,30,2", "1,4,1"],
+         [low, box(range(8, 13), range(8, 13), [1]) + box(range(22), range(22), [2])]),
+        ("below three benches of a steep zone", ["1,30,3", "1,1,2"],
+         [low, box(range(18), range(18), range(1, 4))]),
+    ]:
+        yield thinned(f"wide cones: {name}", cells, zones, masses=UNLIKE)
+
+
+def cross(side, z, y, x):
+    """The list of a block of a box of this side: itself and its four sides, a bench higher."""
+    places = [(x, y - 1), (x - 1, y), (x, y), (x + 1, y), (x, y + 1)]
+    return [((z + 1) * side + b) * side + a for a, b in places if 0 <= a < side and 0 <= b < side]
+
+
+def of_crosses(side):
+    """Three square benches at K = 2 and 1 : 1: a block has those of a cross on the next bench, and those
+    of a disc of 13 blocks above it, all of which follow."""
+    places = box(range(side), range(side), range(3))
+    left = [cross(side, z, y, x) if z < 2 else [] for x, y, z in places]
+    disc = [(x, y) for x in range(-2, 3) for y in range(-2, 3) if x * x + y * y <= 4]
+    crosses = 2 * (5 * side * side - 4 * side)
+    arcs = crosses + sum((side - abs(x)) * (side - abs(y)) for x, y in disc)
+    told = b"rows %d arcs %d of %d\n" % (len(places), crosses, arcs)
+    rows = zone_file(*(f"{x}0,{y}0,{z}0,1,0" for x, y, z in reversed(places)))
+    plan = PLAN.format(grid="0,0,0,10,10,10", zones="zone,1,1,2").encode()
+    return Trial(
+        f"three benches of {side} x {side}", words=["--plan", "plan", "--out", "thin", "zone0"],
+        files={"plan": plan, "zone0": rows}, out=told, left={"thin": text_of(left)})
+
+
+def of_large_models():
+    """A model of more than 65,536 blocks."""
+    by_pairs = thinned("", ["1,1,2"], [box(range(7), range(7), range(3))])
+    assert (of_crosses(7).out, of_crosses(7).left) == (by_pairs.out, by_pairs.left)
+    yield of_crosses(160)
 
 
 def trials():
-    yield from of_words()
     yield from of_zones()
     yield from of_random_zones()
-    yield from of_refusals()
+    yield from of_masses()
+    yield from of_orders()
+    yield from of_many_zones()
+    yield from of_places()
+    yield from of_wide_cones()
+    yield from of_large_models()
+    yield from thin_files.trials()

@@ -1,0 +1,170 @@
+"""What pitc_thin tells of its arguments, of plans and zone files, and what becomes of the file that it
+writes: the rows of `compile`, as far as they hold of it.
+"""
+from rows import compile_form, names, pairs, plans, words as words_of_compile, zone_rows
+from rows.compile_form import ACCEPTED, FAULTY_ROWS, REFUSED, WRITTEN, compile_words
+from rows.instance import ONE_ORE_BLOCK, ORE, PLAN, unlisted
+from rows.trial import Folder, Front, Link, Parts, Trial, lines, refused, zone_file
+
+# Files that stand in the place of the one that is written: it is as long as its text, whatever its
+# length was, and stays where the run is refused.
+OLDER = {"longer": b"0 0\n1 1 0\n" * 1000, "shorter": b"9", "as long": b"9 9\n", "empty": b""}
+
+
+def thin_words(words):
+    """The words of a run of compile, as those of pitc_thin, and its files."""
+    run = compile_words(words)
+    return {"words": ["--out", "thin", *run["words"][3:]], "files": run["files"]}
+
+
+def no_arcs(count):
+    """What a run prints of blocks without predecessors, and their text."""
+    return b"rows %d arcs 0 of 0\n" % count, lines(unlisted(0, count))
+
+
+def as_thin(trial, older=OLDER["longer"], left=()):
+    """A run of `compile`, as one of pitc_thin into the file at its base, where an older one stands: it is
+    refused alike, or prints and writes these."""
+    words, base = trial.words[1:], trial.words[trial.words.index("--out") + 1]
+    at_base = {name: text for name, text in trial.files.items() if name.startswith(base + ".")}
+    others = {name: text for name, text in trial.files.items() if name not in at_base}
+    is_full = Link("/dev/full") in at_base.values()
+    files = {base: Link("/dev/full") if is_full else older, **others}
+    run = trial._replace(words=words, files=files, out=b"", left={})
+    return run._replace(out=left[0], left={base: left[1]}) if left else run
+
+
+def of_refusals():
+    for name, line, words in REFUSED:
+        yield refused(name, line, **thin_words(words))
+        run = thin_words(words)
+        for which, older in list(OLDER.items())[:2]:
+            files = {**run["files"], "thin": older}
+            yield refused(f"{name}, and a {which} file", line, words=run["words"], files=files)
+    for name, put in (("a folder", Folder()), ("a full device", Link("/dev/full"))):
+        run = thin_words("one ore")
+        run["files"]["thin"] = put
+        yield refused(f"{name} in the place of the file", "sink prec: SinkFailed", **run)
+    for base in ("no/such/thin", "ore/thin", "one/"):
+        run = thin_words("one ore")
+        run["words"][1] = base
+        yield refused(f"a file in no folder: {base}", "sink prec: SinkFailed", **run)
+    for row, fault in FAULTY_ROWS:
+        run = thin_words("one odd")
+        run["files"] = {**run["files"], "odd": zone_file(row), "thin": OLDER["shorter"]}
+        yield refused(f"the row {row}", f"file 0 row 2 column {fault}", **run)
+
+
+def of_files():
+    """The files that are written, on files of every length, and on those that are read."""
+    out, text = no_arcs(1)
+    for which, older in OLDER.items():
+        run = thin_words("one ore")
+        run["files"] = {**run["files"], "thin": older}
+        yield Trial(f"a {which} file before it", out=out, left={"thin": text}, **run)
+    for which, name in [("zone file", "ore"), ("plan", "one")]:
+        run = thin_words("one ore")
+        run["words"][1] = name
+        yield Trial(f"the file is the {which}", out=out, left={name: text}, **run)
+        run = thin_words("one ore ore")
+        run["words"][1] = name
+        yield refused(f"the file is the {which}, and a refusal", "settings: Files", **run)
+    for name in ("place/thin", "place/../thin", "./thin", ".//place//thin"):
+        run = thin_words("one ore")
+        run["words"][1], run["files"]["place"] = name, Folder()
+        left = {"thin" if "place/t" not in name.replace("//", "/") else "place/thin": text}
+        yield Trial(f"a path to the file: {name}", out=out, left=left, **run)
+    run = thin_words("one ore")
+    run["files"] = {**run["files"], "thin": Link("other"), "other": OLDER["longer"]}
+    yield Trial("a link to another file", out=out, left={"other": text}, **run)
+
+
+def of_spellings():
+    """Plans and zone files of every spelling."""
+    for name, words, given in ACCEPTED:
+        out, text = no_arcs(1)
+        yield Trial(name, given=given, out=out, left={"thin": text}, **thin_words(words))
+    for name, words, texts in WRITTEN:
+        if texts["prec"] == lines(unlisted(0, texts["prec"].count(b"\n"))):
+            out, text = no_arcs(texts["prec"].count(b"\n"))
+            yield Trial(name, out=out, left={"thin": text}, **thin_words(words))
+    for trial in zone_rows.second_files():
+        if trial.words:
+            count = int(trial.out.split()[1]) if trial.out else 0
+            yield as_thin(trial, OLDER["shorter"], no_arcs(count) if trial.status == 0 else ())
+
+
+def of_plans():
+    """Plans that are faulty, and such that are taken and lack a zone file."""
+    for trial in plans.trials():
+        if trial.words:
+            yield as_thin(trial)
+    for plan, answer in plans.table():
+        yield as_thin(plans.told_by_compile(f"plan_table: {plan}", lines(plan), answer))
+
+
+def of_names():
+    """Names that users have, of plans, zone files and the file, which has no ending."""
+    for trial in names.trials():
+        if trial.words[0] == "compile" and b"sink" not in trial.errors:
+            yield as_thin(trial, left=no_arcs(1) if trial.status == 0 else ())
+    run, (out, text) = thin_words("one ore"), no_arcs(1)
+    longest = names.named(names.LONGEST)
+    words = ["--out", longest, *run["words"][2:]]
+    yield Trial("the longest name of the file", words=words, files=run["files"], out=out, left={longest: text})
+    words = ["--out", longest + "n", *run["words"][2:]]
+    yield refused("a name of the file that is too long", "sink prec: SinkFailed", words=words, files=run["files"])
+
+
+# The words of a run of pitc_thin that ask for a text, and parts of it.
+ABOUT = "Writes the precedences of a model without arcs that follow from others."
+SHOWN = [
+    ("--help", ABOUT, "a solver has fewer arcs to take", "prints `rows N arcs M of L`", "[default: 64]"),
+    ("-h", ABOUT), ("--version", "pitc_thin "), ("-V", "pitc_thin "),
+    ("--plan one.plan --help", ABOUT), ("ore.csv -h", ABOUT),
+    ("--plan one.plan --out base ore.csv --version", "pitc_thin "),
+    ("--plan one.plan --out base --version ore.csv", "pitc_thin "),
+]
+
+# The words that are refused beside those of compile.
+ALSO_REFUSED = ["help", "check base", "compile", "ore.csv help"]
+
+
+def of_words():
+    """The words of runs of compile, but for their first, and the words that are those of pitc_thin alone."""
+    files, one = words_of_compile.FEW, {"out": b"rows 1 arcs 0 of 0\n", "files": words_of_compile.FEW}
+    for words in words_of_compile.TAKEN:
+        yield Trial(f"words that are taken: {words}", words=words.split()[1:], left={"base": b"0 0\n"}, **one)
+    for base, named in words_of_compile.BASES:
+        words = [*words_of_compile.ONE, *named, "ore.csv"]
+        if base:
+            yield Trial(f"a file of any spelling: {words}", words=words, left={base: b"0 0\n"}, **one)
+        else:
+            yield refused(f"a file without a name: {words}", "sink prec: SinkFailed", words=words, files=files)
+    for words, *parts in SHOWN:
+        out = Parts([part.encode() for part in parts])
+        yield Trial(f"words that ask: {words}", words=words.split(), files=files, out=out)
+    of_compile = [words.split()[1:] for words in words_of_compile.REFUSED if words.split()[0] == "compile"]
+    asking = [words.split() for words, *_ in SHOWN]
+    for words in [*of_compile, *map(str.split, ALSO_REFUSED)]:
+        if words not in asking:
+            yield Trial(f"words that are refused: {words}", 2, words=words, files=files, errors=Front(b"error: "))
+    for words in words_of_compile.REFUSED_WHOLE:
+        if words[0] == "compile":
+            yield Trial(f"words with blanks: {words[1:]}", 2, words=words[1:], files=files, errors=Front(b"error: "))
+    for line, words in words_of_compile.TOLD:
+        if words[0] == "compile":
+            words = words[1:]
+            yield refused(f"words that are taken, and told: {words}", line, words=words, files=files)
+    yield from words_of_compile.of_each_word(1)
+    yield refused("words that are not UTF-8", "command line: NotUtf8", words=[b"--plan", b"\xFF"], files=files)
+
+
+def trials():
+    yield from of_words()
+    yield from of_refusals()
+    yield from of_files()
+    yield from of_spellings()
+    yield from of_plans()
+    yield from of_names()
+    yield from map(as_thin, pairs.of_compile())
