@@ -156,6 +156,23 @@ def of_zones():
         yield thinned(" ".join(words), ["1,1,3"], [whole], words=words)
 
 
+# The sizes and the cone of full rock that reaches so far to each side, and how many arcs the block in its middle has, four benches below its top:
+# all, and those that are left, as they were counted apart.
+FULL_ROCK = [
+    ((10, 10, 10), "1,1,4", 4, 96, 9), ((20, 20, 10), "3,2,4", 2, 12, 5),
+    ((15, 15, 12), "1,1,4", 4, 68, 33), ((25, 25, 15), "4,5,4", 4, 60, 25),
+]
+
+
+def of_full_rock():
+    for sizes, cells, side, whole, left in FULL_ROCK:
+        bench = range(2 * side + 1)
+        places = [(side, side, 0), *box(bench, bench, range(1, 5))]
+        lists = lists_of(sizes, [cone_of(cells)], [places])
+        assert (len(lists[0]), len(left_of(lists)[0])) == (whole, left)
+        yield thinned(f"full rock: {cells} of {sizes}", [cells], [places], sizes)
+
+
 def of_random_zones():
     for seed in range(60):
         chance = random.Random(seed)
@@ -275,6 +292,7 @@ def of_large_models():
 
 def trials():
     yield from of_zones()
+    yield from of_full_rock()
     yield from of_random_zones()
     yield from of_masses()
     yield from of_orders()
