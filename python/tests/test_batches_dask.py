@@ -28,7 +28,7 @@ def begun(command, *words):
     return subprocess.Popen(words, env=environment(), stdout=subprocess.DEVNULL, stderr=subprocess.DEVNULL)
 
 
-def waited(is_so, seconds=120):
+def waited(is_so, seconds=600):
     """Waits until something is so."""
     end = time.monotonic() + seconds
     while not is_so():
@@ -46,8 +46,8 @@ def cluster(here):  # noqa: F811
         waited(lambda: os.path.exists(place))
         worker = ("--nthreads", "1", "--no-nanny", "--no-dashboard", "--scheduler-file", place, "--local-directory", str(here / "dask"))
         processes += [begun("worker", *worker) for _ in range(4)]
-        with distributed.Client(scheduler_file=place, timeout=60, set_as_default=False) as client:
-            client.wait_for_workers(4, timeout=120)
+        with distributed.Client(scheduler_file=place, timeout=600, set_as_default=False) as client:
+            client.wait_for_workers(4, timeout=600)
             address = client.scheduler.address
         yield address, processes[1:]
     finally:

@@ -1,4 +1,5 @@
 """The door for all that is written: old or new files, all of them or none, and nothing that is read."""
+import errno
 import os
 import signal
 import stat
@@ -216,7 +217,77 @@ def test_a_folder_that_was_made_goes_again(here):
 def test_every_command_that_writes_says_what_it_replaces(capsys):
     for command in ("import", "plan", "back", "section", "survey", "read", "pit", "lp", "solve", "dimacs", "texts",
                     "check-schedule", "minelib", "deposit", "vary", "by-zone", "library"):
-        with pytest.raises(SystemExit):
-            main([command, "--help"])
+        assert main([command, "--help"]) == 0
         told = capsys.readouterr().out
         assert "It replaces" in told and "--force" in told, command
+
+
+CALLS = ("open", "fchmod", "fsync", "link", "replace")
+
+DEPOSIT = ["deposit", "--name", "a", "--size", "3,3,3", "--list", "LIST"]
+
+
+def counted(monkeypatch, name, nth, instead):
+    """The Nth call of a function of os does something else; answers how often it is called."""
+    real, calls = getattr(os, name), []
+
+    def call(*words, **named):
+        calls.append(name)
+        if len(calls) == nth:
+            instead()
+        return real(*words, **named)
+
+    monkeypatch.setattr(os, name, call)
+    return calls
+
+
+@pytest.fixture()
+def versions(here):
+    """The new files of `deposit`, and older ones of their kinds."""
+    assert main(DEPOSIT) == 0
+    new = files_of(here)
+    return {name: content + content[-20:] for name, content in new.items()}, new
+
+
+def fail():
+    raise OSError(errno.EIO, "Input/output error")
+
+
+@pytest.mark.parametrize("name", CALLS)
+def test_each_refused_call_leaves_all_old_or_all_new(here, versions, name, capsys):
+    old, new = versions
+    for nth in range(1, 100):
+        for file, content in old.items():
+            (here / file).write_bytes(content)
+        with pytest.MonkeyPatch.context() as patched:
+            calls = counted(patched, name, nth, fail)
+            status = main(DEPOSIT)
+        if len(calls) < nth:
+            assert nth > 5
+            return
+        told = capsys.readouterr().err
+        assert (status, files_of(here)) in ((2, old), (0, new)), f"{name} {nth}: {told}"
+        assert told.count("\n") == (status == 2) and (status == 0 or any(file in told for file in old))
+
+
+@pytest.mark.parametrize("name", CALLS)
+def test_a_kill_before_each_call_leaves_each_file_old_or_new(here, versions, name):
+    old, new = versions
+    for nth in range(1, 100):
+        for file, content in old.items():
+            (here / file).write_bytes(content)
+        child = os.fork()
+        if not child:
+            with pytest.MonkeyPatch.context() as patched:
+                counted(patched, name, nth, lambda: os.kill(os.getpid(), signal.SIGKILL))
+                os._exit(main(DEPOSIT))
+        is_done = os.waitstatus_to_exitcode(os.waitpid(child, 0)[1]) == 0
+        found = files_of(here)
+        left = {file: found.pop(file) for file in set(found) - set(old)}
+        assert all(content in (old[file], new[file]) for file, content in found.items()) and set(found) == set(old)
+        assert all(".unfinished-" in file or ".before-" in file for file in left)
+        for file in left:
+            os.remove(here / file)
+        if is_done:
+            assert nth > 5 and found == new and not left
+            return
