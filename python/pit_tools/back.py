@@ -165,15 +165,16 @@ def _rows_written(again, block_at: np.ndarray, told: pd.DataFrame, out: IO[str])
         in_file = (again.places["file"] == number).to_numpy()
         of_part = pd.Series(block_at[in_file], index=again.places["record"][in_file].to_numpy())
         of_record = of_part[~of_part.index.duplicated()]
-        cut = _mined_of_cut_rows(told, of_part)
+        cut = _mined_of_cut_rows(told, of_part) if of_part.index.has_duplicates else None
         left = len(source.units)
         for table in source.chunks(range(len(source.names))):
             ids = of_record.reindex(table.index).fillna(-1).to_numpy(np.int64)
             behind = told.iloc[np.maximum(ids, 0)].astype(object)
             behind.loc[ids < 0, :] = ""
             behind.index = table.index
-            at_cut = table.index.intersection(cut.index)
-            behind.loc[at_cut, "mined"] = cut[at_cut]
+            if cut is not None:
+                at_cut = table.index.intersection(cut.index)
+                behind.loc[at_cut, "mined"] = cut[at_cut]
             pd.concat([table, behind], axis=1).to_csv(out, sep=separator, header=False, index=False, lineterminator="\n")
             rows += max(0, len(table) - left)
             left = max(0, left - len(table))

@@ -31,7 +31,7 @@ def judge_ends(values: Sequence[np.ndarray], with_cells: Callable[[int], str]) -
         for low in np.flatnonzero(least):
             near = [high for high in np.flatnonzero(most) if 0 < abs(high - low) < 4]
             if near and int(values[0][ends[low]]) not in MARKS:
-                rows = sorted((ends[low], ends[near[0]]))
+                rows = sorted((ends[low], ends[near[-1]]))
                 raise UserError(f"{with_cells(rows[0])} and {with_cells(rows[1])} have the least and the greatest of x, y and z: are they rows of "
                                 "minima, maxima or means, and no blocks? Take them out of the export")
 

@@ -78,7 +78,9 @@ class Doubts:
         self.doubts.append(f"{told}: {'; '.join(fits) or 'are they the tonnes of other blocks? Look at --size'}")
 
     def light_blocks_below_others(self) -> None:
-        """Blocks of little weight that lie below others: their waste may be missing."""
+        """Blocks of little weight that lie below others: their waste may be missing, where no share says so."""
+        if self.words.share or self.words.ore_share:
+            return
         weight = self.rows["tonnes"].to_numpy()
         light = (weight < 0.5 * np.median(weight)) & (self.rows["iz"].to_numpy() < self.top[self.column])
         if light.sum() > 0.005 * len(weight):

@@ -95,7 +95,9 @@ class Placing:
         volume = self.volumes(axes, len(self.record))
         masses = Masses(self.words, self.reading, self.report, self.taken, volume, parts.many if is_cut else None, parts.number if is_cut else None,
                         self.with_cells, lambda key: self.measure_of(key).unit)
-        tonnes, other = masses.tonnes(), masses.by_other()
+        tonnes = masses.tonnes()
+        # Parts of a block whose volumes are not known have no tonnes by a density.
+        other = None if self.words.is_merged and self.sizes is None else masses.by_other()
         rows = pd.DataFrame({"ix": places[0], "iy": places[1], "iz": places[2], "tonnes": tonnes, "grade": masses.grade,
                              "zone": self.taken("zone"), "row": np.arange(len(tonnes))})
         if other is not None:

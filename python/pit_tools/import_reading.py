@@ -54,7 +54,7 @@ class Reading:
     def agree_on(self, unnamed: Unnamed, source: Source) -> None:
         """Keeps what a header has beside what is read. It raises UserError where another export has no such columns of sizes."""
         if self.source_at and bool(unnamed.sizes) != bool(self.unnamed.sizes):
-            raise UserError(f"{source.path}: of the exports some have columns of sizes, and others none: read them apart")
+            raise UserError(f"{source.path}: of the exports some have columns of sizes, and others none: export all with the same columns")
         self.unnamed = unnamed
 
     def joined(self, name: str) -> Optional[np.ndarray]:

@@ -484,13 +484,13 @@ def workbook_of(path: str, resolve: Callable[[Sequence[str]], object], names: Se
     for one in found[1:]:
         if [*map(plain_name, one.names)] != [*map(plain_name, found[0].names)]:
             raise UserError(f"{path}: the sheets `{found[0].sheet_name}` and `{one.sheet_name}` have these columns below headers that differ: "
-                            "name one by --sheet")
+                            "give them one header where both are parts of the model; else name the one that is meant by --sheet")
     for name, texts in others.items():
         least = max(3, sum(map(is_number_like, found[0].sheet.iloc[-1])))
         many = int((texts.apply(lambda row: sum(map(is_number_like, row)), axis=1) >= least).sum()) if len(texts) else 0
         if many > 2:
             raise UserError(f"{path}: the sheet `{name}` has {many:,} rows of numbers as `{found[0].sheet_name}`, and no header with its columns: "
-                            "give it the header, or name the sheet that is meant by --sheet")
+                            "give it the header where it is a part of the model; else name the sheet that is meant by --sheet")
         found[0].sheets_left.append(name)
     resolve(found[0].names)
     return found

@@ -133,7 +133,7 @@ def workbook_exports() -> Iterable[Export]:
     yield Export("a workbook with benches on two sheets", {"a.xlsx": book(benches)}, USUAL, truth(),
                  told=("sheet `Benches 1-4` .*left out: `Notes`", "sheet `Benches 5-7`"))
     other = {**benches, "Benches 5-7": [["X", "Y", "Z", "ZONE", "TONNES", "AU"], *([*cells(b)[:3], b.zone, *cells(b)[3:5]] for b in MINE if b.k > 3)]}
-    yield Export("two sheets with headers that differ", {"a.xlsx": book(other)}, USUAL, {}, refused="below headers that differ: name one by --sheet")
+    yield Export("two sheets with headers that differ", {"a.xlsx": book(other)}, USUAL, {}, refused="below headers that differ: give them one header")
     bare = {**benches, "Benches 5-7": [cells(b) for b in MINE if b.k > 3]}
     yield Export("a second sheet without a header", {"a.xlsx": book(bare)}, USUAL, {}, refused=r"the sheet `Benches 5-7` has [\d,]+ rows of numbers .* and no header")
     percent = {"Blocks": [HEADER, *([*cells(b)[:4], None if b.grade is None else b.grade / 1e8, b.zone] for b in MINE)]}
@@ -147,8 +147,8 @@ def workbook_exports() -> Iterable[Export]:
     wrong[30] = [*wrong[30][:3], "#DIV/0!", *wrong[30][4:]]
     yield Export("an error in a workbook", {"a.xlsx": book({"Blocks": wrong})}, USUAL, {}, refused="cell D31: the column TONNES has `#DIV/0!`, an error")
     lazy = [HEADER, *map(cells, MINE)]
-    lazy[12] = [*lazy[12][:3], "=4000*2.7", *lazy[12][4:]]
-    yield Export("a formula that was never computed", {"a.xlsx": book({"Blocks": lazy})}, USUAL, {}, refused="cell D13: .* a formula that no program has computed")
+    lazy[40] = [*lazy[40][:3], "=4000*2.7", *lazy[40][4:]]
+    yield Export("a formula that was never computed", {"a.xlsx": book({"Blocks": lazy})}, USUAL, {}, refused="cell D41: .* a formula that no program has computed")
     codes = {"Blocks": [["X", "Y", "Z", "ROCK", "AU", "ZONE"], *([*cells(b)[:3], {"OX": 10.0, "SU": 20.0}.get(b.rock, 0.0), *cells(b)[4:]] for b in MINE)]}
     yield Export("a workbook with codes of rock", {"a.xlsx": book(codes)}, {**USUAL, "tonnes": "", "density_by": "ROCK: 10=2.45, 20=2.75"},
                  truth(kilograms=lambda b: {"SU": 11_000_000, "OX": 9_800_000}.get(b.rock)))

@@ -72,6 +72,22 @@ def test_blocks_come_back_to_their_centroids(base, tmp_path):
     assert len(rows) == 1 + len(ROWS) and [row[7] for row in rows[1:]].count("1") == 1 and rows[1][:4] == ["140", "220", "50", str(block)]
 
 
+def test_a_row_of_two_blocks_has_the_mean_of_what_is_mined(base, tmp_path, monkeypatch):
+    """A row 40 m long lies on two blocks, of which one is mined."""
+    monkeypatch.chdir(tmp_path)
+    lines = ["XC,YC,ZC,XINC,YINC,ZINC,T,AU,ZONE", "110,200,50,40,20,10,21600,1,west"]
+    lines += [f"{100 + 20 * x},{200 + 20 * y},{50 + 10 * z},20,20,10,10800,1,{'west' if x < 2 else 'east'}" for x, y, z in ROWS
+              if (x, y, z) not in ((0, 0, 0), (1, 0, 0))]
+    written("wide.csv", lines)
+    words = ["--x", "XC", "--y", "YC", "--z", "ZC", "--tonnes", "T", "--grade", "AU", "--zone", "ZONE", "--parents", "20,20,10"]
+    assert main(["import", "wide.csv", *words, "--base", "wide"]) == 0
+    pit = written("pit", [str(block_number((1, 0, 0))), str(block_number((2, 1, 0)))])
+    assert main(["back", base + ".plan", base, pit, "--onto", "wide.json", "--out", "out.csv"]) == 0
+    rows = read("out.csv")
+    assert rows[1][-2:] == [str(block_number((0, 0, 0))), "0.5"]
+    assert [row[:3] for row in rows[1:] if row[-1] == "1"] == [["140", "220", "50"]]
+
+
 def test_a_line_without_a_share_has_the_whole_block(base, tmp_path, capsys):
     split, whole = block_number((2, 1, 0)), block_number((0, 0, 2))
     schedule = written(tmp_path / "schedule", [f"{split} 1 1 0.25", f"{split} 1 2 0.75", f"{whole} 0 2"])
