@@ -43,7 +43,7 @@ NEEDS = [
 ]
 
 # Packages of Python that one interpreter has to have, all of them; Debian's begin with python3-.
-MODULES = ["pandas", "numpy", "scipy", "matplotlib", "openpyxl", "pytest", "distributed"]
+MODULES = ["pandas", "numpy", "scipy", "matplotlib", "openpyxl", "pytest", "distributed", "hypothesis"]
 
 # What no package brings.
 DEVICES = ["/dev/full", "/proc/self/task", "/proc/self/io"]

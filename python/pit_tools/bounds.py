@@ -1,22 +1,26 @@
 """Bounds of an instance: what no pit and no schedule is worth more than."""
 from __future__ import annotations
 
-from typing import Optional
+from typing import Any, Optional
 
 from pit_tools.closure import ultimate_pit
 from pit_tools.commands.lp import fewer_arcs
-from pit_tools.instance import Instance, cents
+from pit_tools.instance import Instance, cents, present
 from pit_tools.programs import program_of, solve
 
 
 def bounds_of(mine: Instance, seconds: Optional[float] = None) -> dict[str, Optional[float]]:
-    """The sum of values above 0, the ultimate pit's value, and the relaxations of CPIT and PCPSP: None where one
-    did not end within the seconds, or its limits cannot be met."""
-    worth = cents(mine.upit.values)
-    in_pit = ultimate_pit(mine.upit.values, mine.precedence)
+    """The sum of values above 0, the ultimate pit's value, and the relaxations of CPIT and PCPSP,
+    in the values' unit: None where one did not end within the seconds, or its limits cannot be met.
+
+    Raises BadInstance where the UPIT or the precedences were not read.
+    """
+    values = present(mine.upit, "UPIT").values
+    precedence: Any = present(mine.precedence, "precedence file")
+    worth, in_pit = cents(values), ultimate_pit(values, precedence)
     found: dict[str, Optional[float]] = {"all values above 0": int(worth[worth > 0].sum()) / 100,
                                          "the ultimate pit": int(worth[in_pit].sum()) / 100}
-    fewer = fewer_arcs(mine.precedence)
+    fewer = fewer_arcs(precedence)
     for problem in filter(None, (mine.cpit, mine.pcpsp)):
         answer = solve(program_of(problem, fewer, relaxed=True), seconds)
         found[f"{problem.kind}, relaxed"] = answer.value if answer.status == "best" else None

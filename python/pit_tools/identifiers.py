@@ -11,7 +11,7 @@ from typing import Iterator, Optional
 import numpy as np
 from scipy import sparse
 
-from pit_tools import spelling
+from pit_tools import outputs, spelling
 from pit_tools.errors import UserError
 from pit_tools.instance import Blocks, Instance, Problem, Uses
 
@@ -37,7 +37,7 @@ class Identifiers:
 def write_identifiers(identifiers: Identifiers, path: str) -> None:
     """Writes a line for each block: the block and its published identifier."""
     published = identifiers.published
-    with open(path, "wb") as file:
+    with outputs.opened(path, "identifiers") as file:
         file.writelines(spelling.lines_of([(np.arange(len(published)), 0), (published, 0)]))
 
 
@@ -103,7 +103,8 @@ def _gathered(starts: np.ndarray, entries: np.ndarray, rows: np.ndarray) -> np.n
     begins = starts[rows].astype(np.int64)
     counts = starts[rows + 1] - begins
     ends = np.cumsum(counts)
-    return entries[np.arange(ends[-1] if len(ends) else 0) + np.repeat(begins - ends + counts, counts)]
+    places = np.arange(ends[-1] if len(ends) else 0) + np.repeat(begins - ends + counts, counts)
+    return entries[places]
 
 
 def _ring(precedence: sparse.csr_matrix, is_left: np.ndarray) -> str:

@@ -13,11 +13,14 @@ whole cents are exact by `cents(values)`.
 """
 from __future__ import annotations
 
+import csv
 import io
 import os
+import re
 from dataclasses import dataclass, field
 from itertools import chain
-from typing import BinaryIO, Iterable, Iterator, Optional, Sequence
+from typing import (Any, BinaryIO, Callable, Iterable, Iterator, Optional, Sequence, Type, TypeVar,
+                    Union)
 
 import numpy as np
 import pandas as pd
@@ -54,6 +57,10 @@ class Blocks:
     def __len__(self) -> int:
         return len(self.x)
 
+    def frame(self) -> pd.DataFrame:
+        """A row for each block with columns x, y, z, tonnes, grade, zone; the index is `block`."""
+        return pd.DataFrame(vars(self)).rename_axis("block")
+
 
 @dataclass(frozen=True)
 class Uses:
@@ -67,6 +74,10 @@ class Uses:
 
     def __len__(self) -> int:
         return len(self.block)
+
+    def frame(self) -> pd.DataFrame:
+        """A row for each line with columns block, destination, resource, amount."""
+        return pd.DataFrame(vars(self))
 
     def matrix(self, resource: int, shape: Optional[tuple[int, int]] = None) -> sparse.csr_matrix:
         """The uses of one resource, (blocks, destinations)."""
@@ -123,7 +134,7 @@ class Problem:
 
     def use_matrix(self, resource: int) -> sparse.csr_matrix:
         """What is used of a resource, (blocks, destinations)."""
-        return self.uses.matrix(resource, self.values.shape)
+        return self.uses.matrix(resource, (len(self.values), self.destinations))
 
     def discounts(self) -> np.ndarray:
         """What a value of each period counts, (periods,): 1, 1 / (1 + rate), .."""
@@ -142,10 +153,24 @@ class Instance:
 
     def counts(self) -> str:
         """The line of `pitc check`: blocks, arcs, coefficients, limits, those of the CPIT."""
-        told = f"blocks {len(self.blocks)} arcs {self.precedence.nnz}"
+        arcs: Any = present(self.precedence, "precedence file")
+        told = f"blocks {len(present(self.blocks, 'block file'))} arcs {arcs.nnz}"
         if self.pcpsp:
             told += f" coefficients {len(self.pcpsp.uses)} limits {len(self.pcpsp.limits)}"
         return told + (f" cpit {len(self.cpit.uses)}" if self.cpit else "")
+
+
+_Part = TypeVar("_Part")
+
+
+def present(part: Optional[_Part], what: str) -> _Part:
+    """A part of an instance that has to be there, as in `present(mine.upit, "UPIT")`.
+
+    Raises BadInstance where it was not read.
+    """
+    if part is None:
+        raise BadInstance(f"there is no {what} of this instance")
+    return part
 
 
 def cents(values: np.ndarray) -> np.ndarray:
@@ -180,14 +205,30 @@ def _pieces(file: BinaryIO) -> Iterator[bytes]:
         yield _plain(rest + b"\n")
 
 
-def _table(piece: bytes, path: str, types: dict) -> pd.DataFrame:
-    """The fields of lines that have as many as there are types."""
+#: What stands in a field: a whole number of a type of numpy, or a decimal with so many decimals.
+_Kind = Union[Type[np.signedinteger], int]
+
+
+def _table(piece: bytes, path: str, what: str, kinds: Sequence[_Kind]) -> list[np.ndarray]:
+    """The fields of lines that have as many as there are kinds, a column each."""
+    if len(_first(piece).split()) != len(kinds):
+        raise BadInstance(f"{path}: no line of {what}, of {len(kinds)} fields: {_shown(piece)}")
+    types = {at: np.float64 if isinstance(kind, int) else np.int64 for at, kind in enumerate(kinds)}
     try:
-        table = pd.read_csv(io.BytesIO(piece), sep=r"\s+", header=None, dtype=types,
-                            names=range(len(types)), index_col=False, na_filter=False)
+        table = pd.read_csv(io.BytesIO(piece), sep=r"\s+", header=None, dtype=types, na_filter=False,
+                            names=range(len(kinds)), index_col=False, quoting=csv.QUOTE_NONE)
     except (ValueError, OverflowError, pd.errors.ParserError) as error:
         raise BadInstance(f"{path}: {_first_line(error)}") from None
-    return table
+    return [_rounded(table[at].to_numpy(), path, kind) if isinstance(kind, int)
+            else _narrow(table[at].to_numpy(), path, kind) for at, kind in enumerate(kinds)]
+
+
+def _narrow(whole: np.ndarray, path: str, kind: Type[np.signedinteger]) -> np.ndarray:
+    """Whole numbers as a smaller type."""
+    room = np.iinfo(kind)
+    if len(whole) and not room.min <= whole.min() <= whole.max() <= room.max:
+        raise BadInstance(f"{path}: a whole number is not from {room.min} to {room.max}")
+    return whole.astype(kind)
 
 
 def _first_line(error: Exception) -> str:
@@ -201,14 +242,15 @@ def _opened(path: str) -> BinaryIO:
         raise BadInstance(f"cannot open {path}: {error.strerror}") from None
 
 
-def _rounded(values: np.ndarray, path: str) -> np.ndarray:
+def _rounded(values: np.ndarray, path: str, decimals: int) -> np.ndarray:
     """The floats nearest to the decimals that stand there; a fast reader may be off by a bit."""
-    for decimals in (6, 3, 2):
-        try:
-            return spelling.nearest(values, decimals)
-        except OverflowError as error:
-            told = error
-    raise BadInstance(f"{path}: {told} cannot be held")
+    try:
+        found, is_finer = spelling.nearest(values, decimals)
+    except spelling.NotHeld as error:
+        raise BadInstance(f"{path}: {error} cannot be held") from None
+    if is_finer.any():
+        raise BadInstance(f"{path}: {values[is_finer][0]!r} has more than {decimals} decimals")
+    return found
 
 
 def read_blocks(path: str) -> Blocks:
@@ -216,21 +258,18 @@ def read_blocks(path: str) -> Blocks:
 
     Raises BadInstance where a line has other fields or identifiers are not 0, 1, 2, ..
     """
-    types = dict.fromkeys(range(7), np.int32) | {4: float, 5: float}
+    kinds: list[_Kind] = [np.int32, np.int32, np.int32, np.int32, 3, 6, np.int32]
     parts: list[list[np.ndarray]] = []
     count = 0
     with _opened(path) as file:
         for piece in _pieces(file):
             if not piece.strip():
                 continue
-            if len(_first(piece).split()) != 7:
-                raise BadInstance(f"{path}: no line of a block file: {_shown(piece)}")
-            table = _table(piece, path, types)
-            if not np.array_equal(table[0], np.arange(count, count + len(table))):
+            ids, *columns = _table(piece, path, "a block file", kinds)
+            if not np.array_equal(ids, np.arange(count, count + len(ids))):
                 raise BadInstance(f"{path}: no line of a block file: identifiers are not 0, 1, 2, ..")
-            count += len(table)
-            columns = [table[column].to_numpy() for column in range(1, 7)]
-            parts.append([_rounded(column, path) if column.dtype == float else column for column in columns])
+            count += len(ids)
+            parts.append(columns)
     if not parts:
         raise BadInstance(f"{path}: there are no blocks")
     x, y, z, tonnes, grade, zone = (np.concatenate(column) for column in zip(*parts))
@@ -376,23 +415,32 @@ class _Model:
 
     def number(self, key: str) -> float:
         try:
-            return float(self.header[key])
+            number = np.array([float(self.header[key])])
         except (KeyError, ValueError):
             raise BadInstance(f"{self.path}: no number behind {key}") from None
+        return float(_rounded(number, self.path, 6)[0])
 
     def count(self, key: str) -> int:
-        return int(self.number(key))
+        number = self.number(key)
+        if number % 1 or number < 0:
+            raise BadInstance(f"{self.path}: {key} is no count: {self.header[key]}")
+        return int(number)
+
+    def name(self) -> str:
+        """Its NAME. Raises BadInstance where it has none, or one that is none."""
+        name = self.header.get("NAME", "")
+        if not re.fullmatch(r"[A-Za-z0-9_.-]{1,64}", name, re.ASCII):
+            raise BadInstance(f"{self.path}: NAME is `{name[:64]}`, and has 1 to 64 letters, digits, `_`, "
+                              "`-` and `.`")
+        return name
 
 
 def _objective_part(model: _Model, piece: bytes, destinations: int, done: int) -> np.ndarray:
-    types = {0: np.int32, **dict.fromkeys(range(1, destinations + 1), float)}
-    if len(_first(piece).split()) != destinations + 1:
-        raise BadInstance(f"{model.path}: no values of these blocks at {destinations} destinations: "
-                          f"{_shown(piece)}")
-    table = _table(piece, model.path, types)
-    if not np.array_equal(table[0], np.arange(done, done + len(table))):
+    kinds: list[_Kind] = [np.int32, *[6] * destinations]
+    ids, *values = _table(piece, model.path, "the objective", kinds)
+    if not np.array_equal(ids, np.arange(done, done + len(ids))):
         raise BadInstance(f"{model.path}: the objective's blocks are not 0, 1, 2, ..")
-    return _rounded(table[list(range(1, destinations + 1))].to_numpy(), model.path)
+    return np.stack(values, axis=1)
 
 
 @dataclass(frozen=True)
@@ -420,11 +468,9 @@ def _lines_in(model: "_Model", piece: bytes, fields: int) -> int:
 
 
 def _uses_part(model: _Model, piece: bytes, fields: int) -> list[np.ndarray]:
-    whole = [np.int32, np.int8, np.int8] if fields == 4 else [np.int32, np.int8]
-    table = _table(piece, model.path, dict(enumerate([*whole, float])))
-    columns = [table[at].to_numpy() for at in range(fields)]
-    columns[-1] = _rounded(columns[-1], model.path)
-    return columns if fields == 4 else [columns[0], np.zeros(len(table), np.int8), *columns[1:]]
+    destination: list[_Kind] = [np.int8] * (fields - 3)
+    columns = _table(piece, model.path, "coefficients", [np.int32, *destination, np.int8, 6])
+    return columns if fields == 4 else [columns[0], np.zeros(len(columns[0]), np.int8), *columns[1:]]
 
 
 def _limits_of(model: _Model, pieces: Iterable[bytes]) -> list[Limit]:
@@ -435,17 +481,13 @@ def _limits_of(model: _Model, pieces: Iterable[bytes]) -> list[Limit]:
             continue
         try:
             resource, period, letter = int(fields[0]), int(fields[1]), fields[2]
-            ends = list(map(float, fields[3:]))
+            ends = _rounded(np.array(fields[3:], dtype=float), model.path, 6).tolist()
         except (ValueError, IndexError):
             raise BadInstance(f"{model.path}: no limit: `{line}`") from None
         if len(ends) != {"L": 1, "G": 1, "I": 2}.get(letter):
             raise BadInstance(f"{model.path}: no limit: `{line}`")
         limits.append(Limit.of(resource, period, letter, ends))
     return limits
-
-
-def _values_decimals(values: np.ndarray) -> int:
-    return 2 if spelling.fewest_decimals(values, (2, 6)) == 2 else 6
 
 
 def _read_model(path: str, kind: str, take_uses=_uses_part):
@@ -478,7 +520,7 @@ def _read_model(path: str, kind: str, take_uses=_uses_part):
 def read_upit(path: str) -> UltimatePit:
     """A UPIT file. Raises BadInstance where it is none."""
     model, values, _, _ = _read_model(path, "UPIT")
-    return UltimatePit(model.header["NAME"], values[:, 0])
+    return UltimatePit(model.name(), values[:, 0])
 
 
 def read_problem(path: str, kind: Optional[str] = None) -> Problem:
@@ -492,7 +534,7 @@ def read_problem(path: str, kind: Optional[str] = None) -> Problem:
     model, values, uses, limits = _read_model(path, kind)
     columns = [np.concatenate(part) for part in zip(*uses)] if uses else \
         [np.empty(0, np.int32), np.empty(0, np.int8), np.empty(0, np.int8), np.empty(0)]
-    problem = Problem(kind, model.header["NAME"], model.count("NPERIODS"),
+    problem = Problem(kind, model.name(), model.count("NPERIODS"),
                       model.count("NRESOURCE_SIDE_CONSTRAINTS"), model.number("DISCOUNT_RATE"),
                       values, Uses(*columns), _limits_of(model, limits))
     _look_at_ranges(problem, path)
@@ -528,16 +570,17 @@ def read_instance(base: str, texts: Sequence[str] = TEXTS, precedence: Optional[
 
     Raises BadInstance where a file is none, or they are of other numbers of blocks.
     """
-    readers = {"blocks": read_blocks, "prec": read_precedence, "upit": read_upit,
-               "pcpsp": lambda path: read_problem(path, "PCPSP"),
-               "cpit": lambda path: read_problem(path, "CPIT")}
-    parts = {}
+    readers: dict[str, Callable[[str], Any]] = {
+        "blocks": read_blocks, "prec": read_precedence, "upit": read_upit,
+        "pcpsp": lambda path: read_problem(path, "PCPSP"),
+        "cpit": lambda path: read_problem(path, "CPIT")}
+    parts: dict[str, Any] = {}
     for text in texts:
         path = precedence if text == "prec" and precedence is not None else f"{base}.{text}"
         if text in ("upit", "cpit") and not os.path.exists(path):
             continue
         parts["precedence" if text == "prec" else text] = readers[text](path)
-    sizes = {"blocks": lambda part: len(part), "precedence": lambda part: part.shape[0]}
+    sizes: dict[str, Callable[[Any], int]] = {"blocks": len, "precedence": lambda part: part.shape[0]}
     counts = {name: sizes.get(name, lambda part: len(part.values))(part) for name, part in parts.items()}
     if len(set(counts.values())) > 1:
         told = ", ".join(f"{name} {count}" for name, count in counts.items())
@@ -597,16 +640,12 @@ def write_problem(problem: Problem, path: str, end: bytes = b"") -> None:
 
 
 def _objective_lines(values: np.ndarray) -> Iterator[bytes]:
-    decimals = _values_decimals(values)
-    columns = [(spelling.scaled(column, decimals), decimals) for column in values.T]
-    return spelling.lines_of([(np.arange(len(values)), 0), *columns])
+    return spelling.lines_of_values([np.arange(len(values))], list(values.T), (2, 6))
 
 
 def _uses_lines(uses: Uses, with_destination: bool) -> Iterator[bytes]:
-    decimals = spelling.fewest_decimals(uses.amount, (3, 6))
-    destination = [(uses.destination, 0)] if with_destination else []
-    return spelling.lines_of([(uses.block, 0), *destination, (uses.resource, 0),
-                             (spelling.scaled(uses.amount, decimals), decimals)])
+    whole = [uses.block, *([uses.destination] if with_destination else []), uses.resource]
+    return spelling.lines_of_values(whole, [uses.amount], (3, 6))
 
 
 def _write(path: str, kind: str, pieces: Iterable[bytes]) -> None:

@@ -1,10 +1,10 @@
 """Files as the MineLib library publishes them, to an instance as `pitc` writes it, and back.
 
-The library's files are known here by hearsay alone: none was tried. What is taken to be theirs: comments
-from `%` on; a last line `EOF`; block files with fields of each mine's own behind the coordinates, words
-among them; precedence lines only for some blocks, and predecessors with smaller identifiers; header keys
-and sections in any order and case; exponents; a second number behind a limit `L` or `G`, and infinite
-ones; and not all of UPIT, CPIT and PCPSP.
+The library's files are known here by hearsay alone: none was tried. What is taken to be theirs:
+comments from `%` on; a last line `EOF`; block files with fields of each mine's own behind the
+coordinates, words among them; precedence lines only for some blocks, and predecessors with smaller
+identifiers; header keys and sections in any order and case; exponents; a second number behind a
+limit `L` or `G`, and infinite ones; and not all of UPIT, CPIT and PCPSP.
 """
 from __future__ import annotations
 
@@ -28,8 +28,8 @@ MOST_BLOCKS, MOST_INDEX, MOST_AMOUNT, MOST_ZONE = 64_000_000, 9999, 1_000_000, 6
 
 @dataclass(frozen=True)
 class Columns:
-    """Which fields of a block line are what, counted from 1; 0 stands for none. A block's identifier and
-    coordinates are fields 1 to 4, and other fields are skipped."""
+    """Which fields of a block line are what, counted from 1; 0 stands for none. A block's
+    identifier and coordinates are fields 1 to 4, and other fields are skipped."""
 
     tonnes: int = 0
     grade: int = 0
@@ -61,8 +61,9 @@ class _Blocks:
         whole = [whole_of(piece, numbers[0], "the identifier", 0, MOST_BLOCKS)]
         whole += [whole_of(piece, numbers[at], f"the index {name}", -2**31)
                   for at, name in enumerate("xyz", 1)]
-        own = {"tonnes": np.zeros(numbers.shape[1]), "grade": np.zeros(numbers.shape[1]),
-               "zone": np.zeros(numbers.shape[1], np.int32)}
+        own: dict[str, np.ndarray] = {
+            "tonnes": np.zeros(numbers.shape[1]), "grade": np.zeros(numbers.shape[1]),
+            "zone": np.zeros(numbers.shape[1], np.int32)}
         for name, column in zip(self.names, numbers[4:]):
             own[name] = self._own(piece, name, column)
         self.parts.append([*whole, *own.values()])
@@ -81,11 +82,12 @@ class _Blocks:
     def _tell_fields(self, piece: Piece) -> None:
         """Tells which fields are left out, by those of the first line."""
         cells = piece.line_of(0)[1].split()
-        left = [f"{at} (`{cell[:20]}`)" for at, cell in enumerate(cells, 1) if at - 1 not in self.fields]
+        left = [f"{at} (`{cell[:20]}`)" for at, cell in enumerate(cells, 1)
+                if at - 1 not in self.fields]
         if left:
             more = f" and {len(left) - 12} more" if len(left) > 12 else ""
-            self.told.tell(f"{os.path.basename(self.path)}: fields that were left out, as the first line "
-                           f"has them: {', '.join(left[:12])}{more}")
+            self.told.tell(f"{os.path.basename(self.path)}: fields that were left out, as the "
+                           f"first line has them: {', '.join(left[:12])}{more}")
         for name in ("tonnes", "grade"):
             if name not in self.names:
                 self.told.tell(f"no field was named for {name}: --{name} N; it is 0 for all blocks")
@@ -105,7 +107,8 @@ class _Blocks:
             steps = np.flatnonzero(np.diff(ids[order]) != 1)
             if len(steps):
                 refuse_row(pieces_of(self.path), int(order[steps[0] + 1]),
-                           f"identifiers are not consecutive: {ids[order[steps[0]]]} is the one before")
+                           f"identifiers are not consecutive: {ids[order[steps[0]]]} is the one "
+                           "before")
             columns = [column[order] for column in columns]
         for name, rounding in self.roundings.items():
             rounding.tell(pieces_of(self.path), f"{name} were", self.told)
@@ -119,16 +122,16 @@ class _Blocks:
             self.told.tell(f"{name} was moved by {-least}, since indices count from 0")
             index, most = index - np.int32(least), most - least
         if most > MOST_INDEX:
-            raise UserError(f"{self.path}: {name} goes to {most}, and indices to {MOST_INDEX}: are these "
-                            "metres?")
+            raise UserError(f"{self.path}: {name} goes to {most}, and indices to {MOST_INDEX}: are "
+                            "these metres?")
         return index
 
 
 def read_blocks(path: str, columns: Columns, told: Told) -> tuple[Blocks, int]:
     """The blocks in order of identifier, and the first identifier, 0 or 1.
 
-    Raises UserError, with the line, where identifiers are not consecutive, coordinates are no indices,
-    a named field is lacking, or it is none that `pitc check` takes.
+    Raises UserError, with the line, where identifiers are not consecutive, coordinates are no
+    indices, a named field is lacking, or it is none that `pitc check` takes.
     """
     reader = _Blocks(path, columns, told)
     for piece in pieces_of(path):
@@ -146,14 +149,15 @@ def _arcs_of(piece: Piece) -> tuple[np.ndarray, np.ndarray, np.ndarray]:
     starts = np.cumsum(lengths) - lengths
     if len(fields) != lengths.sum() or lengths.min() < 2:
         for row, (_, line) in enumerate(piece.lines()):
-            if len(line.split()) < 2 or not all(cell.lstrip("+-").isdecimal() for cell in line.split()):
+            cells = line.split()
+            if len(cells) < 2 or not all(cell.lstrip("+-").isdecimal() for cell in cells):
                 piece.refuse(row, "no line `id k p1 .. pk`")
         raise UserError(f"{piece.path}: lines from {piece.first} on cannot be read")
     is_wrong = fields[starts + 1] != lengths - 2
     if is_wrong.any():
         row = int(is_wrong.argmax())
-        piece.refuse(row, f"{lengths[row] - 2} predecessors stand in a line `id k p1 .. pk`, and k is "
-                          f"{fields[starts[row] + 1]}")
+        piece.refuse(row, f"{lengths[row] - 2} predecessors stand in a line `id k p1 .. pk`, and k "
+                          f"is {fields[starts[row] + 1]}")
     is_predecessor = np.ones(len(fields), dtype=bool)
     is_predecessor[starts] = is_predecessor[starts + 1] = False
     return fields[starts], lengths - 2, fields[is_predecessor]
@@ -172,13 +176,16 @@ def read_precedence(path: str, blocks: int, first: int, told: Told) -> sparse.cs
             is_wrong = (column < first) | (column >= first + blocks)
             if is_wrong.any():
                 at = int(is_wrong.argmax())
-                row = at if column is ids else int(np.searchsorted(np.cumsum(count), at, side="right"))
-                piece.refuse(row, f"{what} {column[at]} is not one of the {blocks} of the block file")
+                row = at if column is ids else \
+                    int(np.searchsorted(np.cumsum(count), at, side="right"))
+                piece.refuse(row, f"{what} {column[at]} is not one of the {blocks} of the block "
+                                  "file")
         rows.append((ids - first).astype(np.int32))
         counts.append(count.astype(np.int32))
         above.append((predecessors - first).astype(np.int32))
         done += len(ids)
-    lines = [np.concatenate(part) if part else np.empty(0, np.int32) for part in (rows, counts, above)]
+    lines = [np.concatenate(part) if part else np.empty(0, np.int32)
+             for part in (rows, counts, above)]
     if done < blocks:
         told.tell(f"{blocks - done} blocks had no line in the precedence file, and wait for none")
     return _matrix_of(path, blocks, *lines)
@@ -223,7 +230,8 @@ def _cpit_of(pcpsp: Problem) -> Problem:
     best = pcpsp.values.argmax(axis=1)
     uses = pcpsp.uses
     taken = uses.destination == best[uses.block]
-    kept = Uses(uses.block[taken], np.zeros(taken.sum(), np.int8), uses.resource[taken], uses.amount[taken])
+    kept = Uses(uses.block[taken], np.zeros(taken.sum(), np.int8), uses.resource[taken],
+                uses.amount[taken])
     return replace(pcpsp, kind="CPIT", values=pcpsp.values.max(axis=1)[:, None], uses=kept)
 
 
@@ -267,7 +275,8 @@ def read_published(files: dict[str, str], columns: Columns = Columns(), order: O
     mine = _completed(Instance(blocks, precedence, upit, *problems), told)
     for part in (mine.upit, mine.cpit, mine.pcpsp):
         if part is not None and len(part.values) != len(blocks):
-            raise UserError(f"a model file has {len(part.values)} blocks, and the block file {len(blocks)}")
+            raise UserError(f"a model file has {len(part.values)} blocks, and the block file "
+                            f"{len(blocks)}")
     return _in_order(mine, first, told)
 
 
@@ -294,11 +303,12 @@ def _look_at_heights(mine: Instance, told: Told) -> None:
 
 
 def _in_fields(uses: Uses, order: str) -> Uses:
-    """The uses with what stands first, second and third in the order of fields in its own places, so
-    that they are written in that order."""
+    """The uses with what stands first, second and third in the order of fields in its own places,
+    so that they are written in that order."""
     columns = {"b": uses.block, "d": uses.destination, "r": uses.resource}
     rank = np.lexsort([columns[letter] for letter in reversed(order)])
-    return Uses(*(columns[letter][rank] for letter in order), amount=uses.amount[rank])
+    first, second, third = (columns[letter][rank] for letter in order)
+    return Uses(first, second, third, uses.amount[rank])
 
 
 def _with_fields(problem: Optional[Problem], order: str) -> Optional[Problem]:
@@ -312,5 +322,6 @@ def _with_fields(problem: Optional[Problem], order: str) -> Optional[Problem]:
 def write_published(mine: Instance, base: str, order: str = "bdr", with_end: bool = True) -> None:
     """Writes an instance as the library's files are remembered: `EOF` behind each model, and
     coefficients in an order of their fields, one of published_models.ORDERS."""
-    swapped = replace(mine, pcpsp=_with_fields(mine.pcpsp, order), cpit=_with_fields(mine.cpit, order))
+    swapped = replace(mine, pcpsp=_with_fields(mine.pcpsp, order),
+                      cpit=_with_fields(mine.cpit, order))
     write_instance(swapped, base, b"EOF\n" if with_end else b"")

@@ -42,6 +42,8 @@ KINDS = {
     "model": rb"(%|NAME:)",
     "arrays": rb"PK\x03\x04.{26}block_",
     "pit": rb"\d+\r?\n",
+    "identifiers": rb"\d+ \d+\r?\n",
+    "lines of blocks": rb"\d+( [0-9.]+)*\r?\n",
     "schedule": rb"\d+ \d+( [0-9.]+){0,2}\r?\n",
     "program": rb"\\ ",
     "flow": rb"p max ",

@@ -9,7 +9,7 @@ relaxations have no x. A UPIT has one variable a block, x_b, which is 0 or 1 by 
 from __future__ import annotations
 
 from dataclasses import dataclass
-from typing import Iterator, Optional, TextIO
+from typing import Iterable, Iterator, Optional, Sequence, TextIO, Union
 
 import numpy as np
 from scipy import optimize, sparse
@@ -18,6 +18,11 @@ from pit_tools.errors import UserError
 from pit_tools.instance import Problem, UltimatePit
 from pit_tools.schedules import Schedule, schedule_of_shares
 from pit_tools.spelling import shortest
+
+
+#: What rows say: what is mined by the end of a period, of a block and of one that it waits for; what is
+#: mined in a period; what goes to destinations; the limits, in their order; and that a block is mined once.
+ENDS, ARCS, PERIODS, SHARES, LIMITS, ONCE = ROWS = ("ends", "arcs", "periods", "shares", "limits", "once")
 
 
 @dataclass(frozen=True)
@@ -31,42 +36,57 @@ class Program:
     upper: np.ndarray  #: (rows,), may be inf
     whole: np.ndarray  #: bool (variables,)
     names: "Names"
+    kinds: np.ndarray  #: what each row says, by its place in ROWS, int8 (rows,)
+
+    def rows_of(self, kind: str) -> np.ndarray:
+        """The rows of a kind, one of ROWS; those of `limits` stand in the order of the problem's limits.
+
+        Raises ValueError where it is none.
+        """
+        return np.flatnonzero(self.kinds == ROWS.index(kind))
 
 
 class Names:
     """The names and places of variables: x12; or w12_3 of block 12 by the end of period 3, x12_3 of block 12 in
     period 3, and y12_1_3 of its share at destination 1 in period 3."""
 
-    def __init__(self, blocks: int, periods: int = 0, destinations: int = 0, has_x: bool = False, has_w: bool = True):
-        self.blocks, self.periods, self.destinations, self.has_x, self.has_w = blocks, periods, destinations, has_x, has_w
+    def __init__(self, blocks: int, periods: int = 0, destinations: int = 0, has_x: bool = False,
+                 has_w: bool = True):
+        self.blocks, self.periods, self.destinations = blocks, periods, destinations
+        self.has_x, self.has_w = has_x, has_w
 
     @property
     def first_x(self) -> int:
+        """The place of the first x."""
         return self.blocks * self.periods if self.has_w else 0
 
     @property
     def first_y(self) -> int:
+        """The place of the first y."""
         return self.first_x + (self.blocks * self.periods if self.has_x else 0)
 
     @property
     def count(self) -> int:
+        """How many variables there are."""
         return self.first_y + self.blocks * self.destinations * self.periods
 
-    def y(self, block: np.ndarray, destination, period: int) -> np.ndarray:
+    def y(self, block: np.ndarray, destination: Union[int, np.ndarray], period: int) -> np.ndarray:
         """The places of shares."""
         return self.first_y + (block * self.destinations + destination) * self.periods + period
 
-    def mined(self, block: np.ndarray, period: int) -> list[tuple[np.ndarray, float]]:
+    def mined(self, block: np.ndarray, period: int) -> "list[tuple[np.ndarray, float]]":
         """The places of what makes up what is mined of blocks in a period, with their signs."""
         at = block.astype(np.int64) * self.periods + period
         if self.has_x:
             return [(self.first_x + at, 1.0)]
         return [(at, 1.0), (at - 1, -1.0)] if period else [(at, 1.0)]
 
-    def list(self) -> list[str]:
+    def list(self) -> "list[str]":
+        """The names of all variables, by their places."""
         if not self.periods:
             return [f"x{block}" for block in range(self.blocks)]
-        names = [f"{letter}{block}_{period}" for letter in "w" * self.has_w + "x" * self.has_x
+        letters = "w" * self.has_w + "x" * self.has_x
+        names = [f"{letter}{block}_{period}" for letter in letters
                  for block in range(self.blocks) for period in range(self.periods)]
         return names + [f"y{block}_{destination}_{period}" for block in range(self.blocks)
                         for destination in range(self.destinations) for period in range(self.periods)]
@@ -79,7 +99,7 @@ def program_of_upit(upit: UltimatePit, precedence: sparse.csr_matrix) -> Program
     rows = sparse.csr_matrix((np.tile([1.0, -1.0], count), (np.repeat(np.arange(count), 2),
                               np.stack([arcs.row, arcs.col], axis=1).ravel())), shape=(count, n))
     return Program(f"the ultimate pit of {upit.name}", upit.values.astype(float), rows, np.full(count, -np.inf), np.zeros(count),
-                   np.zeros(n, dtype=bool), Names(n))
+                   np.zeros(n, dtype=bool), Names(n), np.full(count, ROWS.index(ARCS), np.int8))
 
 
 class _Builder:
@@ -90,16 +110,21 @@ class _Builder:
         self.parts: list[tuple[np.ndarray, np.ndarray, np.ndarray]] = []
         self.lower: list[np.ndarray] = []
         self.upper: list[np.ndarray] = []
+        self.kinds: list[np.ndarray] = []
 
-    def add(self, rows: int, entries: list[tuple[np.ndarray, np.ndarray, np.ndarray]], lower: np.ndarray, upper: np.ndarray) -> None:
-        """Adds so many rows; the entries' rows count from the first of these."""
+    def add(self, kind: str, rows: int, entries: Sequence[tuple[np.ndarray, np.ndarray, np.ndarray]],
+            lower: float, upper: float) -> None:
+        """Adds so many rows of a kind; the entries' rows count from the first of these."""
+        self.kinds.append(np.full(rows, ROWS.index(kind), np.int8))
         self.parts += [(row + self.count, variable, factor) for row, variable, factor in entries]
-        self.lower.append(np.broadcast_to(lower, rows))
-        self.upper.append(np.broadcast_to(upper, rows))
+        self.lower.append(np.full(rows, lower))
+        self.upper.append(np.full(rows, upper))
         self.count += rows
 
     def matrix(self) -> sparse.csr_matrix:
-        row, variable, factor = (np.concatenate(part) for part in zip(*self.parts)) if self.parts else (np.empty(0, int),) * 3
+        """All rows, (rows, variables)."""
+        row, variable, factor = (np.concatenate(part) for part in zip(*self.parts)) if self.parts \
+            else (np.empty(0, int),) * 3
         return sparse.csr_matrix((factor.astype(float), (row, variable)), shape=(self.count, self.variables))
 
 
@@ -129,7 +154,7 @@ def program_of(problem: Problem, precedence: sparse.csr_matrix, relaxed: bool = 
     is_whole[names.first_y:] = whole_blocks and not relaxed
     what = "the relaxed schedule" if relaxed else "the best schedule"
     return Program(f"{what} of {problem.name}, a {problem.kind}", objective, builder.matrix(), np.concatenate(builder.lower),
-                   np.concatenate(builder.upper), is_whole, names)
+                   np.concatenate(builder.upper), is_whole, names, np.concatenate(builder.kinds))
 
 
 def _add_periods(builder: _Builder, names: Names) -> None:
@@ -139,7 +164,7 @@ def _add_periods(builder: _Builder, names: Names) -> None:
         at = every * names.periods + period
         entries = [(every, at, np.ones(len(every))), (every, names.first_x + at, -np.ones(len(every)))]
         entries += [(every, at - 1, -np.ones(len(every)))] if period else []
-        builder.add(names.blocks, entries, np.array(0.0), np.array(0.0))
+        builder.add(PERIODS, names.blocks, entries, 0.0, 0.0)
 
 
 def _add_ends(builder: _Builder, blocks: int, periods: int) -> None:
@@ -147,25 +172,30 @@ def _add_ends(builder: _Builder, blocks: int, periods: int) -> None:
     count = blocks * (periods - 1)
     first = (np.arange(blocks)[:, None] * periods + np.arange(periods - 1)).ravel()
     rows = np.arange(count)
-    builder.add(count, [(rows, first, np.ones(count)), (rows, first + 1, -np.ones(count))], np.array(-np.inf), np.array(0.0))
+    entries = [(rows, first, np.ones(count)), (rows, first + 1, -np.ones(count))]
+    builder.add(ENDS, count, entries, -np.inf, 0.0)
 
 
 def _add_arcs(builder: _Builder, precedence: sparse.csr_matrix, periods: int) -> None:
     """By the end of each period no more of a block is mined than of a predecessor."""
     arcs = precedence.tocoo()
     count = precedence.nnz * periods
-    lower, upper = ((part.astype(np.int64)[:, None] * periods + np.arange(periods)).ravel() for part in (arcs.row, arcs.col))
+    lower, upper = ((part.astype(np.int64)[:, None] * periods + np.arange(periods)).ravel()
+                    for part in (arcs.row, arcs.col))
     rows = np.arange(count)
-    builder.add(count, [(rows, lower, np.ones(count)), (rows, upper, -np.ones(count))], np.array(-np.inf), np.array(0.0))
+    entries = [(rows, lower, np.ones(count)), (rows, upper, -np.ones(count))]
+    builder.add(ARCS, count, entries, -np.inf, 0.0)
 
 
 def _add_shares(builder: _Builder, names: Names) -> None:
     """The shares at all destinations are what is mined in the period."""
     every = np.arange(names.blocks)
     for period in range(names.periods):
-        entries = [(every, names.y(every, at, period), np.ones(len(every))) for at in range(names.destinations)]
-        entries += [(every, variable, np.full(len(every), -sign)) for variable, sign in names.mined(every, period)]
-        builder.add(names.blocks, entries, np.array(0.0), np.array(0.0))
+        entries = [(every, names.y(every, at, period), np.ones(len(every)))
+                   for at in range(names.destinations)]
+        entries += [(every, variable, np.full(len(every), -sign))
+                    for variable, sign in names.mined(every, period)]
+        builder.add(SHARES, names.blocks, entries, 0.0, 0.0)
 
 
 def _add_limits(builder: _Builder, problem: Problem, names: Names) -> None:
@@ -177,28 +207,34 @@ def _add_limits(builder: _Builder, problem: Problem, names: Names) -> None:
         if names.destinations:
             entries = [(row, names.y(block, uses.destination[taken], limit.period), amount)]
         else:
-            entries = [(row, variable, sign * amount) for variable, sign in names.mined(block, limit.period)]
-        builder.add(1, entries, np.array(limit.least), np.array(limit.most))
+            entries = [(row, variable, sign * amount)
+                       for variable, sign in names.mined(block, limit.period)]
+        builder.add(LIMITS, 1, entries, limit.least, limit.most)
 
 
 def by_period(program: Program) -> Program:
-    """The same program without w, each being the sum of x up to its period: longer rows, of which some solvers,
-    as cbc, make better cuts. A program without x stays as it is."""
+    """The same program without w, each being the sum of x up to its period: longer rows, of which some
+    solvers, as cbc, make better cuts. A program without x stays as it is."""
     names = program.names
     if not names.has_x:
         return program
-    ends = sparse.kron(sparse.identity(names.blocks), np.tril(np.ones((names.periods, names.periods)))).tocsr()
+    triangle = np.tril(np.ones((names.periods, names.periods)))
+    ends = sparse.kron(sparse.identity(names.blocks), triangle).tocsr()
     rows = program.rows.tocsc()
-    left = sparse.hstack([rows[:, :names.first_x] @ ends + rows[:, names.first_x:names.first_y], rows[:, names.first_y:]]).tocsr()
+    x = slice(names.first_x, names.first_y)
+    left = sparse.hstack([rows[:, :names.first_x] @ ends + rows[:, x], rows[:, names.first_y:]]).tocsr()
     left.eliminate_zeros()
-    is_used = np.diff(left.indptr) > 0
     last = ends[names.periods - 1::names.periods]
-    once = sparse.hstack([last, sparse.csr_matrix((names.blocks, program.rows.shape[1] - names.first_y))]).tocsr()
-    short = Names(names.blocks, names.periods, names.destinations, has_x=True, has_w=False)
-    kept = is_used | (program.lower > 0) | (program.upper < 0)
-    return Program(program.title, program.objective[names.first_x:], sparse.vstack([left[kept], once]).tocsr(),
+    no_y = sparse.csr_matrix((names.blocks, program.rows.shape[1] - names.first_y))
+    once = sparse.hstack([last, no_y]).tocsr()
+    kept = (np.diff(left.indptr) > 0) | (program.lower > 0) | (program.upper < 0)
+    return Program(program.title, program.objective[names.first_x:],
+                   sparse.vstack([left[kept], once]).tocsr(),
                    np.concatenate([program.lower[kept], np.full(names.blocks, -np.inf)]),
-                   np.concatenate([program.upper[kept], np.ones(names.blocks)]), program.whole[names.first_x:], short)
+                   np.concatenate([program.upper[kept], np.ones(names.blocks)]),
+                   program.whole[names.first_x:],
+                   Names(names.blocks, names.periods, names.destinations, has_x=True, has_w=False),
+                   np.append(program.kinds[kept], np.full(names.blocks, ROWS.index(ONCE), np.int8)))
 
 
 # As a text
@@ -230,7 +266,7 @@ def _term(factor: float, name: str, decimals: int = 9) -> str:
     return f"{sign} {name}" if size == 1 else f"{sign} {shortest(size, decimals)} {name}"
 
 
-def _lines(terms, width: int = 8) -> Iterator[str]:
+def _lines(terms: Iterable[str], width: int = 8) -> Iterator[str]:
     """Terms in lines that are not too long for readers of lines."""
     line: list[str] = []
     for term in terms:

@@ -1,7 +1,7 @@
 """Lines of files as other programs write them: some megabytes at a time, each with its number.
 
-A byte order mark, CR, comments from `%` on and a last line `EOF` are dropped, and a comma is a blank.
-What is no number, or none that can be held, is refused with its line.
+A byte order mark, CR, comments from `%` on and a last line `EOF` are dropped, and a comma is a
+blank. What is no number, or none that can be held, is refused with its line.
 """
 from __future__ import annotations
 
@@ -10,20 +10,17 @@ import io
 import os
 import re
 from dataclasses import dataclass
-from typing import BinaryIO, Iterable, Iterator, Optional, Sequence
+from typing import BinaryIO, Iterable, Iterator, NoReturn, Optional, Sequence
 
 import numpy as np
 import pandas as pd
 
 from pit_tools.errors import UserError
-from pit_tools.spelling import EXACT
+from pit_tools.spelling import EXACT, FEWEST, NotHeld, nearest
 
 #: Bytes that are read at a time, and that a line may have.
 _PIECE = 1 << 22
 _LONGEST = 1 << 26
-
-#: Decimals of numbers that are too great for more.
-FEWEST = 2
 
 _COMMENT = re.compile(rb"%[^\n]*")
 _END = re.compile(rb"(?im)^[ \t]*eof[ \t]*$")
@@ -69,7 +66,7 @@ class Piece:
                 return line
         raise IndexError(row)
 
-    def refuse(self, row: int, told: str) -> None:
+    def refuse(self, row: int, told: str) -> NoReturn:
         """Raises UserError for a row, with its line."""
         number, text = self.line_of(row)
         raise UserError(f"{self.path}: line {number}: {told}: `{text[:60]}`")
@@ -89,7 +86,7 @@ def _piece_of(pieces: Iterable[Piece], row: int) -> tuple[Piece, int]:
     raise IndexError(row)
 
 
-def refuse_row(pieces: Iterable[Piece], row: int, told: str) -> None:
+def refuse_row(pieces: Iterable[Piece], row: int, told: str) -> NoReturn:
     """Raises UserError for a row of all these pieces, with its line."""
     piece, row = _piece_of(pieces, row)
     piece.refuse(row, told)
@@ -213,7 +210,8 @@ def whole_of(piece: Piece, numbers: np.ndarray, what: str, least: int = 0,
     is_wrong = (numbers != np.floor(numbers)) | (numbers < least) | (numbers > most)
     if is_wrong.any():
         row = int(is_wrong.argmax())
-        piece.refuse(row, f"{what} is {numbers[row]:.15g}, and no whole number from {least} to {most}")
+        piece.refuse(row, f"{what} is {numbers[row]:.15g}, and no whole number from {least} to "
+                          f"{most}")
     return numbers.astype(np.int32)
 
 
@@ -237,23 +235,17 @@ class Rounding:
 
         Raises UserError, with the line, where one is too great for them.
         """
-        multiples, scales = numbers * 10.0**self.decimals, np.array(10.0**self.decimals)
-        is_great = np.abs(multiples) >= EXACT
-        if is_great.any():
-            scales = np.where(is_great, 10.0**FEWEST, scales)
-            multiples = numbers * scales
-            is_wrong = np.abs(multiples) >= EXACT
-            if is_wrong.any():
-                piece.refuse(_first_row(is_wrong), f"{what} is too great to be held")
-        whole = np.rint(multiples)
-        # A reader may be off by two of the last places, and the product by one.
-        is_off = np.abs(multiples - whole) > 4 * np.spacing(np.abs(multiples))
+        try:
+            rounded, is_off = nearest(numbers, self.decimals)
+        except NotHeld:
+            is_wrong = np.abs(numbers) * 10**FEWEST >= EXACT
+            piece.refuse(_first_row(is_wrong), f"{what} is too great to be held")
         if is_off.any():
             if not self.count:
                 self.first = self.rows + _first_row(is_off)
             self.count += int(is_off.sum())
         self.rows += numbers.shape[-1]
-        return whole / scales
+        return rounded
 
     def tell(self, pieces: Iterable[Piece], what: str, told: Told) -> None:
         """Tells how many were rounded, where one was."""

@@ -113,8 +113,8 @@ class Model:
             number = np.nan
         if not least <= number <= most:
             percent = " (is it in percent?)" if key == "DISCOUNT_RATE" and number > 1 else ""
-            raise UserError(f"{self.path}: {key} is `{self.header[key]}`, and no number from {least} to "
-                            f"{most}{percent}")
+            raise UserError(f"{self.path}: {key} is `{self.header[key]}`, and no number from "
+                            f"{least} to {most}{percent}")
         return number
 
     def count(self, key: str, least: int, most: int, default: Optional[int] = None) -> int:
@@ -175,7 +175,8 @@ class _Values:
 
 
 class _Coefficients:
-    """The lines of coefficients as they come, and then the uses by (block, destination, resource)."""
+    """The lines of coefficients as they come, and then the uses by (block, destination,
+    resource)."""
 
     def __init__(self, model: Model):
         self.model = model
@@ -208,8 +209,9 @@ class _Coefficients:
         twice = np.flatnonzero(keys[1:] == keys[:-1])
         if len(twice):
             at = int(twice[0])
-            raise UserError(f"{self.model.path}: a coefficient stands twice: block {block[at] + first}, "
-                            f"destination {destination[at]}, resource {resource[at]}")
+            raise UserError(f"{self.model.path}: a coefficient stands twice: block "
+                            f"{block[at] + first}, destination {destination[at]}, resource "
+                            f"{resource[at]}")
         return Uses(block, destination.astype(np.int8), resource.astype(np.int8), amount)
 
     def _in_order(self, fields: list[np.ndarray], first: int, ends: tuple[int, int, int],
@@ -230,25 +232,28 @@ class _Coefficients:
             if any(not np.array_equal(column, columns[letter])
                    for letter, column in zip(other, fields)):
                 raise UserError(f"{self.model.path}: a coefficient's fields fit the orders "
-                                f"{' and '.join(fitting)}, which are other models: say which by --order")
+                                f"{' and '.join(fitting)}, which are other models: say which by "
+                                "--order")
         if not given and fitting[0] != orders[0]:
-            self.model.told.tell(f"{self.model.file_name}: fields of coefficients stand in the order "
-                                 f"{fitting[0]}, the only one that fits")
+            self.model.told.tell(f"{self.model.file_name}: fields of coefficients stand in the "
+                                 f"order {fitting[0]}, the only one that fits")
         destination = columns["d"] if with_d else np.zeros(len(fields[0]), np.int8)
         return [columns["b"] - np.int32(first), destination, columns["r"]]
 
-    def _refuse_outside(self, fields: list[np.ndarray], order: str, starts: dict, limits: dict) -> None:
+    def _refuse_outside(self, fields: list[np.ndarray], order: str, starts: dict[str, int],
+                        limits: dict[str, int]) -> None:
         names = {"b": "block", "d": "destination", "r": "resource"}
         for letter, column in zip(order, fields):
             is_wrong = (column < starts[letter]) | (column >= starts[letter] + limits[letter])
             if is_wrong.any():
                 row = int(is_wrong.argmax())
                 refuse_row(self.model.rows(COEFFICIENTS), row,
-                           f"in the order {order} of fields the {names[letter]} is {column[row]}, and "
-                           f"there are {limits[letter]}")
+                           f"in the order {order} of fields the {names[letter]} is {column[row]}, "
+                           f"and there are {limits[letter]}")
 
 
-def _limit_of(piece: Piece, row: int, line: str, model: Model, ends: tuple[int, int]) -> Optional[Limit]:
+def _limit_of(piece: Piece, row: int, line: str, model: Model,
+              ends: tuple[int, int]) -> Optional[Limit]:
     """The limit of a line, None where it sets none."""
     fields = line.split()
     try:
@@ -263,7 +268,8 @@ def _limit_of(piece: Piece, row: int, line: str, model: Model, ends: tuple[int, 
     if letter != "I" and len(numbers) == 2:
         model.told.tell(_told(model, piece, row, "the second number was left out"))
         numbers = numbers[:1]
-    least, most = (numbers[0] if letter in "GI" else -np.inf), (numbers[-1] if letter in "LI" else np.inf)
+    least = numbers[0] if letter in "GI" else -np.inf
+    most = numbers[-1] if letter in "LI" else np.inf
     if least > most or least == np.inf or most == -np.inf:
         piece.refuse(row, "no amount is within this limit")
     if least == -np.inf and most == np.inf:
@@ -309,7 +315,8 @@ class _Limits:
                 if limit is None:
                     continue
                 if (limit.resource, limit.period) in found:
-                    piece.refuse(row, f"resource {limit.resource} has two limits in period {limit.period}")
+                    piece.refuse(row, f"resource {limit.resource} has two limits in period "
+                                      f"{limit.period}")
                 found[limit.resource, limit.period] = self._rounded(limit, piece, row)
         return [found[key] for key in sorted(found)]
 
@@ -348,7 +355,8 @@ def _look_at_type(model: Model) -> None:
     if "TYPE" not in model.header:
         model.told.tell(f"{model.file_name}: no TYPE; it was read as a {model.kind}")
     elif model.header["TYPE"].upper() != model.kind:
-        raise UserError(f"{model.path}: TYPE is `{model.header['TYPE']}`, and it is given as a {model.kind}")
+        raise UserError(f"{model.path}: TYPE is `{model.header['TYPE']}`, and it is given as a "
+                        f"{model.kind}")
 
 
 def _look_at_general(model: Model, without_general: bool) -> None:
@@ -357,10 +365,10 @@ def _look_at_general(model: Model, without_general: bool) -> None:
         return
     if not without_general:
         raise UserError(
-            f"{model.path}: it has {count} general side constraints, which an instance of pitc has not: "
-            "--without-general leaves them out, and makes it another problem")
-    model.told.tell(f"{model.file_name}: {count} general side constraints and their {model.general} "
-                    "lines were left out")
+            f"{model.path}: it has {count} general side constraints, which an instance of pitc has "
+            "not: --without-general leaves them out, and makes it another problem")
+    model.told.tell(f"{model.file_name}: {count} general side constraints and their "
+                    f"{model.general} lines were left out")
 
 
 def read_upit(path: str, first: int, without_general: bool, told: Told) -> UltimatePit:
@@ -381,9 +389,9 @@ def read_problem(path: str, kind: str, first: int, order: Optional[str], without
     if destinations > MOST_DESTINATIONS:
         raise UserError(f"{path}: {destinations} destinations, and an instance has at most "
                         f"{MOST_DESTINATIONS}")
-    if kind == "PCPSP" and model.count("NDESTINATIONS", 1, MOST_DESTINATIONS, destinations) != destinations:
-        raise UserError(f"{path}: NDESTINATIONS is {model.header['NDESTINATIONS']}, and blocks have "
-                        f"{destinations} values")
+    given = model.count("NDESTINATIONS", 1, MOST_DESTINATIONS, destinations)
+    if kind == "PCPSP" and given != destinations:
+        raise UserError(f"{path}: NDESTINATIONS is {given}, and blocks have {destinations} values")
     periods = model.count("NPERIODS", 1, MOST_PERIODS)
     resources = model.count("NRESOURCE_SIDE_CONSTRAINTS", 0, MOST_RESOURCES)
     for section in (COEFFICIENTS, LIMITS):

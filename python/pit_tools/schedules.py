@@ -54,7 +54,8 @@ class Schedule:
         places, lines = np.unique(np.ravel_multi_index((self.block, self.period, self.destination), shape),
                                   return_inverse=True)
         shares = np.bincount(lines, self.share, len(places))
-        return (*np.unravel_index(places, shape), shares)
+        block, period, destination = np.unravel_index(places, shape)
+        return block, period, destination, shares
 
     def mined(self, blocks: int, periods: int) -> np.ndarray:
         """The share of each block that is mined in each period, (blocks, periods)."""

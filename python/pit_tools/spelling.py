@@ -9,6 +9,8 @@ from typing import Iterator, Optional, Sequence
 
 import numpy as np
 
+from pit_tools.errors import UserError
+
 _ZERO, _MINUS, _POINT, _BLANK, _LINE_END = b"0"[0], b"-"[0], b"."[0], b" "[0], b"\n"[0]
 
 #: Rows that are spelled at a time: some tens of megabytes.
@@ -17,30 +19,48 @@ _ROWS = 1 << 17
 #: The greatest whole number up to which each one has a float of its own.
 EXACT = 2**53
 
+#: Decimals of numbers that are too great for more.
+FEWEST = 2
+
+
+class NotHeld(UserError, OverflowError):
+    """A number that a float does not hold to its decimals."""
+
 
 def scaled(values: np.ndarray, decimals: int) -> np.ndarray:
     """The values as whole multiples of 10^-decimals, int64.
 
-    Raises OverflowError where one is too great for its decimals to be told apart as a float.
+    Raises NotHeld where one is infinite, NaN, or too great for its decimals to be told apart.
     """
     multiples = np.rint(np.asarray(values, dtype=float) * 10**decimals)
     if multiples.size and not np.abs(multiples).max() < EXACT:
-        raise OverflowError(f"a number above {EXACT // 10**decimals:,} with {decimals} decimals")
+        raise NotHeld(f"a number above {EXACT // 10**decimals:,} with {decimals} decimals")
     return multiples.astype(np.int64)
 
 
-def nearest(values: np.ndarray, decimals: int) -> np.ndarray:
-    """The floats that are nearest to these values' decimals, where a reader was off by a bit."""
-    return scaled(values, decimals) / 10**decimals
+def scales(values: np.ndarray, decimals: int) -> np.ndarray:
+    """10^decimals for each value, or 10^2 where it is too great for so many to be told apart.
+
+    Raises NotHeld where one is infinite, NaN, or too great for two.
+    """
+    is_great = ~(np.abs(values) * 10.0**decimals < EXACT)
+    if not is_great.any():
+        return np.full(np.shape(values), 10.0**decimals)
+    if not (np.abs(values[is_great]) * 10.0**FEWEST < EXACT).all():
+        raise NotHeld(f"a number above {EXACT // 10**FEWEST:,}, or one that is infinite or NaN,")
+    return np.where(is_great, 10.0**FEWEST, 10.0**decimals)
 
 
-def fewest_decimals(values: np.ndarray, choices: Sequence[int] = (0, 2, 3, 6)) -> int:
-    """The first of these numbers of decimals that holds all the values, else the last."""
-    for decimals in choices[:-1]:
-        multiples = np.asarray(values, dtype=float) * 10**decimals
-        if np.all(np.abs(multiples - np.rint(multiples)) <= 1e-9 * np.maximum(1, np.abs(multiples))):
-            return decimals
-    return choices[-1]
+def nearest(values: np.ndarray, decimals: int) -> tuple[np.ndarray, np.ndarray]:
+    """The floats that are nearest to these values' decimals, and which of the values had more of
+    them than they may have. A reader may be off by two of the last places.
+
+    Raises NotHeld as `scales` does.
+    """
+    of_each = scales(values, decimals)
+    multiples = values * of_each
+    whole = np.rint(multiples)
+    return whole / of_each, np.abs(multiples - whole) > 4 * np.spacing(np.abs(multiples))
 
 
 def _spelled(multiples: np.ndarray, decimals: int) -> tuple[np.ndarray, np.ndarray]:
@@ -69,7 +89,8 @@ def _spelled(multiples: np.ndarray, decimals: int) -> tuple[np.ndarray, np.ndarr
     return characters, kept
 
 
-def lines_of(columns: Sequence[tuple[np.ndarray, int]], ends: Optional[np.ndarray] = None) -> Iterator[bytes]:
+def lines_of(columns: Sequence[tuple[np.ndarray, int]],
+             ends: Optional[np.ndarray] = None) -> Iterator[bytes]:
     """Lines of n rows, their fields with one blank between, some hundred thousand rows a piece.
 
     A column is n whole numbers and how many decimals these count: (array([25]), 1) is 2.5. Where
@@ -83,6 +104,26 @@ def lines_of(columns: Sequence[tuple[np.ndarray, int]], ends: Optional[np.ndarra
             kept += [needed, np.ones((len(shown), 1), dtype=bool)]
         characters[-1][:, 0] = _LINE_END if ends is None else ends[at:at + _ROWS]
         yield np.concatenate(characters, axis=1)[np.concatenate(kept, axis=1)].tobytes()
+
+
+def lines_of_values(whole: Sequence[np.ndarray], values: Sequence[np.ndarray],
+                    choices: Sequence[int]) -> Iterator[bytes]:
+    """Lines of whole numbers and then of values, by the fewest of these decimals that hold them
+    all, or each value by its own where some are too great for that.
+
+    Raises NotHeld where one is infinite, NaN, or too great for two decimals.
+    """
+    decimals = next((choice for choice in choices[:-1] if not any(
+        nearest(column, choice)[1].any() for column in values)), choices[-1])
+    if all(np.abs(column).max(initial=0) * 10.0**decimals < EXACT for column in values):
+        yield from lines_of([*((column, 0) for column in whole),
+                             *((scaled(column, decimals), decimals) for column in values)])
+        return
+    places = [np.rint(np.log10(scales(column, decimals))).astype(int) for column in values]
+    for at in range(len(values[0])):
+        cells = [str(column[at]) for column in whole]
+        cells += [shortest(column[at], place[at]) for column, place in zip(values, places)]
+        yield (" ".join(cells) + "\n").encode()
 
 
 def shortest(value: float, decimals: int = 6) -> str:

@@ -203,7 +203,7 @@ def test_what_was_written_is_known_to_plan(tmp_path, capsys, monkeypatch):
     words = ["--x", "X", "--y", "Y", "--z", "Z", "--tonnes", "T", "--grade", "AU", "--zone", "ZONE", "--base", "out/from"]
     (tmp_path / "out").mkdir()
     assert main(["import", "a.csv", *words]) == 0
-    assert "grid,0,0,0,10,10,10\nzone,1,1,3\nzone,1,1,3\n" in capsys.readouterr().out
+    assert "grid,0,0,0,10,10,10\nzone,1,1,4\nzone,1,1,4\n" in capsys.readouterr().out
     assert main(["plan", "out/from.json", "--price", "58 USD/g", "--mill", "recovery 90 %, cost 15 USD/t", "--dump", "cost 2 USD/t",
                  "--slope", "45", "--out", "one.plan"]) == 0
     assert "out/from-west.csv out/from-east.csv" in capsys.readouterr().out

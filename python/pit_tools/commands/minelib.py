@@ -29,7 +29,7 @@ Outward each model ends with `EOF`; with --ids blocks stand in the published ord
 
 ENDINGS = ("blocks", "prec", "upit", "cpit", "pcpsp")
 
-WRITES = "texts of an instance"
+WRITES = "texts of an instance, identifiers and lines of blocks"
 
 
 def add_arguments(parser: argparse.ArgumentParser) -> None:
@@ -73,6 +73,7 @@ def run(args: argparse.Namespace) -> int:
 def _bring_in(args: argparse.Namespace, files: dict[str, str]) -> int:
     from dataclasses import replace
 
+    from pit_tools import outputs
     from pit_tools.closure import immediate
     from pit_tools.identifiers import write_identifiers
     from pit_tools.instance import write_instance
@@ -84,8 +85,9 @@ def _bring_in(args: argparse.Namespace, files: dict[str, str]) -> int:
     mine, identifiers = read_published(files, columns, args.order, args.without_general, told)
     if args.immediate:
         mine = replace(mine, precedence=immediate(mine.precedence))
-    write_instance(mine, args.out)
-    write_identifiers(identifiers, f"{args.out}.ids")
+    with outputs.together():
+        write_instance(mine, args.out)
+        write_identifiers(identifiers, f"{args.out}.ids")
     for line in told.lines:
         print(line)
     print(mine.counts())
@@ -118,10 +120,11 @@ def _publish(args: argparse.Namespace) -> int:
 
 
 def _rename(args: argparse.Namespace, path: str) -> int:
+    from pit_tools import outputs
     from pit_tools.identifiers import lines_renamed, read_identifiers
 
     lines = list(lines_renamed(path, read_identifiers(args.ids), bool(args.to_published)))
-    with open(args.out, "w", encoding="ascii") as file:
+    with outputs.opened(args.out, "lines of blocks", "ascii") as file:
         file.writelines(lines)
     print(f"{len(lines)} lines")
     return 0
