@@ -1,2 +1,3 @@
+pub mod Asked
 pub mod Opening
 pub mod Told

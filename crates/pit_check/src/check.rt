@@ -11,7 +11,6 @@ ghost use Rattle.pit_edge.specs.declared.refused.Refused.TheVariants.{Run};
 
 use crate::counting::count_on;
 use crate::counts::Counts;
-use devices::files::file_opener::FileOpener;
 use devices::files::opener::Opener;
 use devices::files::system_files::SystemFiles;
 use pit_edge::refused::Refused;
@@ -68,8 +67,7 @@ where
     ensures told { result ≢ 0 → (refused : ARefused) × Ends refused err.old.items err.new.items result }
     ensures memory { result ≡ 4 → err.new.items ≡ err.old.items }
 {
-    let files = SystemFiles::new(rt);
-    check(alloc, &mut FileOpener::new(&files), base, out, err)
+    check(alloc, &mut SystemFiles::new(rt), base, out, err)
 }
 
 // Appends the line of the counts of the files. Where it is refused `out` is as it was.

@@ -1,3 +1,4 @@
 mod Compiles
 mod Lent
 mod Models
+pub mod Slots

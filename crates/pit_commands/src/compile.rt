@@ -9,9 +9,9 @@ ghost use Rattle.run_threads.specs.Starts.{none_spent, AreSettled};
 ghost use Rattle.pit_commands.specs.Compile.{IsNoCompile, TellsRows, rows_line};
 
 use crate::instance_files::sinks_of;
-use devices::files::file_opener::FileOpener;
 use devices::files::opener::Opener;
 use devices::files::system_files::SystemFiles;
+use devices::files::system_slots::SystemSlots;
 use devices::sinks::sink::Sink;
 use pit_compile::settings::Settings;
 use pit_compile::sinks::Sinks;
@@ -108,15 +108,14 @@ where
     ensures kept { result ≢ 0 → out.new.items ≡ out.old.items }
     ensures told { result ≢ 0 → (refused : ARefused) × Ends refused err.old.items err.new.items result }
 {
-    let files = SystemFiles::new(rt);
-    let mut sinks = match sinks_of(&files, alloc, base) {
+    let mut sinks = match sinks_of(&mut SystemSlots::new(rt), alloc, base) {
         Ok(sinks) => sinks,
         Err(refusal) => return tell(alloc, &Refused::from(refusal), err),
     };
     match compile_into(
         rt,
         alloc,
-        &mut FileOpener::new(&files),
+        &mut SystemFiles::new(rt),
         &mut sinks,
         plan,
         destinations,

@@ -1,34 +1,39 @@
 //! The files of an instance that a compile writes: a sink for each, at its path.
 
-ghost use Rattle.std.specs.Prelude.{◌≡◌, string_bytes, IfOk};
+ghost use Rattle.std.specs.Prelude.{◌≡◌, ◌++◌, map, string_bytes, IfOk, OnErr, OnOk};
 ghost use Rattle.minelib_writing.specs.Endings.{ending_of};
+ghost use Rattle.minelib_writing.specs.Texts.{all_texts};
 ghost use Rattle.minelib_writing.specs.declared.text_name.TextName.{TextName as AName};
 ghost use Rattle.pit_compile.specs.Sinks.{sink_of};
 ghost use Rattle.devices.specs.sinks.FileSinkView.{unbegun};
 ghost use Rattle.pit_edge.specs.FilePath.{path_to};
 
-use devices::files::file_access::FileAccess;
+use devices::files::file_slot::FileSlots;
 use devices::sinks::file_sink::FileSink;
 use minelib_writing::text_name::TextName;
 use pit_compile::sinks::Sinks;
 use std::alloc::{AllocError, Global};
 
-/// Sinks for the files of the instance: `BASE.blocks` and so on. None is begun. Fails only where memory for the paths is refused.
-pub fn sinks_of<'a, A: FileAccess>(
-    files: &'a A,
+/// Sinks for the files of the instance: `BASE.blocks` and so on. None is begun. One slot is made for each, and no other. Fails only
+/// where memory for the paths is refused; then no slot is made.
+pub fn sinks_of<F: FileSlots>(
+    files: &mut F,
     alloc: Global,
     base: &str,
-) -> Result<Sinks<FileSink<'a, A>>, AllocError>
-    ensures { IfOk result (λ sinks. (name : AName)
-        → sink_of sinks name ≡ unbegun A.tells (path_to base.now (ending_of name))) }
+) -> Result<Sinks<FileSink<F::Slot>>, AllocError>
+    ensures sinks { IfOk result (λ sinks. (name : AName)
+        → sink_of sinks name ≡ unbegun F.Slot.tells (path_to base.now (ending_of name))) }
+    ensures made { OnOk result (F.made files.new
+        ≡ F.made files.old ++ map (λ name. path_to base.now (ending_of name)) all_texts) }
+    ensures kept { OnErr result (F.made files.new ≡ F.made files.old) }
 {
     let paths = paths_of(alloc, base)?;
     Ok(Sinks {
-        blocks: FileSink::from_path(files, paths.blocks),
-        prec: FileSink::from_path(files, paths.prec),
-        upit: FileSink::from_path(files, paths.upit),
-        pcpsp: FileSink::from_path(files, paths.pcpsp),
-        cpit: FileSink::from_path(files, paths.cpit),
+        blocks: FileSink::from_slot(files.slot(paths.blocks)),
+        prec: FileSink::from_slot(files.slot(paths.prec)),
+        upit: FileSink::from_slot(files.slot(paths.upit)),
+        pcpsp: FileSink::from_slot(files.slot(paths.pcpsp)),
+        cpit: FileSink::from_slot(files.slot(paths.cpit)),
     })
 }
 

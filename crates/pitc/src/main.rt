@@ -9,9 +9,9 @@ ghost use Rattle.pit_parts.specs.formulas.Formula.{IsRuled};
 ghost use Rattle.pit_parts.specs.formulas.Worth.{worth};
 
 use devices::feeds::read_feed::ReadFeed;
-use devices::files::file_opener::FileOpener;
 use devices::files::opener::Opener;
 use devices::files::system_files::SystemFiles;
+use devices::files::system_slots::SystemSlots;
 use devices::sinks::mem_sink::MemSink;
 use devices::sinks::sink::Sink;
 use devices::sinks::write_sink::WriteSink;
@@ -88,16 +88,13 @@ where
             text,
             lines,
         ),
-        Ok(Job::Check { base }) => {
-            let files = SystemFiles::new(rt);
-            Ok(check(
-                alloc,
-                &mut FileOpener::new(&files),
-                base.as_str(),
-                text,
-                lines,
-            ))
-        }
+        Ok(Job::Check { base }) => Ok(check(
+            alloc,
+            &mut SystemFiles::new(rt),
+            base.as_str(),
+            text,
+            lines,
+        )),
         Err(JobFault::Line(error)) => {
             let refused = append_error(alloc, &error, text, lines)?;
             Ok(if refused { USAGE } else { 0 })
@@ -117,16 +114,8 @@ where
     R::File: Send,
 {
     let model = read_model(alloc, &mut ReadFeed::new(rt.reader()))?;
-    let files = SystemFiles::new(rt);
     let mut task: Task<MemSink> = Task::Pipe(model);
-    Ok(run(
-        rt,
-        alloc,
-        &mut FileOpener::new(&files),
-        &mut task,
-        text,
-        lines,
-    )?)
+    Ok(run(rt, alloc, &mut SystemFiles::new(rt), &mut task, text, lines)?)
 }
 
 // Compiles the plan in this file and these zone files into the files of BASE.
@@ -143,16 +132,15 @@ fn compile<R: Files + Threads + Wait + Sync>(
 where
     R::File: Send,
 {
-    let files = SystemFiles::new(rt);
-    let mut opener = FileOpener::new(&files);
-    let plan = read_plan_file(alloc, &mut opener, plan)?;
+    let mut files = SystemFiles::new(rt);
+    let plan = read_plan_file(alloc, &mut files, plan)?;
     let mut task = Task::Files {
         plan,
         settings,
         zones,
-        sinks: sinks_of(&files, alloc, base)?,
+        sinks: sinks_of(&mut SystemSlots::new(rt), alloc, base)?,
     };
-    Ok(run(rt, alloc, &mut opener, &mut task, text, lines)?)
+    Ok(run(rt, alloc, &mut files, &mut task, text, lines)?)
 }
 
 // Runs the task with the destinations of its plan, in its order. The closures are made beside the run that asks them, since a function

@@ -7,9 +7,10 @@ ghost use Rattle.std.specs.Prelude.{◌≡◌};
 ghost use Rattle.pit_parts.specs.formulas.Formula.{IsRuled};
 ghost use Rattle.pit_parts.specs.formulas.Worth.{worth};
 
-use devices::files::file_opener::FileOpener;
+use devices::files::file_slot::FileSlots;
 use devices::files::opener::Opener;
 use devices::files::system_files::SystemFiles;
+use devices::files::system_slots::SystemSlots;
 use devices::sinks::file_sink::FileSink;
 use devices::sinks::sink::Sink;
 use devices::sinks::write_sink::WriteSink;
@@ -89,14 +90,13 @@ where
         settings,
         zones,
     } = words;
-    let files = SystemFiles::new(rt);
-    let mut opener = FileOpener::new(&files);
-    let plan = read_plan_file(alloc, &mut opener, plan.as_str())?;
+    let mut files = SystemFiles::new(rt);
+    let plan = read_plan_file(alloc, &mut files, plan.as_str())?;
     Ok(run(
         rt,
         alloc,
-        &mut opener,
-        &mut FileSink::from_path(&files, out),
+        &mut files,
+        &mut FileSink::from_slot(SystemSlots::new(rt).slot(out)),
         &plan,
         settings,
         zones.as_slice(),

@@ -1,11 +1,13 @@
 -- What a sink over a file tells.
-use Rattle.std.specs.Prelude.{ℕ, List, [], Bool, false, Option}
+use Rattle.std.specs.Prelude.{ℕ, List, [], Bool, true, false, Option}
 use Rattle.devices.specs.files.Told.{told_empty}
 use Rattle.devices.specs.sinks.SinkState.{SinkState}
 
 pub record FileSinkView : Type 0 where
   -- the path of its file
   pub path : List ℕ
+  -- whether it still has the slot that its file is created by
+  pub has_slot : Bool
   -- whether its file was created
   pub begun : Bool
   -- the bytes that the file holds, where the file tells them
@@ -15,7 +17,7 @@ pub record FileSinkView : Type 0 where
 
 -- a sink for the file at this path that was not begun, of files that tell what they hold or do not
 abbrev pub unbegun : Bool → List ℕ → FileSinkView
-unbegun tells path = record { path = path; begun = false; held = told_empty tells; failures = 0 }
+unbegun tells path = record { path = path; has_slot = true; begun = false; held = told_empty tells; failures = 0 }
 
 -- what it tells as a sink
 abbrev pub file_told : FileSinkView → SinkState

@@ -1,8 +1,9 @@
 //! A file as a feed.
 
 ghost use Rattle.std.specs.Io.KnownBytes.{ReadConsumes};
-ghost use Rattle.std.specs.Prelude.{◌≡◌, ◌+◌, ◌<◌, ◌≤◌, [], false, length, take, IfOk, IfSome, OnOk, OnErr};
+ghost use Rattle.std.specs.Prelude.{◌≡◌, ◌+◌, ◌<◌, ◌≤◌, ◌++◌, [], ◌∷◌, false, length, take, IfOk, IfSome, OnOk, OnErr};
 ghost use Rattle.devices.specs.feeds.Feed.{put_back};
+ghost use Rattle.devices.specs.files.Opening.{Opened, Unopened};
 
 use crate::feeds::feed::{Feed, FeedFault};
 use crate::feeds::read_feed::ReadFeed;
@@ -38,13 +39,19 @@ impl<F: Read + AtPath> Model for FileFeed<F> {
 }
 
 impl<F: Read + AtPath + Drop> FileFeed<F> {
-    /// A feed of the file at this path, from its first byte.
+    /// A feed of the file at this path, from its first byte. No other file is opened.
     ///
     /// # Errors
     ///
     /// The file cannot be opened. Where the system opens a folder as a file, each pull of it fails.
-    pub fn open<A: FileAccess<File = F>>(files: &A, path: &str) -> Result<FileFeed<F>, FeedFault>
+    pub fn open<A: FileAccess<File = F>>(
+        files: &mut A,
+        path: &str,
+    ) -> Result<FileFeed<F>, FeedFault>
         ensures path { IfOk result (λ feed. feed.path ≡ path.now) }
+        ensures opened { IfOk result (λ feed. A.opened files.new
+            ≡ A.opened files.old ++ Opened path.now feed.left ∷ []) }
+        ensures refused { OnErr result (A.opened files.new ≡ A.opened files.old ++ Unopened path.now ∷ []) }
         ensures given { IfOk result (λ feed. ⟦<FileFeed<F> as Feed>⟧.given feed ≡ 0) }
         ensures failures { IfOk result (λ feed. ⟦<FileFeed<F> as Feed>⟧.failures feed ≡ 0) }
         ensures unsure { IfOk result (λ feed. ⟦<FileFeed<F> as Feed>⟧.is_sure feed ≡ false) }

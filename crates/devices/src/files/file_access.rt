@@ -1,12 +1,12 @@
-//! Files that are opened and created, by their paths.
+//! Files that are opened, by their paths.
 
-ghost use Rattle.std.specs.Prelude.{◌≡◌, ℕ, List, Bool, IfOk};
-ghost use Rattle.devices.specs.files.Told.{told_empty};
+ghost use Rattle.std.specs.Prelude.{◌≡◌, ◌++◌, ℕ, List, [], ◌∷◌, IfOk, OnErr};
+ghost use Rattle.devices.specs.files.Opening.{Opening, Opened, Unopened};
 
 use std::io;
-use std::io::{Read, Write};
+use std::io::Read;
 
-/// An open file.
+/// A file that was opened or created.
 pub trait AtPath {
     /// The path that it was opened or created by.
     ghost path: { Self → List ℕ };
@@ -14,30 +14,24 @@ pub trait AtPath {
     ghost given: { Self → ℕ };
 }
 
-/// Opens files to be read, and creates files to be written. It can do nothing else with files: what has one can neither
-/// remove nor rename them.
+/// Opens files to be read, and remembers for contracts which it was asked for. It can do nothing else with files: what has one can
+/// neither create, empty, remove nor rename them.
 pub trait FileAccess {
     /// A file that is open.
-    type File: Read + Write + AtPath + Drop;
+    type File: Read + AtPath + Drop;
 
-    /// Whether its files tell what they hold. Those of a system do not.
-    ghost tells: { Bool };
+    /// What it was asked to open so far, in order.
+    ghost opened: { Self → List Opening };
 
     /// The file at this path, from its first byte.
     ///
     /// # Errors
     ///
     /// It cannot be opened, for whatever reason of the system's.
-    fn open(&self, path: &str) -> io::Result<Self::File>
+    fn open(&mut self, path: &str) -> io::Result<Self::File>
         ensures path { IfOk result (λ file. Self.File.path file ≡ path.now) }
-        ensures whole { IfOk result (λ file. Self.File.given file ≡ 0) };
-
-    /// The file at this path, which is created, or emptied where it is there.
-    ///
-    /// # Errors
-    ///
-    /// It cannot be created, for whatever reason of the system's.
-    fn create(&self, path: &str) -> io::Result<Self::File>
-        ensures path { IfOk result (λ file. Self.File.path file ≡ path.now) }
-        ensures empty { IfOk result (λ file. Self.File.contents file ≡ told_empty tells) };
+        ensures whole { IfOk result (λ file. Self.File.given file ≡ 0) }
+        ensures opened { IfOk result (λ file. opened self.new
+            ≡ opened self.old ++ Opened path.now (Self.File.remaining file) ∷ []) }
+        ensures refused { OnErr result (opened self.new ≡ opened self.old ++ Unopened path.now ∷ []) };
 }

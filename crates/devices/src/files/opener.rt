@@ -4,6 +4,8 @@ ghost use Rattle.std.specs.Prelude.{◌≡◌, ◌++◌, List, [], ◌∷◌, If
 ghost use Rattle.devices.specs.files.Opening.{Opening, Opened as WasOpened, Unopened};
 
 use crate::feeds::feed::{Feed, FeedFault};
+use crate::feeds::file_feed::FileFeed;
+use crate::files::file_access::FileAccess;
 
 /// Opens files to be read, by their paths, and remembers for contracts which it was asked for.
 pub trait Opener {
@@ -24,4 +26,25 @@ pub trait Opener {
         ensures given { IfOk result (λ feed. Self.Opened.given feed ≡ 0) }
         ensures failures { IfOk result (λ feed. Self.Opened.failures feed ≡ 0) }
         ensures refused { OnErr result (opened self.new ≡ opened self.old ++ Unopened path.now ∷ []) };
+}
+
+/// What opens files opens feeds of them. Its history is that of the files themselves.
+impl<A: FileAccess> Opener for A
+where
+    A::File: Send,
+{
+    type Opened = FileFeed<A::File>;
+
+    ghost opened = { λ files. A.opened files };
+
+    fn open(&mut self, path: &str) -> Result<FileFeed<A::File>, FeedFault>
+        ensures path { IfOk result (λ feed. feed.path ≡ path.now) }
+        ensures opened { IfOk result (λ feed. A.opened self.new
+            ≡ A.opened self.old ++ WasOpened path.now feed.left ∷ []) }
+        ensures given { IfOk result (λ feed. feed.given ≡ 0) }
+        ensures failures { IfOk result (λ feed. feed.failures ≡ 0) }
+        ensures refused { OnErr result (A.opened self.new ≡ A.opened self.old ++ Unopened path.now ∷ []) }
+    {
+        FileFeed::open(self, path)
+    }
 }

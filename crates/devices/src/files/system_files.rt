@@ -1,58 +1,78 @@
-//! The files of a system.
+//! The files of a system that are opened.
 //!
 //! No contract can say which file of a system is at a path, or what it holds: this page is to be read.
 
-ghost use Rattle.std.specs.Prelude.{◌≡◌, ◌∷◌, ◌++◌};
+ghost use Rattle.std.specs.Prelude.{◌≡◌, [], ◌∷◌, ◌++◌};
 
+use crate::files::asked::Asked;
 use crate::files::file_access::{AtPath, FileAccess};
 use crate::shown_bytes::{ShownBytes, shown};
 use std::fs::File;
 use std::io;
 use std::io::{Read, Write};
 use std::rt::Files;
+use std::snapshot::Snapshot;
 
-/// The files of a system, as far as they are opened and created.
-#[derive(Clone, Copy, Drop)]
+/// The files of a system, as far as they are opened.
+#[derive(Drop)]
 pub struct SystemFiles<'a, R: Files> {
     rt: &'a R,
+    asked: Asked<R::File>,
 }
 
 impl<'a, R: Files> SystemFiles<'a, R> {
-    /// The files that the runtime has.
-    pub fn new(rt: &'a R) -> SystemFiles<'a, R> {
-        SystemFiles { rt }
+    /// The files that the runtime has, of which none was asked for.
+    pub fn new(rt: &'a R) -> SystemFiles<'a, R>
+        ensures { ⟦<SystemFiles<'a, R> as FileAccess>⟧.opened result ≡ [] }
+    {
+        SystemFiles {
+            rt,
+            asked: Asked::Nothing,
+        }
     }
 }
 
 impl<'a, R: Files> FileAccess for SystemFiles<'a, R> {
-    ghost use Rattle.std.specs.Prelude.{false};
+    ghost use Rattle.devices.specs.files.Asked.{openings_of};
 
     type File = SystemFile<R::File>;
 
-    ghost tells = { false };
+    ghost opened = { λ files. openings_of R.File.remaining files.asked };
 
-    fn open(&self, path: &str) -> io::Result<SystemFile<R::File>> {
-        let file = File::open(self.rt, path)?;
-        Ok(SystemFile {
-            file,
-            path: shown(path.as_bytes()),
-        })
-    }
-
-    fn create(&self, path: &str) -> io::Result<SystemFile<R::File>> {
-        let file = File::create(self.rt, path)?;
-        Ok(SystemFile {
-            file,
-            path: shown(path.as_bytes()),
-        })
+    fn open(&mut self, path: &str) -> io::Result<SystemFile<R::File>> {
+        match File::open(self.rt, path) {
+            Ok(file) => {
+                let before = Snapshot::of(&self.asked);
+                self.asked = Asked::Opened(shown(path.as_bytes()), Snapshot::of(&file), before);
+                Ok(SystemFile::at(file, path))
+            }
+            Err(error) => {
+                let before = Snapshot::of(&self.asked);
+                self.asked = Asked::Unopened(shown(path.as_bytes()), before);
+                Err(error)
+            }
+        }
     }
 }
 
-/// An open file of the system.
+/// A file of the system that was opened or created.
 #[derive(Drop)]
 pub struct SystemFile<F: Read + Write> {
     file: F,
     path: ShownBytes,
+}
+
+impl<F: Read + Write> SystemFile<F> {
+    // The file that was opened or created by this path.
+    pub(crate) fn at(file: F, path: &str) -> SystemFile<F>
+        ensures path { ⟦<SystemFile<F> as AtPath>⟧.path result ≡ path.now }
+        ensures remaining { ⟦<SystemFile<F> as Read>⟧.remaining result ≡ F.remaining file }
+    {
+        SystemFile {
+            file,
+            path: shown(path.as_bytes()),
+        }
+    }
 }
 
 impl<F: Read + Write> AtPath for SystemFile<F> {

@@ -1,6 +1,6 @@
 //! A file as a sink.
 
-ghost use Rattle.std.specs.Prelude.{◌≡◌, ◌+◌, ◌<◌, ◌≤◌, [], false, length, string_bytes, take, IsErr, IfOk, OnOk, OnErr};
+ghost use Rattle.std.specs.Prelude.{◌≡◌, ◌+◌, ◌<◌, ◌≤◌, [], false, length, take, true, ◌++◌, ◌∷◌, is_some, IsErr, IfOk, IfSome, OnOk, OnErr};
 ghost use Rattle.std.specs.Io.KnownBytes.{WriteAppends};
 ghost use Rattle.devices.specs.Device.{added};
 ghost use Rattle.devices.specs.files.Told.{told_empty, told_held};
@@ -8,24 +8,27 @@ ghost use Rattle.devices.specs.sinks.FileSinkView.{file_told as told, unbegun};
 ghost use Rattle.devices.specs.sinks.SinkState.{IsCutOff, IsWritten, IsBegunAsBefore};
 
 use crate::count::{Count, raised};
-use crate::files::file_access::FileAccess;
+use crate::files::file_slot::{FileSlot, FileSlots};
 use crate::sinks::single_write::write_some;
 use crate::sinks::sink::{Sink, SinkFault};
 use std::alloc::{AllocError, Global};
 use std::marker::Model;
+use std::snapshot::Snapshot;
 
-/// A sink that writes to the file at its path. It tells what the file holds as far as the file itself does, and no file
-/// of a system does. Only `new` takes memory.
+/// A sink that writes to the file of its slot, which it creates once. It tells what the file holds as far as the file itself does, and no
+/// file of a system does. Only `new` takes memory.
 #[derive(Drop)]
-pub struct FileSink<'a, A: FileAccess> {
-    files: &'a A,
-    path: String,
-    file: Option<A::File>,
+pub struct FileSink<P: FileSlot> {
+    // its slot, until the file is to be created
+    slot: Option<P>,
+    // the slot as it was made
+    first: Snapshot<P>,
+    file: Option<P::File>,
     failures: Count,
 }
 
-impl<'a, A: FileAccess> Model for FileSink<'a, A> {
-    ghost use Rattle.std.specs.Prelude.{is_some, string_bytes};
+impl<P: FileSlot> Model for FileSink<P> {
+    ghost use Rattle.std.specs.Prelude.{◌≡◌, is_some, IfSome};
     ghost use Rattle.devices.specs.Count.{count_of};
     ghost use Rattle.devices.specs.files.Told.{told_file, Tells};
     ghost use Rattle.devices.specs.sinks.FileSinkView.{FileSinkView};
@@ -33,59 +36,90 @@ impl<'a, A: FileAccess> Model for FileSink<'a, A> {
     ghost Value = { FileSinkView };
 
     ghost view = { λ s. record {
-      path = string_bytes s.path;
+      path = P.path s.first.value;
+      has_slot = is_some s.slot;
       begun = is_some s.file;
-      held = told_file A.tells A.File.contents s.file;
+      held = told_file P.tells P.File.contents s.file;
       failures = count_of s.failures;
     } };
 
-    ghost invariant = { λ s. Tells A.tells A.File.contents s.file };
+    ghost invariant = { λ s. IfSome s.slot (λ slot. slot ≡ s.first.value)
+        × Tells P.tells P.File.contents s.file };
 }
 
-impl<'a, A: FileAccess> FileSink<'a, A> {
+impl<P: FileSlot> FileSink<P> {
     /// A sink for the file at this path. It is not begun: the file is left alone, and need not exist.
     ///
     /// # Errors
     ///
-    /// Memory for the path was refused.
-    pub fn new(files: &'a A, alloc: Global, path: &str) -> Result<FileSink<'a, A>, AllocError>
-        ensures { IfOk result (λ sink. sink ≡ unbegun A.tells path.now) }
+    /// Memory for the path was refused. No slot was made.
+    pub fn new<F: FileSlots<Slot = P>>(
+        files: &mut F,
+        alloc: Global,
+        path: &str,
+    ) -> Result<FileSink<P>, AllocError>
+        ensures unbegun { IfOk result (λ sink. sink ≡ unbegun P.tells path.now) }
+        ensures made { OnOk result (F.made files.new ≡ F.made files.old ++ path.now ∷ []) }
+        ensures kept { OnErr result (F.made files.new ≡ F.made files.old) }
     {
-        Ok(FileSink::from_path(files, String::from_str(alloc, path)?))
+        let path = String::from_str(alloc, path)?;
+        Ok(FileSink::from_slot(files.slot(path)))
     }
 
-    /// The same as `new`, by a path that is handed over. It takes no memory, and is never refused.
-    pub fn from_path(files: &'a A, path: String) -> FileSink<'a, A>
-        ensures { result ≡ unbegun A.tells (string_bytes path) }
+    /// A sink for the file of this slot. It is not begun. It takes no memory, and is never refused.
+    pub fn from_slot(slot: P) -> FileSink<P>
+        ensures { result ≡ unbegun P.tells (P.path slot) }
     {
         FileSink {
-            files,
-            path,
+            first: Snapshot::of(&slot),
+            slot: Some(slot),
             file: None,
             failures: Count::Zero,
         }
     }
+
+    /// Its slot, until it was asked to begin.
+    pub fn slot(&self) -> Option<&P>
+        ensures has { is_some result ≡ self.now.has_slot }
+        ensures path { IfSome result (λ slot. P.path slot.now ≡ self.now.path) }
+    {
+        self.slot.as_ref()
+    }
+
+    /// Its file, once it is begun.
+    pub fn file(&self) -> Option<&P::File>
+        ensures begun { is_some result ≡ self.now.begun }
+        ensures held { IfSome result (λ file. told_held P.tells (P.File.contents file.now) ≡ self.now.held) }
+    {
+        self.file.as_ref()
+    }
 }
 
-impl<'a, A: FileAccess> Sink for FileSink<'a, A> {
+impl<P: FileSlot> Sink for FileSink<P> {
     ghost state = { told };
 
-    /// Creates the file, or empties the one that is there.
+    /// Creates the file, or empties the one that is there. It is asked once: whether it could or not, the slot is used up.
     ///
     /// # Errors
     ///
-    /// The file cannot be created. The sink is as it was, with one more refusal.
+    /// The file cannot be created, or the sink was asked to begin before. The sink is as it was, with one more refusal.
     fn begin(&mut self) -> Result<(), SinkFault>
         ensures begins { OnOk result (IsWritten [] (told self.old) (told self.new)) }
         ensures refused { OnErr result (IsCutOff 1 [] (told self.old) (told self.new)) }
         ensures path { self.new.path ≡ self.old.path }
-        ensures file { OnOk result ((file : A.File) × (A.File.path file ≡ self.old.path)
-            × (A.File.contents file ≡ told_empty A.tells)
-            × (self.new.held ≡ told_held A.tells (A.File.contents file))) }
+        ensures once { OnOk result (self.old.has_slot ≡ true) }
+        ensures used_up { self.new.has_slot ≡ false }
+        ensures file { OnOk result ((file : P.File) × (P.File.path file ≡ self.old.path)
+            × (P.File.contents file ≡ told_empty P.tells)
+            × (self.new.held ≡ told_held P.tells (P.File.contents file))) }
         ensures kept { OnErr result
-            (self.new ≡ record self.old { failures = self.old.failures + 1 }) }
+            (self.new ≡ record self.old { has_slot = false; failures = self.old.failures + 1 }) }
     {
-        match self.files.create(self.path.as_str()) {
+        let Some(slot) = self.slot.take() else {
+            self.failures = raised(&self.failures, 1);
+            return Err(SinkFault::new());
+        };
+        match slot.create() {
             Ok(file) => {
                 self.file = Some(file);
                 Ok(())
@@ -103,8 +137,9 @@ impl<'a, A: FileAccess> Sink for FileSink<'a, A> {
     ///
     /// The sink was not begun, or the file takes no byte.
     fn put(&mut self, bytes: &[u8]) -> Result<usize, SinkFault>
-        // Its path stays, and what is not begun takes nothing.
+        // Its path and its slot stay, and what is not begun takes nothing.
         ensures path { self.new.path ≡ self.old.path }
+        ensures slot { self.new.has_slot ≡ self.old.has_slot }
         ensures unbegun { self.old.begun ≡ false → IsErr result }
 
         // On success so many of the bytes are taken, and the file grows by them.

@@ -49,6 +49,13 @@ impl<W: Write> WriteSink<W> {
             failures: Count::Zero,
         }
     }
+
+    /// The output.
+    pub fn output(&self) -> &W
+        ensures { self.now.held ≡ told_as self.now.held (W.contents result.now) }
+    {
+        &self.output
+    }
 }
 
 impl<W: Write> Sink for WriteSink<W> {

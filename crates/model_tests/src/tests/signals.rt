@@ -3,6 +3,7 @@
 use devices::feeds::file_feed::FileFeed;
 use devices::feeds::slurp::slurp;
 use devices::files::system_files::SystemFiles;
+use devices::files::system_slots::SystemSlots;
 use devices::sinks::file_sink::FileSink;
 use devices::sinks::sink::Sink;
 use devices::sinks::slices::put_all;
@@ -143,12 +144,11 @@ const TEXT: &[u8] = b"0 0 0 0 1 0 0\n1 1 0 0 1 0 0\n";
 fn interrupted_calls_lose_nothing(rt: HostRuntime) -> Result<(), Fail> {
     let path = "interrupted_calls_lose_nothing";
     let signals = Signals { rt: &rt };
-    let files = SystemFiles::new(&signals);
-    let mut sink = FileSink::new(&files, rt.alloc(), path)?;
+    let mut sink = FileSink::new(&mut SystemSlots::new(&signals), rt.alloc(), path)?;
     assert!(rt; sink.begin().is_ok());
     assert!(rt; put_all(&mut sink, TEXT).is_ok());
     assert!(rt; fs::read_to_string(&rt, path)?.as_str().as_bytes() == TEXT);
-    let mut feed = FileFeed::open(&files, path).expect(&rt, "a feed");
+    let mut feed = FileFeed::open(&mut SystemFiles::new(&signals), path).expect(&rt, "a feed");
     let read = slurp(rt.alloc(), &mut feed, 100).expect(&rt, "a text");
     assert!(rt; read.as_slice() == TEXT);
     Ok(fs::remove_file(&rt, path)?)

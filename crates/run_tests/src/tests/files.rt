@@ -91,7 +91,7 @@ fn failing_devices(rt: HostRuntime) -> Result<(), Fail> {
 
 // Whether the file at a path cannot be opened.
 fn is_closed<R: Files>(rt: &R, path: &str) -> bool {
-    FileFeed::open(&SystemFiles::new(rt), path).is_err()
+    FileFeed::open(&mut SystemFiles::new(rt), path).is_err()
 }
 
 #[test]

@@ -1,0 +1,20 @@
+-- What was asked of a system, as contracts are shown it: which files were to be opened, and which slots were made.
+use Rattle.std.specs.Prelude.{ℕ, List, [], ◌∷◌, ◌++◌, Option}
+use Rattle.devices.specs.ShownBytes.{bytes_of}
+use Rattle.devices.specs.files.Opening.{Opening, Opened, Unopened}
+use Rattle.devices.specs.declared.files.asked.Asked.{Asked}
+use Rattle.devices.specs.declared.files.asked.Asked.TheVariants as asked
+use Rattle.devices.specs.declared.files.asked.Made.{Made}
+use Rattle.devices.specs.declared.files.asked.Made.TheVariants as made
+
+-- the openings, where files tell their bytes in this way
+abbrev pub openings_of : {F : Type 0} → (F → Option (List ℕ)) → Asked F → List Opening
+openings_of told asked.Nothing = []
+openings_of told (asked.Opened' path file marker before) =
+    openings_of told before ++ Opened (bytes_of path) (told file.value) ∷ []
+openings_of told (asked.Unopened' path marker before) = openings_of told before ++ Unopened (bytes_of path) ∷ []
+
+-- the paths of the slots
+abbrev pub paths_of : Made → List (List ℕ)
+paths_of made.Nothing = []
+paths_of (made.Slot' path marker before) = paths_of before ++ bytes_of path ∷ []
