@@ -1,12 +1,11 @@
 -- What a cell and a record lose at their ends.
-use Rattle.std.proofs.Common.{◌≡◌, ◌<◌, ◌&&◌, ◌==◌, ◌+◌, ◌-◌, ◌++◌, ℕ, zero, suc, List, [], ◌∷◌, Bool, true, false, arith, refl, sym, ◌∙◌, ap, length, length-append, get_or, map, take, cond, Some, None}
+use Rattle.std.proofs.Common.{◌≡◌, ◌<◌, ◌==◌, ◌+◌, ◌-◌, ◌++◌, ℕ, zero, suc, List, [], ◌∷◌, Bool, true, false, arith, refl, sym, ◌∙◌, ap, length, length-append, get_or, map, take, cond, Some, None}
 use Rattle.std.proofs.lemmas.Bool.{eqb-true}
-use Rattle.std.proofs.lemmas.Bool.Decides.{nat_tests}
 use Rattle.std.proofs.lemmas.List.{take_more, take_all, length-map, length-take-le}
 use Rattle.std.proofs.Math.ListN.{get_or-map}
 use Rattle.csv.proofs.RecordFacts.{field-get}
 use Rattle.csv.specs.Records.{field_at}
-use Rattle.records.specs.Cells.{is_blank, without_end, without_trailing_blanks, trimmed}
+use Rattle.records.specs.Cells.{is_blank, kept_from, without_end, without_trailing_blanks, trimmed}
 use Rattle.records.specs.RecordCells.{without_empty_end, cells_of, cell_at}
 
 -- a list is what stands before its last element, and that
@@ -22,13 +21,18 @@ end_goes : {A : Type 0} (passes : A → Bool) (xs : List A) (x : A) → passes x
 end_goes passes [] x h = rw h refl
 end_goes passes (y ∷ xs) x h = rw (end_goes passes xs x h) refl
 
+-- an element stays before some that do
+before_some : {A : Type 0} (passes : A → Bool) (x : A) (kept : List A) → 0 < length kept → kept_from passes x kept ≡ x ∷ kept
+before_some passes x [] some = absurd (omega arith)
+before_some passes x (y ∷ kept) some = refl
+
 -- another stays, and so do all before it
 end_stays : {A : Type 0} (passes : A → Bool) (xs : List A) (x : A) → passes x ≡ false
     → without_end passes (xs ++ x ∷ []) ≡ xs ++ x ∷ []
 end_stays passes [] x h = rw h refl
 end_stays passes (y ∷ xs) x h =
-    let some : (length (xs ++ x ∷ []) == 0) ≡ false = grind (arith, nat_tests, length-append xs (x ∷ [])) in
-    rw (end_stays passes xs x h, some) refl
+    let some : 0 < length (xs ++ x ∷ []) = omega (arith, length-append xs (x ∷ [])) in
+    rw (end_stays passes xs x h) (before_some passes y (xs ++ x ∷ []) some)
 
 pub blank_at_end : (xs : List ℕ) → 0 < length xs → is_blank (get_or xs (length xs - 1) 0) ≡ true
     → without_trailing_blanks (take (length xs - 1) xs) ≡ without_trailing_blanks xs
@@ -46,16 +50,20 @@ empty_is (x ∷ xs) h = absurd (omega (arith, eqb-true (suc (length xs)) 0 h))
 -- dropping the empty cells at the end changes no cell, where a cell past the end is empty
 pub cell_stays : (cells : List (List ℕ)) (i : ℕ) → get_or (without_empty_end cells) i [] ≡ get_or cells i []
 cell_stays [] i = refl
-cell_stays (c ∷ cells) i = by_tests (λ k. cell_stays cells k) (length (without_empty_end cells) == 0) (length c == 0) refl refl i
+cell_stays (c ∷ cells) i = by_kept (without_empty_end cells) (λ k. cell_stays cells k) i
   where
-    by_tests : ((k : ℕ) → get_or (without_empty_end cells) k [] ≡ get_or cells k []) → (a b : Bool)
-        → (length (without_empty_end cells) == 0) ≡ a → (length c == 0) ≡ b → (i : ℕ)
-        → get_or (cond (a && b) [] (c ∷ without_empty_end cells)) i [] ≡ get_or (c ∷ cells) i []
-    by_tests more true true e f zero = sym (empty_is c f)
-    by_tests more true true e f (suc i) = let none : without_empty_end cells ≡ [] =
-        empty_is (without_empty_end cells) e in (rw none at (more i))
-    by_tests more _ _ e f zero = refl
-    by_tests more _ _ e f (suc i) = more i
+    last_stays : (empty : Bool) → (length c == 0) ≡ empty → ((k : ℕ) → [] ≡ get_or cells k []) → (i : ℕ)
+        → get_or (cond empty [] (c ∷ [])) i [] ≡ get_or (c ∷ cells) i []
+    last_stays true e more zero = sym (empty_is c e)
+    last_stays false e more zero = refl
+    last_stays true e more (suc i) = more i
+    last_stays false e more (suc i) = more i
+
+    by_kept : (kept : List (List ℕ)) → ((k : ℕ) → get_or kept k [] ≡ get_or cells k []) → (i : ℕ)
+        → get_or (kept_from (λ cell. length cell == 0) c kept) i [] ≡ get_or (c ∷ cells) i []
+    by_kept [] more i = last_stays (length c == 0) refl more i
+    by_kept (d ∷ kept) more zero = refl
+    by_kept (d ∷ kept) more (suc i) = more i
 
 -- the cell at a place is the field there, trimmed, or empty
 pub at_cell : (fields : List (List ℕ)) (i : ℕ) → cell_at (cells_of fields) i ≡ trimmed (get_or fields i [])

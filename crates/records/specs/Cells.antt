@@ -1,5 +1,5 @@
 -- The cells of a record as plans and zone files see them: without the blanks at both ends.
-use Rattle.std.specs.Prelude.{ℕ, Bool, List, [], ◌∷◌, ◌==◌, ◌&&◌, ◌||◌, length, if◌then◌else◌}
+use Rattle.std.specs.Prelude.{ℕ, Bool, List, [], ◌∷◌, ◌==◌, ◌||◌, if◌then◌else◌}
 use Rattle.std.specs.Str.{str_eq_ignore_ascii_case}
 
 -- a space or a tab
@@ -11,10 +11,15 @@ abbrev pub without_leading_blanks : List ℕ → List ℕ
 without_leading_blanks [] = []
 without_leading_blanks (b ∷ bytes) = if is_blank b then without_leading_blanks bytes else b ∷ bytes
 
+-- an element and what is kept behind it: nothing where it passes and none is kept
+abbrev pub kept_from : {A : Type 0} → (A → Bool) → A → List A → List A
+kept_from passes x [] = if passes x then [] else x ∷ []
+kept_from passes x (y ∷ kept) = x ∷ y ∷ kept
+
 -- a list up to the last element that does not pass
 abbrev pub without_end : {A : Type 0} → (A → Bool) → List A → List A
 without_end passes [] = []
-without_end passes (x ∷ xs) = if (length (without_end passes xs) == 0) && passes x then [] else x ∷ without_end passes xs
+without_end passes (x ∷ xs) = kept_from passes x (without_end passes xs)
 
 -- the bytes up to the last that is no blank
 abbrev pub without_trailing_blanks : List ℕ → List ℕ
