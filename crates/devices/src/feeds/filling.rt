@@ -1,13 +1,14 @@
 //! A buffer that a feed fills.
 
-ghost use Rattle.std.specs.Prelude.{◌≡◌, ◌+◌, ◌<◌, ◌≤◌, ◌^◌, [], length, take, vec_len, IsTrue, IsOk, IfOk, OnOk, OnErr, IfSome};
+ghost use Rattle.std.specs.Prelude.{◌≡◌, ◌+◌, ◌<◌, ◌≤◌, ◌^◌, [], length, max, take, vec_len, IsTrue, IsOk, IfOk, OnOk, OnErr, IfSome};
+ghost use Rattle.devices.specs.declared.feeds.filling.TheConstants.{CHUNK};
 ghost use Rattle.devices.specs.feeds.FeedSteps.{GaveBehind};
 
 use crate::feeds::feed::{Feed, FeedFault};
 use std::alloc::AllocError;
 
-// The most by which a buffer is made longer at a time, in bytes.
-const CHUNK: usize = 262_144;
+/// The most by which a buffer is made longer at a time, in bytes.
+pub const CHUNK: usize = 262_144;
 
 /// Leaves room for a byte behind the first `filled`, within the first `most`. Memory of the list doubles, so that a long feed is copied a
 /// bounded number of times, and is written no further than the next bytes go. Where memory is refused the list is as it was.
@@ -19,6 +20,7 @@ pub fn make_room(bytes: &mut Vec<u8>, filled: usize, most: usize) -> Result<(), 
     ensures room { OnOk result (filled < vec_len bytes.new) }
     ensures filled { filled ≤ vec_len bytes.new }
     ensures within { vec_len bytes.new ≤ most }
+    ensures few { vec_len bytes.new ≤ max (vec_len bytes.old) (filled + CHUNK) }
     ensures kept { take filled bytes.new.items ≡ take filled bytes.old.items }
 {
     if filled == bytes.len() {
