@@ -1,6 +1,7 @@
 -- What a check tells of the files of BASE, and why it tells no counts.
 use Rattle.std.specs.Prelude.{◌≡◌, ◌≢◌, ℕ, ◌≤◌, ◌⊎◌, List, [], ◌∷◌, ◌++◌, Option, Some, None, Err, IfSome, length}
 use Rattle.devices.specs.feeds.FeedSteps.{left_after}
+use Rattle.devices.specs.feeds.FileFeedView.{FileFeedView}
 use Rattle.devices.specs.files.Opening.{Opening, Opened, Unopened}
 use Rattle.devices.specs.declared.feeds.slurp.TheConstants.{GREATEST_LIMIT}
 use Rattle.text_lines.specs.FaultText.{file_ending}
@@ -95,6 +96,19 @@ module _ (base : List ℕ) where
     -- the files were opened one after the other, no other, and the line of the counts of their texts was appended
     abbrev pub TellsFiles : (old new : List Opening) → (out_old out_new : List ℕ) → Type 0
     TellsFiles old new out_old out_new = (texts : Texts) × AreTexts texts old new × TellsCounts texts out_old out_new
+
+  -- the same of files that were opened, whichever they are
+  abbrev pub TellsOpenedFiles : (out_old out_new : List ℕ) → Type 0
+  TellsOpenedFiles out_old out_new =
+      (opened : List Opening)
+      × TellsFiles (λ (feed : FileFeedView). feed.left) (λ (feed : FileFeedView). feed.given) (λ (feed : FileFeedView). feed.failures) [] opened
+      out_old out_new
+
+  -- why such files are not counted
+  abbrev pub IsFoundInOpenedFiles : Refused → Type 0
+  IsFoundInOpenedFiles refused =
+      (opened : List Opening)
+      × IsFoundIn (λ (feed : FileFeedView). feed.left) (λ (feed : FileFeedView). feed.given) (λ (feed : FileFeedView). feed.failures) [] opened refused
 
 -- a check ends with 0 where its counts were told; else with 1, 3 or 4
 abbrev pub IsCheckStatus : ℕ → Type 0

@@ -1,12 +1,11 @@
 //! The check of the files of an instance.
 
 ghost use Rattle.std.specs.Prelude.{◌≡◌, ◌≢◌, ◌≤◌, ◌⊎◌, IfErr, IfOk, IfSome, OnErr, OnOk};
-ghost use Rattle.pit_check.specs.Checked.{FailsIn, IsCheckStatus, IsFoundIn, IsMissing, TellsFiles};
+ghost use Rattle.pit_check.specs.Checked.{FailsIn, IsCheckStatus, IsFoundIn, IsFoundInOpenedFiles, IsMissing, TellsFiles, TellsOpenedFiles};
 ghost use Rattle.pit_check.specs.inner.CheckSteps.{CountsAll, CountsFile, CountsIfThere};
 ghost use Rattle.pit_compile.specs.declared.refusal.Refusal.TheVariants.{OutOfMemory};
 ghost use Rattle.pit_parts.specs.declared.ranges.TheConstants.{MAX_BLOCKS};
-ghost use Rattle.pit_edge.specs.FaultLine.{Ends, EndsBy};
-ghost use Rattle.pit_edge.specs.declared.refused.Refused.{Refused as ARefused};
+ghost use Rattle.pit_edge.specs.FaultLine.{EndsBy};
 ghost use Rattle.pit_edge.specs.declared.refused.Refused.TheVariants.{Run};
 
 use crate::counting::count_on;
@@ -51,7 +50,7 @@ pub fn check<O: Opener>(
     }
 }
 
-/// The same of the files of the system, of which no contract can say what they hold.
+/// The same of the files of the system. No contract can say what they hold: what is told is of some files at these paths.
 pub fn check_files<R: Files>(
     rt: &R,
     alloc: Global,
@@ -61,10 +60,11 @@ pub fn check_files<R: Files>(
 ) -> u8
 where
     R::File: Send,
+    ensures done { result ≡ 0 → TellsOpenedFiles base.now out.old.items out.new.items }
     ensures quiet { result ≡ 0 → err.new.items ≡ err.old.items }
     ensures refused { result ≢ 0 → out.new.items ≡ out.old.items }
     ensures status { IsCheckStatus result }
-    ensures told { result ≢ 0 → (refused : ARefused) × Ends refused err.old.items err.new.items result }
+    ensures told { result ≢ 0 → EndsBy (IsFoundInOpenedFiles base.now) err.old.items err.new.items result }
     ensures memory { result ≡ 4 → err.new.items ≡ err.old.items }
 {
     check(alloc, &mut SystemFiles::new(rt), base, out, err)

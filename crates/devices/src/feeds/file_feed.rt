@@ -52,6 +52,8 @@ impl<F: Read + AtPath + Drop> FileFeed<F> {
         ensures opened { IfOk result (λ feed. A.opened files.new
             ≡ A.opened files.old ++ Opened path.now feed.left ∷ []) }
         ensures refused { OnErr result (A.opened files.new ≡ A.opened files.old ++ Unopened path.now ∷ []) }
+        ensures left { IfOk result (λ feed. (file : F) × (F.path file ≡ path.now)
+            × (F.given file ≡ 0) × (feed.left ≡ F.remaining file)) }
         ensures given { IfOk result (λ feed. ⟦<FileFeed<F> as Feed>⟧.given feed ≡ 0) }
         ensures failures { IfOk result (λ feed. ⟦<FileFeed<F> as Feed>⟧.failures feed ≡ 0) }
         ensures unsure { IfOk result (λ feed. ⟦<FileFeed<F> as Feed>⟧.is_sure feed ≡ false) }
