@@ -20,6 +20,9 @@ def look_nowhere_else() -> None:
     except FileNotFoundError:
         pass
     sys.path.insert(0, OWN)
+    # In a folder of the system, byte code that root wrote beside the package would outlive its removal.
+    if os.stat(OWN).st_uid == 0 or os.environ.get("PYTHONDONTWRITEBYTECODE"):
+        sys.dont_write_bytecode = True
     installed = site.getusersitepackages()
     if sys.flags.isolated and os.path.isdir(installed) and os.stat(installed).st_uid == os.geteuid():
         site.addsitedir(installed)
