@@ -6,7 +6,7 @@ ghost use Rattle.pit_edge.specs.FaultLine.{Ends};
 ghost use Rattle.pit_edge.specs.declared.refused.Refused.{Refused as ARefused};
 ghost use Rattle.pit_parts.specs.Destinations.{formulas_of};
 ghost use Rattle.run_threads.specs.Starts.{none_spent, AreSettled};
-ghost use Rattle.pit_commands.specs.Compile.{IsNoCompile, TellsRows, rows_line};
+ghost use Rattle.pit_commands.specs.Compile.{IsNoCompile, TellsRows, TellsRowsOfFiles, rows_line};
 
 use crate::instance_files::sinks_of;
 use devices::files::opener::Opener;
@@ -89,7 +89,7 @@ pub fn compile_into<R: Threads + Wait + Sync, O: Opener, S: Sink>(
 /// Where all is written it appends the line `rows N` to `out`; else the line of the refusal to `err`. Only one of the two grows. For
 /// want of memory the status is that of memory, and both are as they were.
 ///
-/// It is `compile_into` over the files of the system, of which no contract can say what they hold.
+/// It is `compile_into` over the files of the system. No contract can say what they hold: what is told is of some files at these paths.
 pub fn compile_files<R: Files + Threads + Wait + Sync>(
     rt: &R,
     alloc: Global,
@@ -103,7 +103,7 @@ pub fn compile_files<R: Files + Threads + Wait + Sync>(
 ) -> u8
 where
     R::File: Send,
-    ensures done { result ≡ 0 → (rows : ℕ) × (out.new.items ≡ out.old.items ++ rows_line rows) }
+    ensures done { result ≡ 0 → TellsRowsOfFiles plan.now (map string_bytes zones.now) settings out.old.items out.new.items }
     ensures quiet { result ≡ 0 → err.new.items ≡ err.old.items }
     ensures kept { result ≢ 0 → out.new.items ≡ out.old.items }
     ensures told { result ≢ 0 → (refused : ARefused) × Ends refused err.old.items err.new.items result }
