@@ -4,13 +4,13 @@
 what `import` told. `survey`, `pit` and `report` tell by it. It fits one plan, by the sum of its bytes."""
 from __future__ import annotations
 
-import hashlib
 import json
 import os
 from dataclasses import asdict, dataclass, field
 
 from pit_tools import VERSION, outputs
 from pit_tools.errors import UserError
+from pit_tools.sums import sum_of
 from pit_tools.units import Measures
 
 
@@ -46,15 +46,6 @@ class PlanNote:
 
 def path_of_note(plan_path: str) -> str:
     return plan_path + ".json"
-
-
-def sum_of(path: str) -> str:
-    """The SHA-256 of a file, in hexadecimal digits. It raises OSError."""
-    found = hashlib.sha256()
-    with open(path, "rb") as file:
-        while piece := file.read(1 << 20):
-            found.update(piece)
-    return found.hexdigest()
 
 
 def sum_or_none(path: str) -> str:

@@ -7,9 +7,10 @@ from datetime import datetime
 from typing import Iterator, NamedTuple, Sequence
 
 from pit_tools.cli import version
-from pit_tools.plan_note import path_of_note, sum_of
+from pit_tools.plan_note import path_of_note
 from pit_tools.report import pit_sums
 from pit_tools.spelling import with_commas
+from pit_tools.sums import sum_of
 from pit_tools.survey_facts import Facts
 
 
