@@ -1,10 +1,14 @@
 """Finds the package beside the tests, where it is not installed, and the built program, where there is one."""
 import os
+import signal
 import sys
 
 import pytest
 
 sys.path.insert(0, os.path.dirname(os.path.dirname(os.path.abspath(__file__))))
+# A shell that runs the tests in the background, or nohup, has all that they start ignore these.
+signal.signal(signal.SIGINT, signal.default_int_handler)
+signal.signal(signal.SIGHUP, signal.SIG_DFL)
 
 
 def _built(name: str, variable: str) -> str:
