@@ -2,8 +2,6 @@ pub mod Enough
 pub mod Members
 pub mod One
 pub mod OneCone
-pub mod OneMore
-pub mod Passing
 pub mod Same
 pub mod SomeLeft
 pub mod Slopes

@@ -1,4 +1,4 @@
--- Lists of predecessors without arcs that follow from others.
+-- What is left of lists of predecessors.
 use Rattle.std.specs.Prelude.{ℕ, ◌++◌, Bool, List, [], ◌∷◌, fold, map, slice_index_or, if◌then◌else◌}
 use Rattle.std.specs.List.{list_any}
 use Rattle.precedence.specs.IdRuns.{is_in}

@@ -3,4 +3,3 @@ pub mod Least
 pub mod Left
 pub mod Mined
 pub mod SayTheSame
-pub mod inner

@@ -1,10 +1,7 @@
-//! Lists of predecessors without arcs that follow from others.
+//! Lists of predecessors, of which arcs that follow from others are left out.
 #![tactic(auto)]
 
-mod behind;
 mod fewer_preds;
 pub mod laws;
-mod leaving;
-mod left;
 
 pub use fewer_preds::FewerPreds;

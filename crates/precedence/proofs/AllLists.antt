@@ -1,5 +1,5 @@
 -- What the rows of the zones' cones say of all blocks is what lies above each.
-use Rattle.std.proofs.Common.{◌≡◌, ℕ, zero, suc, ◌+◌, ◌-◌, ◌<◌, ◌≤◌, ◌^◌, ◌&&◌, Bool, false, List, [], ◌∷◌, Some, All, length, map, get_or, nat_lt, nat_le, slice_get, refl, sym, ap, subst, ◌∙◌, arith, ⊎_elim, if◌then◌else◌}
+use Rattle.std.proofs.Common.{◌≡◌, ℕ, ◌+◌, ◌-◌, ◌<◌, ◌≤◌, ◌^◌, ◌&&◌, Bool, false, List, [], ◌∷◌, Some, All, length, map, get_or, nat_lt, nat_le, slice_get, refl, sym, ap, subst, ◌∙◌, arith, ⊎_elim, if◌then◌else◌}
 use Rattle.std.specs.Int.{abs_diff}
 use Rattle.std.specs.List.Sorted.{IsStrictlyIncreasing}
 use Rattle.std.specs.Simd.Lanes.{zip2}
@@ -17,7 +17,6 @@ use Rattle.precedence.specs.Codes.{place_code, place_codes}
 use Rattle.precedence.specs.declared.places.code.TheConstants.{CODES}
 use Rattle.precedence.specs.Cone.{above, is_above, is_within_slopes, places_where, preds, slope_along_x, slope_along_y}
 use Rattle.precedence.specs.Zones.{HasZones}
-use Rattle.precedence.specs.IdRuns.{is_in}
 use Rattle.precedence.specs.inner.FoundFields.{found_in, KeepsFound}
 use Rattle.precedence.specs.inner.Lists.{in_cone, in_cones}
 use Rattle.precedence.specs.inner.Rows.{is_in_rows, AreInOrder, IsTable, IsWithin}
@@ -26,7 +25,7 @@ use Rattle.precedence.specs.declared.cones.cone_table.ConeTable.{ConeTable}
 use Rattle.precedence.specs.declared.cones.cone_rows.Extent.{Extent}
 use Rattle.precedence.specs.declared.cones.cone_rows.Row.{Row}
 use Rattle.precedence.specs.declared.lists.found_preds.FoundPreds.TheInside.{Inside}
-use Rattle.precedence.proofs.PlacesWhere.{length-places_where, told_nowhere}
+use Rattle.precedence.proofs.PlacesWhere.{length-places_where}
 use Rattle.precedence.proofs.runs.RunsOfRows.{before_rows}
 
 -- an element that is there meets what all meet
@@ -132,14 +131,6 @@ pub tables_in_order : (grid : Grid) (cones : List Cone) (extents : List Extent) 
     → All (λ t. AreInOrder t.rows.items) tables
 tables_in_order grid cones extents tables told k d lt = (told k d lt).in_order
 
--- an identifier that no block has stands in no list
-in_none : (one : ℕ → ℕ → List ℕ) (zones codes : List ℕ) (m k : ℕ) → ((zone from : ℕ) → is_in (one zone from) k ≡ false)
-    → is_in (get_or (zip2 one zones codes) m []) k ≡ false
-in_none one [] codes m k none = refl
-in_none one (z ∷ zs) [] m k none = refl
-in_none one (z ∷ zs) (c ∷ cs) zero k none = none z c
-in_none one (z ∷ zs) (c ∷ cs) (suc m) k none = in_none one zs cs m k none
-
 -- what a search finds
 module _ (f : Inside) (keeps : KeepsFound f) where
   abbrev one : ℕ → ℕ → List ℕ
@@ -155,14 +146,6 @@ module _ (f : Inside) (keeps : KeepsFound f) where
       ∙ get_or-zip2 one f.zones.items f.places.codes.items id zone from []
       (omega (arith, found_length, ap length is)) (omega (arith, found_length, ap length is, keeps.each))
       ∙ (λ j. one (sym of_block j) (sym at_place j))
-
-  pub nowhere_found : (lists : List (List ℕ)) (block pred : ℕ) → found_in f ≡ lists → length f.zones.items ≤ pred
-      → is_in (get_or lists block []) pred ≡ false
-  nowhere_found lists block pred is past =
-      ap (λ lists. is_in (get_or lists block []) pred) (sym is)
-      ∙ in_none one f.zones.items f.places.codes.items block pred (λ zone from.
-      told_nowhere (is_in_rows from (zone_rows f.tables.tables.items f.tables.of_zone.items zone)) pred f.places.codes.items
-      (omega (arith, keeps.each, past)))
 
   -- no more than there are blocks
   pub few_found : (lists : List (List ℕ)) (id zone from : ℕ) → found_in f ≡ lists → id < length lists

@@ -1,3 +1,8 @@
+pub mod Covers
 pub mod CutRows
-pub mod FoundEnough
+pub mod Firsts
+pub mod Rests
+pub mod States
+pub mod Steps
+pub mod StepsEnough
 pub mod Walks

@@ -1,13 +1,15 @@
 pub mod Arcs
 pub mod Beside
 pub mod CountedFields
-pub mod Cut
 pub mod FoundFields
 pub mod Lists
 pub mod NumberingFields
 pub mod PredsFields
 pub mod Reach
+pub mod Rest
 pub mod Rows
 pub mod Search
 pub mod Seen
+pub mod States
+pub mod Steps
 pub mod ZoneTables

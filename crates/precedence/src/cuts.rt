@@ -1,5 +1,8 @@
-//! Cones cut in pieces, by which few predecessors of a block are found that stand for all of them.
+//! Walks over cones, by which few predecessors of a block are found that stand for all of them.
 
-pub mod cut_cone;
-pub mod cutting;
-pub mod enough;
+pub mod covers;
+pub mod first;
+pub mod rest;
+pub mod state;
+pub mod states;
+pub mod walking;

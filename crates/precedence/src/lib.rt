@@ -8,8 +8,8 @@ mod lists;
 mod numbering;
 mod places;
 
-pub use lists::ask_preds::AskPreds;
 pub use lists::counted_preds::CountedPreds;
+pub use lists::enough_preds::EnoughPreds;
 pub use lists::found_preds::{FoundPreds, preds};
 pub use lists::id_run::IdRun;
 pub use lists::ids_as_runs::add_runs_of_ids;

@@ -1,9 +1,9 @@
 //! The lists of predecessors, kept, found or counted, and the runs of identifiers that they are told by.
 
 pub mod arc_counts;
-pub mod ask_preds;
 pub mod beside;
 pub mod counted_preds;
+pub mod enough_preds;
 pub mod found_preds;
 pub mod id_run;
 pub mod ids_as_runs;

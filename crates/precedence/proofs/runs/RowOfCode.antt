@@ -38,7 +38,7 @@ module _ (from code high : ℕ) (rows : List Row) (apart : LieApart 0 rows high)
       )
 
   -- each row before it is
-  before_past : (k : ℕ) → k < number → from + get_or (pasts rows) k 0 ≤ code
+  pub before_past : (k : ℕ) → k < number → from + get_or (pasts rows) k 0 ≤ code
   before_past k lt =
       let within : k < length rows = omega (arith, start_within (code - from + 1) (pasts rows), long) in
       some k within (start_before_in (code - from + 1) k (pasts rows) lt)

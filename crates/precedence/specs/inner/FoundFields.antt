@@ -1,17 +1,17 @@
 -- How the places, zones and tables of a search are seen as the lists that it finds.
 use Rattle.std.specs.Prelude.{◌≡◌, ◌<◌, ℕ, List, All, length}
-use Rattle.precedence.specs.inner.Cut.{AreCut}
 use Rattle.precedence.specs.inner.Lists.{in_cones}
 use Rattle.precedence.specs.inner.Rows.{AreInOrder}
+use Rattle.precedence.specs.inner.States.{AreStates}
 use Rattle.precedence.specs.declared.lists.found_preds.FoundPreds.TheInside.{Inside}
 
 abbrev pub found_in : Inside → List (List ℕ)
 found_in f = in_cones f.tables.tables.items f.tables.of_zone.items f.places.codes.items f.zones.items f.places.codes.items
 
--- each block has a zone, whose table is there, the rows of the tables lie in order, and what is cut are their cones
+-- each block has a zone, whose table is there, the rows of the tables lie in order, and the states are those of their cones
 pub record KeepsFound (f : Inside) : Type 0 where
   pub each : length f.zones.items ≡ length f.places.codes.items
   pub zones : All (λ z. z < length f.tables.of_zone.items) f.zones.items
   pub below : All (λ t. t < length f.tables.tables.items) f.tables.of_zone.items
   pub in_order : All (λ t. AreInOrder t.rows.items) f.tables.tables.items
-  pub cut : AreCut f.tables.tables.items f.cuts.items
+  pub states : AreStates f.tables.tables.items f.states.states.items f.states.edges.items

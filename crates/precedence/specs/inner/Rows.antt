@@ -60,3 +60,7 @@ pasts rows = map (λ row. row.past) rows
 -- the rows lie in order
 abbrev pub AreInOrder : List Row → Type 0
 AreInOrder rows = (high : ℕ) × LieApart 0 rows high
+
+-- the same, and no row begins before `low`
+abbrev pub LieFrom : ℕ → List Row → Type 0
+LieFrom low rows = (high : ℕ) × LieApart low rows high

@@ -1,29 +1,26 @@
 //! Predecessors that are found when they are asked for.
 
-ghost use Rattle.std.specs.Prelude.{◌≡◌, ℕ, ◌+◌, ◌<◌, ◌≤◌, ◌++◌, [], true, false, IfOk, IsTrue, OnOk, All, length, map, sum_by};
+ghost use Rattle.std.specs.Prelude.{◌≡◌, ◌<◌, ◌++◌, IfOk, OnOk, All, length, map, sum_by};
 ghost use Rattle.precedence.specs.Cone.{preds};
 ghost use Rattle.precedence.specs.Zones.{HasZones};
-ghost use Rattle.precedence.specs.IdRuns.{ids_of, is_in};
-ghost use Rattle.precedence.specs.inner.Cut.{AreCut, HasWalked};
+ghost use Rattle.precedence.specs.IdRuns.{ids_of};
 ghost use Rattle.precedence.specs.inner.Lists.{in_cone};
 ghost use Rattle.precedence.specs.inner.Rows.{AreInOrder};
 ghost use Rattle.precedence.specs.declared.places.code.TheConstants.{CODES};
 
 use crate::cones::bounds::extents_of;
-use crate::cones::cone_table::ConeTable;
 use crate::cones::zone_tables::{ZoneTables, tables_of};
-use crate::cuts::cut_cone::CutCone;
-use crate::cuts::cutting::cut_cone;
-use crate::cuts::enough::add_enough;
+use crate::cuts::state::States;
+use crate::cuts::states::no_states;
+use crate::cuts::walking::{states_of, walk};
 use crate::lists::arc_counts::arcs_in_cones;
-use crate::lists::ask_preds::AskPreds;
 use crate::lists::beside::{ByChunk, ByRow};
+use crate::lists::enough_preds::EnoughPreds;
 use crate::lists::id_run::IdRun;
 use crate::lists::ids_as_runs::add_ids_of_runs;
 use crate::lists::pred_lists::PredLists;
 use crate::lists::predecessors::Preds;
 use crate::lists::row_runs::{Hint, NOTHING_KNOWN, add_runs_in_rows};
-use crate::lists::runs_from::run_in_rows;
 use crate::numbering::Numbering;
 use crate::places::{Places, places_of};
 use pit_parts::block::Block;
@@ -45,8 +42,8 @@ pub struct FoundPreds {
     tables: ZoneTables,
     // where the run of each row of the tables was found last: a guess, which changes the time and not the lists
     hints: Vec<Cell<Hint>>,
-    // the pieces of each table's cone, or none
-    cuts: Vec<CutCone>,
+    // the states of walks over the cones, or none
+    states: States,
 }
 
 impl Model for FoundPreds {
@@ -80,22 +77,22 @@ impl FoundPreds {
             zones,
             tables,
             hints,
-            cuts: Vec::new(alloc),
+            states: no_states(alloc),
         })
     }
 
-    /// The same, with the cones cut in pieces, so that few predecessors are found that stand for all others. Fails only where memory is
-    /// refused.
+    /// The same, with the states of the walks that find few predecessors of each block that stand for all others. Fails only where memory
+    /// is refused.
     pub fn cut(self, alloc: Global) -> Result<FoundPreds, AllocError>
         ensures { IfOk result (λ found. found ≡ self) }
     {
-        let cuts = cuts_of(alloc, self.tables.tables.as_slice())?;
+        let states = states_of(alloc, &self.places, self.zones.as_slice(), &self.tables)?;
         Ok(FoundPreds {
             places: self.places,
             zones: self.zones,
             tables: self.tables,
             hints: self.hints,
-            cuts,
+            states,
         })
     }
 
@@ -154,36 +151,23 @@ impl PredLists for FoundPreds {
     }
 }
 
-impl AskPreds for FoundPreds {
+impl EnoughPreds for FoundPreds {
     #[tactic(auto, using(crate::proofs::AllLists::found_length))]
-    fn run_from(&self, block: u32, pred: u32, most: u32, hint: &Cell<usize>) -> u32 {
-        let count = self.zones.len();
-        if block as usize >= count {
-            return 0;
-        }
-        if pred as usize >= count {
-            return 0;
-        }
-        let zone = self.zones[block as usize];
-        let from = self.places.codes[block as usize];
-        run_in_cone(&self.places, &self.tables, zone, from, pred, most, hint)
-    }
-
-    #[tactic(auto, using(crate::proofs::AllLists::found_length))]
-    fn add_enough(&self, found: &mut Vec<u32>, block: u32) -> Result<bool, AllocError> {
+    fn add_enough(&self, found: &mut Vec<u32>, block: u32) -> Result<(), AllocError> {
         let index = block as usize;
         let zone = self.zones[index];
         let from = self.places.codes[index];
-        let told = enough_in_cone(
+        let table = self.tables.of_zone[zone as usize];
+        walk(
             found,
             &self.places,
             self.zones.as_slice(),
             &self.tables,
-            self.cuts.as_slice(),
-            zone,
+            &self.states,
+            table,
             from,
         )?;
-        Ok(told)
+        Ok(())
     }
 }
 
@@ -239,88 +223,4 @@ fn add_runs_in_cone(
     } else {
         add_runs_in_rows(&ByRow, runs, places, rows, past, widths, hints, from)
     }
-}
-
-// How many identifiers from `pred` on, at most `most`, have codes in a row of a zone's cone, seen from the code `from`.
-#[inline(always)]
-fn run_in_cone(
-    places: &Places,
-    tables: &ZoneTables,
-    zone: u8,
-    from: u64,
-    pred: u32,
-    most: u32,
-    hint: &Cell<usize>,
-) -> u32
-    requires zone { zone < length tables.now.of_zone.items }
-    requires below { All (λ t. t < length tables.now.tables.items) tables.now.of_zone.items }
-    requires in_order { All (λ t. AreInOrder t.rows.items) tables.now.tables.items }
-    requires from { from < CODES }
-    requires pred { pred < length places.now.codes.items }
-    requires some { 0 < most }
-    ensures most { result ≤ most }
-    ensures all { (k : ℕ) → k < result → is_in (in_cone tables.now.tables.items tables.now.of_zone.items
-        places.now.codes.items zone from) (pred + k) ≡ true }
-    ensures none { result ≡ 0 → is_in (in_cone tables.now.tables.items tables.now.of_zone.items
-        places.now.codes.items zone from) pred ≡ false }
-{
-    let table = tables.of(zone);
-    run_in_rows(
-        places,
-        table.rows.as_slice(),
-        table.past.as_slice(),
-        from,
-        pred,
-        most,
-        hint,
-    )
-}
-
-fn cuts_of(alloc: Global, tables: &[ConeTable]) -> Result<Vec<CutCone>, AllocError>
-    requires { All (λ t. AreInOrder t.rows.items) tables.now }
-    ensures { IfOk result (λ cuts. AreCut tables.now cuts.items) }
-{
-    let mut cuts = Vec::with_capacity(alloc, tables.len())?;
-    for table in tables {
-        let cut = cut_cone(alloc, table.rows.as_slice(), table.past.as_slice())?;
-        cuts.push(cut)?;
-    }
-    Ok(cuts)
-}
-
-// Puts identifiers in a zone's cone, seen from the code `from`, into `found` that stand for all others there, where its cone is cut.
-#[inline(always)]
-fn enough_in_cone(
-    found: &mut Vec<u32>,
-    places: &Places,
-    zones: &[u8],
-    tables: &ZoneTables,
-    cuts: &[CutCone],
-    zone: u8,
-    from: u64,
-) -> Result<bool, AllocError>
-    requires zone { zone < length tables.now.of_zone.items }
-    requires below { All (λ t. t < length tables.now.tables.items) tables.now.of_zone.items }
-    requires cut { AreCut tables.now.tables.items cuts.now }
-    requires from { from < CODES }
-    requires none { found.old.items ≡ [] }
-    ensures { IfOk result (λ told. IsTrue told → HasWalked places.now.codes.items zones.now
-        tables.now.tables.items tables.now.of_zone.items zone from found.new.items) }
-{
-    let number = tables.of_zone[zone as usize];
-    if number >= cuts.len() {
-        return Ok(false);
-    }
-    let table = tables.of(zone);
-    let told = add_enough(
-        found,
-        places,
-        zones,
-        tables.of_zone.as_slice(),
-        number,
-        table.rows.as_slice(),
-        &cuts[number],
-        from,
-    )?;
-    Ok(told)
 }

@@ -3,9 +3,9 @@ use Rattle.precedence.specs.IdRuns.{ids_of}
 use Rattle.fewer_arcs.proofs.Enough.{enough_left}
 use Rattle.fewer_arcs.proofs.fewer_preds.add_fewer.Goals as goal
 
-pub returns-then-told-clause-left : goal.returns-then-told-clause-left
-returns-then-told-clause-left g c =
+pub returns-clause-left : goal.returns-clause-left
+returns-clause-left g c =
     let lists = g.L.PredLists.lists c.args.lists.now in
     c.in_ok-add_runs_of_ids.ensures
     ∙ ap (λ ids. ids_of c.args.runs.now.items ++ ids)
-    (c.as_slice.ensures.value ∙ enough_left lists (get_or lists c.args.id []) c.add_enough.new.found.items (c.in_ok-told.ensures.enough c.if-told.true))
+    (c.as_slice.ensures.value ∙ enough_left lists (get_or lists c.args.id []) c.add_enough.new.found.items c.in_ok-add_enough.ensures.enough)

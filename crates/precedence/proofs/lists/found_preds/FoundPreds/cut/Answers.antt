@@ -8,5 +8,5 @@ invariant_of-result c =
       zones = inv.zones;
       below = inv.below;
       in_order = inv.in_order;
-      cut = (rw c.as_slice.ensures.value at c.in_ok-cuts.ensures);
+      states = c.in_ok-states.ensures;
     }

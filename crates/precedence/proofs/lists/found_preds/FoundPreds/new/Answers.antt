@@ -6,6 +6,7 @@ use Rattle.precedence.specs.Codes.{place_code}
 use Rattle.precedence.specs.Cone.{preds}
 use Rattle.precedence.specs.Zones.{HasZones}
 use Rattle.precedence.specs.inner.Lists.{in_cones}
+use Rattle.precedence.proofs.enough.States.{no_state}
 use Rattle.precedence.proofs.AllLists.{preds_are, tables_in_order}
 use Rattle.precedence.proofs.lists.found_preds.FoundPreds.new.Goals as goal
 
@@ -23,7 +24,7 @@ invariant_of-result c =
           (λ k d lt. omega (arith, zones k d lt, c.in_ok-tables.ensures.zones, cones)));
       below = c.in_ok-tables.ensures.below;
       in_order = tables_in_order c.grid.result c.cones-cones.result.now c.as_slice.result.now tables.tables.items c.in_ok-tables.ensures.told;
-      cut = λ t table cut lt. absurd (omega arith);
+      states = rw (c.no_states.ensures.states, c.no_states.ensures.edges) (no_state tables.tables.items);
     }
 
 pub returns : goal.returns

@@ -1,0 +1,39 @@
+-- How far a walk has come that goes from one predecessor that is found to the next, over what is left of a cone.
+use Rattle.std.specs.Prelude.{◌≡◌, ℕ, ◌<◌, ◌≤◌, Bool, true, false, List, slice_index, ◌⊎◌}
+use Rattle.std.specs.List.Sorted.{IsStrictlyIncreasing}
+use Rattle.precedence.specs.IdRuns.{is_in}
+use Rattle.precedence.specs.inner.Search.{lying}
+use Rattle.precedence.specs.inner.Rows.{is_in_rows}
+use Rattle.precedence.specs.inner.ZoneTables.{zone_rows}
+use Rattle.precedence.specs.declared.cones.cone_rows.Row.{Row}
+use Rattle.precedence.specs.declared.cones.cone_table.ConeTable.{ConeTable}
+
+-- the rows of the cone of each block
+abbrev pub cone_of : List ConeTable → (of_zone zones : List ℕ) → ℕ → List Row
+cone_of tables of_zone zones id = zone_rows tables of_zone (slice_index zones id)
+
+-- an identifier lies in the cone of another one
+abbrev pub is_behind_id : List ℕ → (ℕ → List Row) → ℕ → ℕ → Bool
+is_behind_id codes cone d x = is_in_rows (slice_index codes d) (cone d) (slice_index codes x)
+
+-- of what lies in `rows` some are found; each other one lies in the cone of one that is found, or, from `next` on, in `rest`
+pub record IsWalkedTo (codes : List ℕ) (cone : ℕ → List Row) (from : ℕ) (rows rest : List Row) (next : ℕ) (found : List ℕ) : Type 0 where
+  pub rising : IsStrictlyIncreasing found
+  pub inside : (y : ℕ) → next ≤ y → is_in (lying from rest codes) y ≡ true → is_in (lying from rows codes) y ≡ true
+  pub among : (x : ℕ) → is_in found x ≡ true → is_in (lying from rows codes) x ≡ true
+  pub before : (x : ℕ) → is_in found x ≡ true → x < next
+  pub passed : (x : ℕ) → is_in (lying from rows codes) x ≡ true
+      → ((next ≤ x) × (is_in (lying from rest codes) x ≡ true))
+      ⊎ ((is_in found x ≡ true) ⊎ ((d : ℕ) × (is_in found d ≡ true) × (d < x) × (is_behind_id codes cone d x ≡ true)))
+  pub apart : (x d : ℕ) → is_in found x ≡ true → is_in found d ≡ true → d < x → is_behind_id codes cone d x ≡ false
+
+-- what lies in `rest` from `next` on lies in the cone of none that is found
+abbrev pub IsFree : List ℕ → (ℕ → List Row) → ℕ → (rest : List Row) (next : ℕ) (found : List ℕ) → Type 0
+IsFree codes cone from rest next found =
+    (d y : ℕ) → is_in found d ≡ true → next ≤ y → is_in (lying from rest codes) y ≡ true → is_behind_id codes cone d y ≡ false
+
+-- a walk over rows has found these, and nothing is left
+abbrev pub HasEnded : List ℕ → (ℕ → List Row) → ℕ → (rows : List Row) (found : List ℕ) → Type 0
+HasEnded codes cone from rows found =
+    (rest : List Row) × ((next : ℕ) × (IsWalkedTo codes cone from rows rest next found)
+    × ((y : ℕ) → next ≤ y → is_in (lying from rest codes) y ≡ false))

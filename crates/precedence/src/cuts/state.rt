@@ -1,0 +1,43 @@
+//! States of walks over cones. Definitions name these types, and so no function stands beside them.
+
+ghost use Rattle.std.specs.Prelude.{◌≡◌};
+ghost use Rattle.precedence.specs.inner.Beside.{AreNoWider};
+ghost use Rattle.precedence.specs.inner.Rows.{pasts};
+
+use crate::cones::cone_rows::{Row, Widths};
+use std::cell::Cell;
+
+/// How far a walk over a cone has come: what is left of it.
+#[derive(Drop)]
+pub struct State {
+    pub rest: Vec<Row>,
+    /// Where each row of the rest is past.
+    pub past: Vec<u64>,
+    pub widths: Widths,
+    /// Where each row was found to begin last: guesses.
+    pub hints: Vec<Cell<usize>>,
+    pub ghost all_past: { past.items ≡ pasts rest.items },
+    pub ghost no_wider: { AreNoWider widths rest.items },
+}
+
+/// That a walk goes from one state to another where the first block is found at a distance and its cone has a table.
+#[derive(Clone, Copy, Debug)]
+pub struct Edge {
+    pub state: usize,
+    pub gap: u64,
+    pub table: usize,
+    pub next: usize,
+    /// The edge with the same hash that was made before: a guess.
+    pub older: usize,
+}
+
+/// States, and the edges between them.
+#[derive(Drop)]
+pub struct States {
+    pub states: Vec<State>,
+    pub edges: Vec<Edge>,
+    /// By hash the edge that was made last: guesses.
+    pub newest: Vec<usize>,
+    /// How many rows more may be kept.
+    pub room: usize,
+}

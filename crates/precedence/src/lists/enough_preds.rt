@@ -1,0 +1,18 @@
+//! Lists of predecessors of which few stand for all others.
+
+ghost use Rattle.std.specs.Prelude.{◌≡◌, ◌<◌, ◌^◌, [], OnOk, length, slice_index_or};
+ghost use Rattle.precedence.specs.Enough.{AreEnough};
+
+use crate::lists::pred_lists::PredLists;
+use std::alloc::AllocError;
+
+/// Lists of predecessors in which those are found that stand for all others, and which need not tell the whole list for that.
+pub trait EnoughPreds: PredLists {
+    /// Puts the predecessors of a block into `found` that stand for all others. Where memory is refused, what `found` has is of no use.
+    fn add_enough(&self, found: &mut Vec<u32>, block: u32) -> Result<(), AllocError>
+        requires block { block < length (Self.lists self.now) }
+        requires none { found.old.items ≡ [] }
+        ensures enough { OnOk result (AreEnough (Self.lists self.now)
+            (slice_index_or (Self.lists self.now) block []) found.new.items) }
+        ensures countable { length (slice_index_or (Self.lists self.now) block []) < 2 ^ 63 };
+}
