@@ -10,7 +10,7 @@ use Rattle.lane.specs.Message.{IsEndedFrom}
 use Rattle.lane.specs.MessageKinds.{is_row, is_end, row_count, has_end}
 use Rattle.lane.specs.MessageOrders.{IsFrom}
 use Rattle.lane.specs.Steps.{with_message}
-use Rattle.lane.specs.inner.Views.{sent_in}
+use Rattle.lane.specs.EndFields.{sent_in}
 use Rattle.lane.specs.inner.Kept.{IsOpenPut, IsEndedPut}
 use Rattle.lane.proofs.Lists.{count_more}
 use Rattle.lane.proofs.Messages.{from_more, ended_from}

@@ -12,7 +12,7 @@ use Rattle.lane.specs.MessageKinds.{has_end, is_done, row_count}
 use Rattle.lane.specs.Whole.{IsWhole}
 use Rattle.lane.specs.Rule.{Putter, Closer, IsLane, put_parts, take_parts}
 use Rattle.lane.specs.Steps.{MaySend, full_view}
-use Rattle.lane.specs.inner.Views.{sent_lists, taken_lists, gathering_in}
+use Rattle.lane.specs.EndFields.{sent_lists, taken_lists, gathering_in}
 use Rattle.lane.specs.Ends.{Lane, PutEndView, TakeEndView, ArePutsFrom, AreTakesFrom}
 use Rattle.lane.specs.inner.Kept.{IsJoining, IsStopping, IsGathering, IsAllIn}
 use Rattle.lane.proofs.Lists.{all_more}

@@ -15,7 +15,8 @@ use Rattle.lane.specs.Whole.{IsWhole}
 use Rattle.lane.specs.Rule.{Role, role_of, IsSeated, AreSeated, IsLaneAt, IsCounting, IsLane, parts_from, put_parts, take_parts, all_parts}
 use Rattle.lane.specs.Steps.{with_message, IsFree, HasEnded, MaySend, MayTake, full_view}
 use Rattle.lane.specs.Laws.{send_event, MakeIsTheOpening, LookFindsNothing}
-use Rattle.lane.specs.inner.Views.{IsOrdered, Takes, sent_lists, taken_lists, gathering_in, capacity_in}
+use Rattle.lane.specs.EndFields.{sent_lists, taken_lists, gathering_in, capacity_in}
+use Rattle.lane.specs.inner.Views.{IsOrdered, Takes}
 use Rattle.lane.specs.inner.Kept.{IsClosers, IsAllIn}
 use Rattle.lane.proofs.Lists.{all_get, some_at}
 use Rattle.lane.proofs.Seats.{at_part, has_left, has_right, has_part, at_within, role_of_part, every_set, every_more, opened}

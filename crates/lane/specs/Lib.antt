@@ -1,3 +1,4 @@
+pub mod EndFields
 pub mod Ends
 pub mod Lawful
 pub mod Laws

@@ -5,9 +5,9 @@ ghost use Rattle.std.specs.List.{All, sum_by};
 ghost use Rattle.crossbeam_channel.specs.Ends.{receives_on};
 ghost use Rattle.lane.specs.MessageKinds.{is_done, row_count};
 ghost use Rattle.lane.specs.Rule.{put_parts};
-ghost use Rattle.lane.specs.inner.Views.{sent_lists, taken_lists};
+ghost use Rattle.lane.specs.EndFields.{sent_lists, taken_lists, room_of, closer_view, quits_of, stopped_view};
 ghost use Rattle.lane.specs.Ends.{ArePutsFrom, AreTakesFrom, CloserView, StoppedView};
-ghost use Rattle.lane.specs.inner.Kept.{room_of, IsChannelOf, IsJoined, IsStopping, IsAllIn, closer_view, IsCloser, quits_of, stopped_view};
+ghost use Rattle.lane.specs.inner.Kept.{IsChannelOf, IsJoined, IsStopping, IsAllIn, IsCloser};
 ghost use Rattle.lane.specs.Whole.{IsWhole};
 
 use crate::gathered::Gathered;
@@ -52,6 +52,13 @@ impl Closer {
             files,
             takers,
         }
+    }
+
+    /// The sender and the pass by which it stops the lane.
+    pub fn seat(&self) -> &SeatedSender
+        ensures { self.now ≡ closer_view result.now self.now.files self.now.takers }
+    {
+        &self.seat
     }
 
     /// Sends one Stop for each valuer. `puts` are the ended puts of all files of this lane, in order.
@@ -171,6 +178,13 @@ impl Model for Stopped {
 }
 
 impl Stopped {
+    /// The sender and the pass by which it stopped the lane.
+    pub fn seat(&self) -> &SeatedSender
+        ensures { self.now ≡ stopped_view result.now self.now.takers }
+    {
+        &self.seat
+    }
+
     /// Gathers what the lane handed over, which is whole.
     ///
     /// `takes` are the take ends of all valuers of this lane, in order, and each of them is done. So no other end of

@@ -4,9 +4,9 @@ ghost use Rattle.std.specs.Prelude.{◌≡◌};
 ghost use Rattle.std.specs.List.{sum_by};
 ghost use Rattle.crossbeam_channel.specs.Claims.{view as known_by};
 ghost use Rattle.lane.specs.MessageKinds.{row_count};
-ghost use Rattle.lane.specs.inner.Views.{gathering_in, sent_lists};
+ghost use Rattle.lane.specs.EndFields.{gathering_in, sent_lists, gathered_view};
 ghost use Rattle.lane.specs.Whole.{IsWhole, GatheredView};
-ghost use Rattle.lane.specs.inner.Kept.{gathered_view, IsGathered};
+ghost use Rattle.lane.specs.inner.Kept.{IsGathered};
 
 use crate::rule::Seat;
 use std::marker::Model;
@@ -33,6 +33,13 @@ impl Gathered {
         ensures value { result ≡ gathering_in (known_by pass) }
     {
         Gathered { pass, rows }
+    }
+
+    /// The pass that has all parts of the lane.
+    pub fn pass(&self) -> &Seat
+        ensures { self.now ≡ gathered_view result.now }
+    {
+        &self.pass
     }
 
     /// The number of rows over all files.

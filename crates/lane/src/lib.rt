@@ -17,5 +17,8 @@ pub use closer::{Closer, GivenUp, Stopped};
 pub use gathered::Gathered;
 pub use message::Taken;
 pub use opening::open;
+pub use part::Part;
 pub use put_end::{EndedPut, PutEnd};
+pub use rule::{Parts, Receiver, Rule, Seat, Sender};
+pub use seated::{SeatedReceiver, SeatedSender};
 pub use take_end::TakeEnd;

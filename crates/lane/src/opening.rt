@@ -4,7 +4,8 @@ ghost use Rattle.std.specs.Prelude.{◌≡◌, ◌≤◌, [], ◌∷◌, IfOk, O
 ghost use Rattle.crossbeam_channel.specs.Ends.{receives_on};
 ghost use Rattle.lane.specs.declared.part.Part.TheVariants.{Count};
 ghost use Rattle.lane.specs.Ends.{ArePutsFrom, AreTakesFrom, first_puts, first_takes};
-ghost use Rattle.lane.specs.inner.Kept.{room_of, IsChannelOf, takes_left};
+ghost use Rattle.lane.specs.EndFields.{room_of};
+ghost use Rattle.lane.specs.inner.Kept.{IsChannelOf, takes_left};
 ghost use Rattle.lane.specs.Rule.{all_parts};
 ghost use Rattle.pit_parts.specs.declared.ranges.TheConstants.{MAX_CAPACITY, MAX_VALUERS, MAX_ZONES};
 

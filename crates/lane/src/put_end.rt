@@ -1,7 +1,8 @@
 //! The end of the lane that a file's reader puts its rows into.
 
 ghost use Rattle.std.specs.Prelude.{◌≡◌, ◌<◌, ◌≤◌, ◌++◌, true, [], ◌∷◌, length};
-ghost use Rattle.lane.specs.inner.Kept.{room_of, IsClosers, put_end_view, IsOpenPut, IsEndedPut};
+ghost use Rattle.lane.specs.EndFields.{room_of, put_end_view};
+ghost use Rattle.lane.specs.inner.Kept.{IsClosers, IsOpenPut, IsEndedPut};
 ghost use Rattle.lane.specs.Message.{IsEndedFrom};
 ghost use Rattle.lane.specs.MessageKinds.{has_end, row_count};
 ghost use Rattle.pit_parts.specs.declared.ranges.TheConstants.{MAX_ROWS};
@@ -56,6 +57,13 @@ impl PutEnd {
         };
         self.seat.put(rt, message);
         self.rows += 1;
+    }
+
+    /// The sender and the pass by which it sends.
+    pub fn seat(&self) -> &SeatedSender
+        ensures { self.now ≡ put_end_view result.now self.now.file }
+    {
+        &self.seat
     }
 
     /// The number of rows sent.

@@ -72,7 +72,7 @@ impl Outcome<Taken, Parts> for Looks {
 }
 
 impl Lesson<Taken, Parts> for Looks {
-    ghost use Rattle.lane.specs.inner.Views.{gathering_in};
+    ghost use Rattle.lane.specs.EndFields.{gathering_in};
     ghost use Rattle.lane.specs.Whole.{IsWhole};
 
     ghost fact = { λ v items. IsWhole (gathering_in v) };

@@ -9,8 +9,9 @@ ghost use Rattle.crossbeam_channel.specs.Fifo.{Forks};
 ghost use Rattle.lane.specs.Rule.{IsLane};
 ghost use Rattle.lane.specs.Whole.{IsWhole};
 ghost use Rattle.lane.specs.Steps.{with_message, MaySend, MayTake};
-ghost use Rattle.lane.specs.inner.Views.{gathering_in, IsOrdered, took_in, without_second, second_alone};
-ghost use Rattle.lane.specs.inner.Kept.{seated, room_of, IsChannelOf, MayGive, IsClosers, IsAllIn, SeatView};
+ghost use Rattle.lane.specs.EndFields.{gathering_in, took_in, seated, room_of, SeatView};
+ghost use Rattle.lane.specs.inner.Views.{IsOrdered, without_second, second_alone};
+ghost use Rattle.lane.specs.inner.Kept.{IsChannelOf, MayGive, IsClosers, IsAllIn};
 
 use crate::message::Taken;
 use crate::rule::{Gives, Joins, Looks, Parts, Receiver, Receives, Seat, Sender, Sends};
@@ -41,22 +42,30 @@ impl Model for SeatedSender {
 
 impl SeatedSender {
     /// A sender with the pass of its seat.
-    pub fn new(sender: Sender, pass: Seat) -> SeatedSender
+    pub(crate) fn new(sender: Sender, pass: Seat) -> SeatedSender
         requires seat { IsSeatAt (sends_on sender) pass }
         ensures value { result ≡ seated (sends_on sender) pass }
     {
         SeatedSender { sender, pass }
     }
 
+    /// The sender and its pass, which has a seat of the sender's channel.
+    pub fn parts(&self) -> (&Sender, &Seat)
+        ensures seat { IsSeatAt (sends_on result.0.now) result.1.now }
+        ensures seen { self.now ≡ seated (sends_on result.0.now) result.1.now }
+    {
+        (&self.sender, &self.pass)
+    }
+
     /// The pass alone.
-    pub fn into_pass(self) -> Seat
+    pub(crate) fn into_pass(self) -> Seat
         ensures known { known_by result ≡ self.known }
     {
         self.pass
     }
 
     /// Makes the parts of the view anew. The pass that is split off knows nothing.
-    pub fn split<M: Split<Parts>>(&mut self)
+    pub(crate) fn split<M: Split<Parts>>(&mut self)
         requires rule { (pass : ℕ) → Forks IsLane pass self.old.known (M.left self.old.known)
             (M.right self.old.known) }
         ensures made { self.new ≡ record self.old { known = M.left self.old.known } }
@@ -65,7 +74,7 @@ impl SeatedSender {
     }
 
     /// The part behind the closer's, with a sender of its own.
-    pub fn give_sender(&mut self) -> Result<SeatedSender, AllocError>
+    pub(crate) fn give_sender(&mut self) -> Result<SeatedSender, AllocError>
         requires may { MayGive self.old.known }
         ensures left { OnOk result (self.new
             ≡ record self.old { known = without_second self.old.known }) }
@@ -78,7 +87,10 @@ impl SeatedSender {
     }
 
     /// The part behind the closer's, with a receiver of its own.
-    pub fn give_receiver(&mut self, receiver: &Receiver) -> Result<SeatedReceiver, AllocError>
+    pub(crate) fn give_receiver(
+        &mut self,
+        receiver: &Receiver,
+    ) -> Result<SeatedReceiver, AllocError>
         requires channel { IsChannelOf self.old.lane (receives_on receiver.now) }
         requires may { MayGive self.old.known }
         ensures left { OnOk result (self.new
@@ -93,7 +105,7 @@ impl SeatedSender {
 
     /// Takes over the parts of another sender of the lane.
     #[tactic(auto, using(crate::proofs::Rules::joins))]
-    pub fn join_sender(&mut self, other: SeatedSender)
+    pub(crate) fn join_sender(&mut self, other: SeatedSender)
         requires lane { other.lane ≡ self.old.lane }
         requires closer { IsClosers self.old.known }
         ensures joined { self.new ≡ record self.old { known = self.old.known ++ other.known } }
@@ -104,7 +116,7 @@ impl SeatedSender {
 
     /// Takes over the parts of a receiver of the lane.
     #[tactic(auto, using(crate::proofs::Rules::joins))]
-    pub fn join_receiver(&mut self, other: SeatedReceiver)
+    pub(crate) fn join_receiver(&mut self, other: SeatedReceiver)
         requires lane { other.lane ≡ self.old.lane }
         requires closer { IsClosers self.old.known }
         ensures joined { self.new ≡ record self.old { known = self.old.known ++ other.known } }
@@ -114,7 +126,7 @@ impl SeatedSender {
     }
 
     /// Sends the message.
-    pub fn put<R: Wait>(&mut self, rt: &R, message: Taken)
+    pub(crate) fn put<R: Wait>(&mut self, rt: &R, message: Taken)
         requires may { MaySend (room_of self.old) self.old.known message }
         ensures sent { self.new ≡ record self.old { known = with_message self.old.known message } }
     {
@@ -147,7 +159,7 @@ impl SeatedSender {
     }
 
     /// Looks once at a lane that is done: nothing is left in its queue, so it is whole.
-    pub fn look<R: Wait>(&mut self, rt: &R, receiver: &Receiver)
+    pub(crate) fn look<R: Wait>(&mut self, rt: &R, receiver: &Receiver)
         requires channel { IsChannelOf self.old.lane (receives_on receiver.now) }
         requires full { (takers : ℕ) × IsAllIn self.old.known takers (room_of self.old) }
         ensures kept { self.new ≡ self.old }
@@ -175,8 +187,16 @@ impl Model for SeatedReceiver {
 }
 
 impl SeatedReceiver {
+    /// The receiver and its pass, which has a seat of the receiver's channel.
+    pub fn parts(&self) -> (&Receiver, &Seat)
+        ensures seat { IsSeatAt (receives_on result.0.now) result.1.now }
+        ensures seen { self.now ≡ seated (receives_on result.0.now) result.1.now }
+    {
+        (&self.receiver, &self.pass)
+    }
+
     /// Takes the next message.
-    pub fn take<R: Wait>(&mut self, rt: &R) -> Taken
+    pub(crate) fn take<R: Wait>(&mut self, rt: &R) -> Taken
         requires may { MayTake self.old.known }
         ensures took { self.new ≡ record self.old { known = with_message self.old.known result } }
         ensures ordered { IsOrdered (took_in self.new.known) }

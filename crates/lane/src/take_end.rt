@@ -1,11 +1,11 @@
 //! The end of the lane that a valuer takes from.
 
 ghost use Rattle.std.specs.Prelude.{◌≡◌, false, ◌++◌, [], ◌∷◌};
-ghost use Rattle.lane.specs.inner.Kept.{room_of, IsClosers, take_end_view, IsTake};
+ghost use Rattle.lane.specs.EndFields.{room_of, take_end_view, took_in};
+ghost use Rattle.lane.specs.inner.Kept.{IsClosers, IsTake};
 ghost use Rattle.lane.specs.Message.{Rises};
 ghost use Rattle.lane.specs.MessageKinds.{is_done, ends_in_mark};
 ghost use Rattle.lane.specs.MessageOrders.{EndsClose, MarksLast};
-ghost use Rattle.lane.specs.inner.Views.{took_in};
 ghost use Rattle.lane.specs.Ends.{TakeEndView};
 
 use crate::message::Taken;
@@ -55,6 +55,13 @@ impl TakeEnd {
         let message = self.seat.take(rt);
         self.done = matches!(message, Taken::Stop | Taken::Quit);
         message
+    }
+
+    /// The receiver and the pass by which it takes.
+    pub fn seat(&self) -> &SeatedReceiver
+        ensures { self.now ≡ take_end_view result.now self.now.taker }
+    {
+        &self.seat
     }
 
     /// Whether Stop or Quit was taken. It is then the last that was taken.

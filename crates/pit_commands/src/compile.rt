@@ -44,14 +44,13 @@ use valuers::OpenGate;
 /// The starts, which none was spent of, tell what became of them: `NoThread` is told only where one was refused before there were enough.
 #[tactic(auto, using(crate::proofs::Compiles::unopened_files, crate::proofs::Compiles::refused_line))]
 pub fn compile_into<R: Threads + Wait + Sync, O: Opener, S: Sink>(
-    rt: &R,
     alloc: Global,
     files: &mut O,
     sinks: &mut Sinks<S>,
     plan: &Plan,
     destinations: &[Destination],
     settings: Settings,
-    starts: &mut Starts,
+    starts: &mut Starts<'_, R>,
     zones: &[String],
     out: &mut Vec<u8>,
 ) -> Result<(), Refused>
@@ -69,7 +68,6 @@ pub fn compile_into<R: Threads + Wait + Sync, O: Opener, S: Sink>(
 {
     let feeds = open_all(alloc, zones, files)?;
     let gathered = run_with_starts(
-        rt,
         alloc,
         feeds,
         plan,
@@ -113,14 +111,13 @@ where
         Err(refusal) => return tell(alloc, &Refused::from(refusal), err),
     };
     match compile_into(
-        rt,
         alloc,
         &mut SystemFiles::new(rt),
         &mut sinks,
         plan,
         destinations,
         settings,
-        &mut Starts::new(MOST_STARTS),
+        &mut Starts::new(rt, MOST_STARTS),
         zones,
         out,
     ) {

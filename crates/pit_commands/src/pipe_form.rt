@@ -58,19 +58,18 @@ pub fn pipe<R: Threads + Wait + Sync>(
     ensures refused { IfErr result (PipeRefused plan.now (formulas_of destinations.now) zones.now) }
     ensures kept { OnErr result (out.new.items ≡ out.old.items) }
 {
-    let mut starts = Starts::new(MOST_STARTS);
-    pipe_with_starts(rt, alloc, zones, plan, destinations, &mut starts, out)
+    let mut starts = Starts::new(rt, MOST_STARTS);
+    pipe_with_starts(alloc, zones, plan, destinations, &mut starts, out)
 }
 
 /// The same, with starts that the caller lends, and which tell what became of them: `NoThread` is answered only where a start was refused
 /// before there were enough.
 pub fn pipe_with_starts<R: Threads + Wait + Sync>(
-    rt: &R,
     alloc: Global,
     zones: &[Piece],
     plan: &Plan,
     destinations: &[Destination],
-    starts: &mut Starts,
+    starts: &mut Starts<'_, R>,
     out: &mut Vec<u8>,
 ) -> Result<Gathered, Refusal>
     requires unspent { starts.old ≡ none_spent starts.old.allowed }
@@ -90,7 +89,6 @@ pub fn pipe_with_starts<R: Threads + Wait + Sync>(
     require_settings(zones.len(), plan, destinations, SETTINGS)?;
     let feeds = lent(alloc, zones)?;
     let compiled = compile_with_starts(
-        rt,
         alloc,
         feeds,
         plan,

@@ -52,11 +52,10 @@ impl<S: Sink> Task<S> {
     /// it appends to `text` what standard output is to have, and else to `lines` what standard error is to have.
     pub fn run<R: Threads + Wait + Sync, O: Opener>(
         &mut self,
-        rt: &R,
         alloc: Global,
         files: &mut O,
         destinations: &[Destination],
-        starts: &mut Starts,
+        starts: &mut Starts<'_, R>,
         text: &mut Vec<u8>,
         lines: &mut Vec<u8>,
     ) -> u8
@@ -72,7 +71,7 @@ impl<S: Sink> Task<S> {
         ensures settled { AreSettled starts.old starts.new }
     {
         match self {
-            Task::Pipe(model) => match run_pipe(rt, alloc, model, destinations, starts, text) {
+            Task::Pipe(model) => match run_pipe(alloc, model, destinations, starts, text) {
                 Ok(()) => 0,
                 Err(refused) => tell(alloc, &refused, lines),
             },
@@ -82,7 +81,6 @@ impl<S: Sink> Task<S> {
                 zones,
                 sinks,
             } => match compile_into(
-                rt,
                 alloc,
                 files,
                 sinks,
@@ -102,11 +100,10 @@ impl<S: Sink> Task<S> {
 
 // Appends what the pipe form prints of the model to `text`. Where it is refused `text` is as it was.
 fn run_pipe<R: Threads + Wait + Sync>(
-    rt: &R,
     alloc: Global,
     model: &Model,
     destinations: &[Destination],
-    starts: &mut Starts,
+    starts: &mut Starts<'_, R>,
     text: &mut Vec<u8>,
 ) -> Result<(), Refused>
     requires { starts.old ≡ none_spent starts.old.allowed }
@@ -120,6 +117,6 @@ fn run_pipe<R: Threads + Wait + Sync>(
     ensures settled { AreSettled starts.old starts.new }
 {
     let zones = model.pieces.zones();
-    pipe_with_starts(rt, alloc, zones, &model.plan, destinations, starts, text)?;
+    pipe_with_starts(alloc, zones, &model.plan, destinations, starts, text)?;
     Ok(())
 }

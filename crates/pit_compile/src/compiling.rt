@@ -84,9 +84,8 @@ pub fn compile<R: Threads + Wait + Sync, F: Feed + Send + Drop, G: Gate + Sync>(
         (λ _. budget.settings.valuers + length feeds.items ≤ budget.starts) }
 {
     let Budget { settings, starts } = budget;
-    let mut starts = Starts::new(starts);
+    let mut starts = Starts::new(rt, starts);
     compile_with_starts(
-        rt,
         alloc,
         feeds,
         plan,
@@ -100,13 +99,12 @@ pub fn compile<R: Threads + Wait + Sync, F: Feed + Send + Drop, G: Gate + Sync>(
 /// The same as `compile`, with starts that the caller lends, and which tell what became of them: a thread is started for each valuer and
 /// each file, and joined, or else a start was refused, or none was tried. `NoThread` is answered only where a start was refused.
 pub fn compile_with_starts<R: Threads + Wait + Sync, F: Feed + Send + Drop, G: Gate + Sync>(
-    rt: &R,
     alloc: Global,
     feeds: Vec<F>,
     plan: &Plan,
     destinations: &[Destination],
     settings: Settings,
-    starts: &mut Starts,
+    starts: &mut Starts<'_, R>,
     gate: &G,
 ) -> Result<Compiled, Refusal>
     requires unspent { starts.old ≡ none_spent starts.old.allowed }
@@ -135,16 +133,7 @@ pub fn compile_with_starts<R: Threads + Wait + Sync, F: Feed + Send + Drop, G: G
         valuers: settings.valuers as u8,
         capacity: settings.capacity,
     };
-    let handed = hand_over(
-        rt,
-        alloc,
-        feeds,
-        plan,
-        destinations,
-        allowance,
-        starts,
-        gate,
-    )?;
+    let (handed, _given) = hand_over(alloc, feeds, plan, destinations, allowance, starts, gate)?;
     compiled_of(alloc, plan, given, handed)
 }
 

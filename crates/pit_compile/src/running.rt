@@ -83,9 +83,8 @@ pub fn run_limited<R: Threads + Wait + Sync, F: Feed + Send + Drop, G: Gate + Sy
         Runs plan.now (formulas_of destinations.now) settings (map F.left feeds.items)
         (HasFailed F.is_sure F.failures feeds.items) starts (told sinks.old) (told sinks.new) result }
 {
-    let mut starts = Starts::new(starts);
+    let mut starts = Starts::new(rt, starts);
     run_with_starts(
-        rt,
         alloc,
         feeds,
         plan,
@@ -99,13 +98,12 @@ pub fn run_limited<R: Threads + Wait + Sync, F: Feed + Send + Drop, G: Gate + Sy
 
 /// The same as `run_limited`, with starts that the caller lends, and which tell what became of them, as of `compile_with_starts`.
 pub fn run_with_starts<R: Threads + Wait + Sync, F: Feed + Send + Drop, G: Gate + Sync, S: Sink>(
-    rt: &R,
     alloc: Global,
     feeds: Vec<F>,
     plan: &Plan,
     destinations: &[Destination],
     settings: Settings,
-    starts: &mut Starts,
+    starts: &mut Starts<'_, R>,
     gate: &G,
     sinks: &mut Sinks<S>,
 ) -> Result<Gathered, Refusal>
@@ -123,7 +121,6 @@ pub fn run_with_starts<R: Threads + Wait + Sync, F: Feed + Send + Drop, G: Gate 
     ensures settled { AreSettled starts.old starts.new }
 {
     let Compiled { gathered, instance } = compile_with_starts(
-        rt,
         alloc,
         feeds,
         plan,

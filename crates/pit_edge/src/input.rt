@@ -1,6 +1,6 @@
 //! A source, whole.
 
-ghost use Rattle.std.specs.Prelude.{◌≡◌, ◌≢◌, ◌≤◌, length, Err, IsTrue, IfOk, IfErr, IfSome};
+ghost use Rattle.std.specs.Prelude.{◌≡◌, ◌≢◌, ◌+◌, ◌≤◌, length, Err, IsTrue, IfOk, IfErr, IfSome, OnOk};
 ghost use Rattle.devices.specs.declared.feeds.slurp.TheConstants.{GREATEST_LIMIT};
 ghost use Rattle.pit_edge.specs.Refused.{IsUnread};
 
@@ -28,6 +28,8 @@ pub fn read_source<F: Feed>(
     // What an answer holds.
     ensures whole { IfOk result (λ text. IfSome (F.left feed.old) (λ bytes. text.items ≡ bytes)) }
     ensures short { IfOk result (λ text. length text.items ≤ limit) }
+    ensures counts { IfOk result (λ text. F.given feed.new ≡ F.given feed.old + length text.items) }
+    ensures works { OnOk result (F.failures feed.new ≡ F.failures feed.old) }
 
     // When each refusal comes.
     ensures refused { IfErr result (IsUnread source (F.left feed.old) limit (F.given feed.old)

@@ -7,6 +7,7 @@
 ghost use Rattle.std.specs.Prelude.{◌≡◌};
 ghost use Rattle.pit_parts.specs.formulas.Formula.{IsRuled};
 ghost use Rattle.pit_parts.specs.formulas.Worth.{worth};
+ghost use Rattle.run_threads.specs.Starts.{none_spent};
 
 use devices::feeds::read_feed::ReadFeed;
 use devices::files::opener::Opener;
@@ -42,7 +43,8 @@ fn main(rt: HostRuntime) -> ExitCode {
     let alloc = rt.alloc();
     let mut text = Vec::new(alloc);
     let mut lines = Vec::new(alloc);
-    let status = match work(&rt, alloc, &mut text, &mut lines) {
+    let mut starts = Starts::new(&rt, MOST_STARTS);
+    let status = match work(&rt, alloc, &mut starts, &mut text, &mut lines) {
         Ok(status) => status,
         Err(refused) => tell(alloc, &refused, &mut lines),
     };
@@ -57,18 +59,20 @@ fn main(rt: HostRuntime) -> ExitCode {
 
 // Does what the words ask, and answers the status that the program ends with. Here and in the next two functions the words, the input and
 // the files of the system are handed to the steps that promise what is done with them.
-fn work<R: Alloc<A = Global> + Env + Files + Input + Threads + Wait + Sync>(
+fn work<R: Alloc<A = Global> + Env + Files + Input, T: Threads + Wait + Sync>(
     rt: &R,
     alloc: Global,
+    starts: &mut Starts<'_, T>,
     text: &mut Vec<u8>,
     lines: &mut Vec<u8>,
 ) -> Result<u8, Refused>
 where
     R::File: Send,
+    requires unspent { starts.old ≡ none_spent starts.old.allowed }
 {
     let words = words_of(alloc, env::args(rt))?;
     if words.len() <= 1 {
-        return print_model(rt, alloc, text, lines);
+        return print_model(rt, alloc, starts, text, lines);
     }
     match job(alloc, words.as_slice()) {
         Ok(
@@ -85,6 +89,7 @@ where
             out.as_str(),
             settings,
             zones,
+            starts,
             text,
             lines,
         ),
@@ -104,33 +109,44 @@ where
 }
 
 // Prints the instance of the model on standard input. It has no sinks of its own.
-fn print_model<R: Files + Input + Threads + Wait + Sync>(
+fn print_model<R: Files + Input, T: Threads + Wait + Sync>(
     rt: &R,
     alloc: Global,
+    starts: &mut Starts<'_, T>,
     text: &mut Vec<u8>,
     lines: &mut Vec<u8>,
 ) -> Result<u8, Refused>
 where
     R::File: Send,
+    requires unspent { starts.old ≡ none_spent starts.old.allowed }
 {
     let model = read_model(alloc, &mut ReadFeed::new(rt.reader()))?;
     let mut task: Task<MemSink> = Task::Pipe(model);
-    Ok(run(rt, alloc, &mut SystemFiles::new(rt), &mut task, text, lines)?)
+    Ok(run(
+        alloc,
+        &mut SystemFiles::new(rt),
+        &mut task,
+        starts,
+        text,
+        lines,
+    )?)
 }
 
 // Compiles the plan in this file and these zone files into the files of BASE.
-fn compile<R: Files + Threads + Wait + Sync>(
+fn compile<R: Files, T: Threads + Wait + Sync>(
     rt: &R,
     alloc: Global,
     plan: &str,
     base: &str,
     settings: Settings,
     zones: Vec<String>,
+    starts: &mut Starts<'_, T>,
     text: &mut Vec<u8>,
     lines: &mut Vec<u8>,
 ) -> Result<u8, Refused>
 where
     R::File: Send,
+    requires unspent { starts.old ≡ none_spent starts.old.allowed }
 {
     let mut files = SystemFiles::new(rt);
     let plan = read_plan_file(alloc, &mut files, plan)?;
@@ -140,19 +156,21 @@ where
         zones,
         sinks: sinks_of(&mut SystemSlots::new(rt), alloc, base)?,
     };
-    Ok(run(rt, alloc, &mut files, &mut task, text, lines)?)
+    Ok(run(alloc, &mut files, &mut task, starts, text, lines)?)
 }
 
 // Runs the task with the destinations of its plan, in its order. The closures are made beside the run that asks them, since a function
 // that made one and handed it out could promise nothing of it.
-fn run<R: Threads + Wait + Sync, O: Opener, S: Sink + Drop>(
-    rt: &R,
+fn run<T: Threads + Wait + Sync, O: Opener, S: Sink + Drop>(
     alloc: Global,
     files: &mut O,
     task: &mut Task<S>,
+    starts: &mut Starts<'_, T>,
     text: &mut Vec<u8>,
     lines: &mut Vec<u8>,
-) -> Result<u8, AllocError> {
+) -> Result<u8, AllocError>
+    requires unspent { starts.old ≡ none_spent starts.old.allowed }
+{
     let mut destinations = Vec::new(alloc);
     for named in task.plan().formulas() {
         let kept = named.formula.copy(alloc)?;
@@ -165,13 +183,5 @@ fn run<R: Threads + Wait + Sync, O: Opener, S: Sink + Drop>(
         )?;
         destinations.push(Destination::new(named.formula.copy(alloc)?, valuer))?;
     }
-    Ok(task.run(
-        rt,
-        alloc,
-        files,
-        destinations.as_slice(),
-        &mut Starts::new(MOST_STARTS),
-        text,
-        lines,
-    ))
+    Ok(task.run(alloc, files, destinations.as_slice(), starts, text, lines))
 }

@@ -1,4 +1,4 @@
-//! `pitc_thin` writes the precedences of a model without arcs that follow from others.
+//! `pitc_thin` writes the precedences of a model, and leaves out arcs that follow from others.
 //!
 //! It reads a plan and its zone files as `pitc compile` does, and writes one precedence file.
 #![tactic(auto)]
@@ -6,6 +6,7 @@
 ghost use Rattle.std.specs.Prelude.{◌≡◌};
 ghost use Rattle.pit_parts.specs.formulas.Formula.{IsRuled};
 ghost use Rattle.pit_parts.specs.formulas.Worth.{worth};
+ghost use Rattle.run_threads.specs.Starts.{none_spent};
 
 use devices::files::file_slot::FileSlots;
 use devices::files::opener::Opener;
@@ -38,7 +39,8 @@ fn main(rt: HostRuntime) -> ExitCode {
     let alloc = rt.alloc();
     let mut text = Vec::new(alloc);
     let mut lines = Vec::new(alloc);
-    let status = match work(&rt, alloc, &mut text, &mut lines) {
+    let mut starts = Starts::new(&rt, MOST_STARTS);
+    let status = match work(&rt, alloc, &mut starts, &mut text, &mut lines) {
         Ok(status) => status,
         Err(refused) => tell(alloc, &refused, &mut lines),
     };
@@ -53,18 +55,20 @@ fn main(rt: HostRuntime) -> ExitCode {
 
 // Does what the words ask, and answers the status that the program ends with. Here and in the next function the words and the files of the
 // system are handed to the steps that promise what is done with them.
-fn work<R: Alloc<A = Global> + Env + Files + Threads + Wait + Sync>(
+fn work<R: Alloc<A = Global> + Env + Files, T: Threads + Wait + Sync>(
     rt: &R,
     alloc: Global,
+    starts: &mut Starts<'_, T>,
     text: &mut Vec<u8>,
     lines: &mut Vec<u8>,
 ) -> Result<u8, Refused>
 where
     R::File: Send,
+    requires unspent { starts.old ≡ none_spent starts.old.allowed }
 {
     let words = words_of(alloc, env::args(rt))?;
     match thin_run(alloc, words.as_slice()) {
-        Ok(words) => thin_by(rt, alloc, words, text, lines),
+        Ok(words) => thin_by(rt, alloc, words, starts, text, lines),
         Err(JobFault::Line(error)) => {
             let refused = append_error(alloc, &error, text, lines)?;
             Ok(if refused { USAGE } else { 0 })
@@ -74,15 +78,17 @@ where
 }
 
 // Writes what is left of the precedences of the plan in this file and these zone files.
-fn thin_by<R: Files + Threads + Wait + Sync>(
+fn thin_by<R: Files, T: Threads + Wait + Sync>(
     rt: &R,
     alloc: Global,
     words: RunWords,
+    starts: &mut Starts<'_, T>,
     text: &mut Vec<u8>,
     lines: &mut Vec<u8>,
 ) -> Result<u8, Refused>
 where
     R::File: Send,
+    requires unspent { starts.old ≡ none_spent starts.old.allowed }
 {
     let RunWords {
         plan,
@@ -93,13 +99,13 @@ where
     let mut files = SystemFiles::new(rt);
     let plan = read_plan_file(alloc, &mut files, plan.as_str())?;
     Ok(run(
-        rt,
         alloc,
         &mut files,
         &mut FileSink::from_slot(SystemSlots::new(rt).slot(out)),
         &plan,
         settings,
         zones.as_slice(),
+        starts,
         text,
         lines,
     )?)
@@ -107,17 +113,19 @@ where
 
 // The same of this plan, with its destinations, in their order. The closures are made beside the run that asks them, since a function that
 // made one and handed it out could promise nothing of it.
-fn run<R: Threads + Wait + Sync, O: Opener, S: Sink>(
-    rt: &R,
+fn run<T: Threads + Wait + Sync, O: Opener, S: Sink>(
     alloc: Global,
     files: &mut O,
     sink: &mut S,
     plan: &Plan,
     settings: Settings,
     zones: &[String],
+    starts: &mut Starts<'_, T>,
     text: &mut Vec<u8>,
     lines: &mut Vec<u8>,
-) -> Result<u8, AllocError> {
+) -> Result<u8, AllocError>
+    requires unspent { starts.old ≡ none_spent starts.old.allowed }
+{
     let mut destinations = Vec::new(alloc);
     for named in plan.formulas() {
         let kept = named.formula.copy(alloc)?;
@@ -131,14 +139,13 @@ fn run<R: Threads + Wait + Sync, O: Opener, S: Sink>(
         destinations.push(Destination::new(named.formula.copy(alloc)?, valuer))?;
     }
     Ok(thin(
-        rt,
         alloc,
         files,
         sink,
         plan,
         destinations.as_slice(),
         settings,
-        &mut Starts::new(MOST_STARTS),
+        starts,
         zones,
         text,
         lines,

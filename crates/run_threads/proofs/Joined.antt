@@ -1,9 +1,9 @@
 -- What joined threads gave back, by what they promised.
-use Rattle.std.proofs.Common.{◌≡◌, ℕ, zero, suc, ◌+◌, List, [], ◌∷◌, ◌++◌, Bool, true, false, Option, length, map, drop, get_or, refl, sym, ap, ◌∙◌, subst, arith, All, append_assoc}
+use Rattle.std.proofs.Common.{◌≡◌, ℕ, zero, suc, ◌+◌, List, [], ◌∷◌, ◌++◌, Bool, true, false, Option, length, map, drop, get_or, refl, sym, ap, ◌∙◌, subst, arith, All, append_assoc, inl, inr, ⊎_elim, true≢false, ◌||◌}
 use Rattle.std.proofs.lemmas.List.{map-append, length-map}
 use Rattle.std.proofs.lemmas.Simd.{map-map}
 use Rattle.std.specs.List.{AllZip, list_any}
-use Rattle.std.proofs.lemmas.Bool.{or_parts}
+use Rattle.std.proofs.lemmas.Bool.{cases_Bool, or_parts}
 use Rattle.std.proofs.lemmas.List.Elements.{All-nil, All-cons, All-head, All-rest}
 use Rattle.lane.specs.Ends.{Lane, PutEndView, TakeEndView, ArePutsFrom, AreTakesFrom, first_puts, first_takes}
 use Rattle.lane.specs.MessageKinds.{is_done}
@@ -13,6 +13,7 @@ use Rattle.valuers.specs.Valuing.{items_by}
 use Rattle.rows.specs.ItemsView.{items_in, PackedView}
 use Rattle.valuers.specs.declared.valuer.ValuerResult.{ValuerResult as ResultBy}
 use Rattle.run_threads.specs.inner.Promises.{KeepsRead, KeepsValued, AreUnsentFrom, IsPartly}
+use Rattle.run_threads.specs.Full.{IsOneFull}
 use Rattle.run_threads.specs.Reading.{AreRead}
 use Rattle.run_threads.specs.declared.file_reading.FileRead.{FileRead}
 
@@ -85,7 +86,7 @@ ValuerResult = ResultBy PackedView
 -- the valuers of one plan
 module _ {H : Type 0} (plan : H → PlanParts) (end : H → TakeEndView) (p : PlanParts) (lane : Lane) (takers : ℕ) where
   abbrev KeptValues : H → ValuerResult → Type 0
-  KeptValues h r = KeepsValued (formulas_of_plan (plan h)) (end h) r.taker r.items.items r.memory
+  KeptValues h r = KeepsValued (formulas_of_plan (plan h)) (end h) r.taker r.items r.memory
 
   pub takes_of : (k n : ℕ) → k + n ≡ takers → (hs : List H) (rs : List ValuerResult) → AllZip KeptValues hs rs
       → map end hs ≡ first_takes lane k n
@@ -124,3 +125,14 @@ module _ {H : Type 0} (plan : H → PlanParts) (end : H → TakeEndView) (p : Pl
       valued_of (k + 1) n hs rs kept.1 (All-rest Same h hs (h ∷ hs) refl plans) (ap (drop 1) ends) (or_parts r.memory _ fine).1 in
       ap (λ w. w ∷ items_in (map (λ r. r.items) rs)) here ∙ ap (λ w. items_by (formulas_of_plan p) r.taker.took ∷ w) rest
   valued_of k n _ _ kept plans ends fine = absurd kept
+
+  pub full_of : (hs : List H) (rs : List ValuerResult) → AllZip KeptValues hs rs → All (λ h. plan h ≡ p) hs
+      → list_any (λ r. r.memory) rs ≡ true → IsOneFull (length (formulas_of_plan p)) (map (λ r. r.items) rs)
+  full_of [] [] kept plans some = absurd (true≢false (sym some))
+  full_of (h ∷ hs) (r ∷ rs) kept plans some =
+      let Same : H → Type 0 = λ w. plan w ≡ p in
+      ⊎_elim (λ here. inl (rw (All-head Same h hs plans) at kept.0.3 here))
+      (λ there. inr (full_of hs rs kept.1 (All-rest Same h hs (h ∷ hs) refl plans)
+      (sym (ap (λ b. b || list_any (λ r. r.memory) rs) there) ∙ some)))
+      (cases_Bool r.memory)
+  full_of _ _ kept plans some = absurd kept

@@ -1,3 +1,4 @@
+pub mod Full
 pub mod MostBytes
 pub mod Reading
 pub mod Refusing

@@ -1,23 +1,28 @@
 -- What contracts see of the starts of threads, and what a run does to them.
-use Rattle.std.specs.Prelude.{◌≡◌, ℕ, ◌<◌, ◌≤◌, Bool, true, false}
+use Rattle.std.specs.Prelude.{◌≡◌, ℕ, ◌-◌, ◌<◌, ◌≤◌, Bool, true, false}
 use Rattle.pit_units.specs.declared.or_memory.OrMemory.{OrMemory}
 use Rattle.pit_units.specs.declared.or_memory.OrMemory.TheVariants.{Fault, OutOfMemory}
 use Rattle.run_threads.specs.declared.handing_over.NoThread.{NoThread}
 
--- how many threads may be started, how many were, how many of these were joined, and whether a start was refused
+-- how many threads may be started, how many were, how many of these read a file, how many were joined, and whether a start was refused
 pub record StartsView : Type 0 where
   pub allowed : ℕ
   pub spent : ℕ
+  pub readers : ℕ
   pub joined : ℕ
   pub refused : Bool
 
 -- no thread was started yet, of so many that may be
 abbrev pub none_spent : ℕ → StartsView
-none_spent allowed = record { allowed = allowed; spent = 0; joined = 0; refused = false }
+none_spent allowed = record { allowed = allowed; spent = 0; readers = 0; joined = 0; refused = false }
 
 -- so many threads were started, each of them was joined, and no start was refused
 abbrev pub AreSpent : ℕ → StartsView → Type 0
 AreSpent count starts = (starts.spent ≡ count) × (starts.refused ≡ false)
+
+-- so many valuers are started first: the threads that are started behind them, and no others, read files
+abbrev pub IsInOrder : ℕ → StartsView → Type 0
+IsInOrder valuers starts = starts.readers ≡ starts.spent - valuers
 
 -- of these starts no more were spent than allowed, and each thread was joined
 pub record AreSettled (old new : StartsView) : Type 0 where

@@ -1,12 +1,13 @@
 //! The threads of a run, from the first start to the last join.
 
-ghost use Rattle.std.specs.Prelude.{◌≡◌, ◌+◌, ◌≤◌, length, map, vec_len, IfErr, IfOk, IsFalse};
+ghost use Rattle.std.specs.Prelude.{◌≡◌, ◌+◌, ◌≤◌, length, map, vec_len, IfErr, IfOk, IsFalse, IsTrue};
 ghost use Rattle.lane.specs.Whole.{IsWhole};
 ghost use Rattle.pit_parts.specs.OfPlan.{AreOfPlan};
 ghost use Rattle.pit_parts.specs.PlanFormulas.{formulas_of_plan};
 ghost use Rattle.run_threads.specs.inner.HandingOver.{IsHandedOver};
+ghost use Rattle.run_threads.specs.Full.{IsOneFull};
 ghost use Rattle.run_threads.specs.Reading.{AreRead};
-ghost use Rattle.run_threads.specs.Starts.{none_spent, AreSettled, AreShort, AreSpent, AreTooFew};
+ghost use Rattle.run_threads.specs.Starts.{none_spent, AreSettled, AreShort, AreSpent, AreTooFew, IsInOrder};
 ghost use Rattle.pit_units.specs.declared.or_memory.OrMemory.TheVariants.{Fault};
 ghost use Rattle.rows.specs.ItemsView.{items_in};
 ghost use Rattle.valuers.specs.Valuing.{items_by};
@@ -19,7 +20,7 @@ use crate::read_fault::ReadFault;
 use crate::ready::Ready;
 use crate::result_room::room_for;
 use crate::shared::Shared;
-use crate::starts::{Starter, Starts};
+use crate::starts::{GivenFeeds, Starter, Starts};
 use devices::feeds::feed::Feed;
 use lane::Gathered;
 use pit_parts::formulas::destination::Destination;
@@ -70,22 +71,21 @@ impl From<GaveUp> for OrMemory<NoThread> {
 
 /// Reads each file in a thread of its own, into a lane from which the valuers, each in a thread of its own, take and
 /// value the rows. The valuers start first. No thread is cancelled: every reader runs to the end of its file or to its
-/// first fault. The feeds are used up, and one of the starts for each thread.
+/// first fault. The feeds are used up, each by the thread that it is given to, and one of the starts for each thread.
 ///
 /// # Errors
 ///
 /// - `NoThread`: a start was refused. No further thread was started, and those that were started are joined.
 /// - `OutOfMemory`: memory was refused before the first start.
 pub fn hand_over<R: Threads + Wait + Sync, F: Feed + Send + Drop, G: Gate + Sync>(
-    rt: &R,
     alloc: Global,
     feeds: Vec<F>,
     plan: &Plan,
     destinations: &[Destination],
     allowance: Allowance,
-    starts: &mut Starts,
+    starts: &mut Starts<'_, R>,
     gate: &G,
-) -> Result<HandedOver, OrMemory<NoThread>>
+) -> Result<(HandedOver, GivenFeeds<F>), OrMemory<NoThread>>
     requires files { length feeds.items ≡ length plan.now.cones }
     requires valuers { (1 ≤ allowance.valuers) × (allowance.valuers ≤ MAX_VALUERS) }
     requires capacity { (1 ≤ allowance.capacity) × (allowance.capacity ≤ MAX_CAPACITY) }
@@ -93,27 +93,32 @@ pub fn hand_over<R: Threads + Wait + Sync, F: Feed + Send + Drop, G: Gate + Sync
     requires unspent { starts.old ≡ none_spent starts.old.allowed }
 
     // What was read, and what the valuers made of it.
-    ensures whole { IfOk result (λ handed. IsWhole handed.gathered) }
-    ensures read { IfOk result (λ handed.
+    ensures whole { IfOk result (λ made. IsWhole made.0.gathered) }
+    ensures read { IfOk result (λ made.
         AreRead F.left F.is_sure F.failures plan.now.grid 0 feeds.items
-        handed.answers.items handed.gathered.sent) }
-    ensures valued { IfOk result (λ handed. IsFalse handed.memory
-        → items_in handed.items.items ≡ map (items_by (formulas_of_plan plan.now)) handed.gathered.took) }
+        made.0.answers.items made.0.gathered.sent) }
+    ensures given { IfOk result (λ made. made.1 ≡ feeds.items) }
+    ensures valued { IfOk result (λ made. IsFalse made.0.memory
+        → items_in made.0.items.items ≡ map (items_by (formulas_of_plan plan.now)) made.0.gathered.took) }
+    ensures full { IfOk result (λ made. IsTrue made.0.memory
+        → IsOneFull (length (formulas_of_plan plan.now)) made.0.items.items) }
 
     // How many threads there were, and how long the lane was.
-    ensures takers { IfOk result (λ handed. length handed.gathered.took ≡ allowance.valuers) }
-    ensures capacity { IfOk result (λ handed. handed.gathered.capacity ≡ allowance.capacity) }
+    ensures takers { IfOk result (λ made. length made.0.gathered.took ≡ allowance.valuers) }
+    ensures capacity { IfOk result (λ made. made.0.gathered.capacity ≡ allowance.capacity) }
     ensures budget { IfOk result (λ _.
         allowance.valuers + length feeds.items ≤ starts.old.allowed) }
 
-    // What was started: a thread for each valuer and each file, or else the start of one of them was refused, or none was tried. Each is
-    // joined.
+    // What was started: a thread for each valuer and each file, or else the start of one of them was refused, or none was tried. The valuers
+    // are started first. Each is joined.
     ensures started { IfOk result (λ _.
         AreSpent (allowance.valuers + length feeds.items) starts.new) }
     ensures short { IfErr result
         (AreShort (allowance.valuers + length feeds.items) starts.old starts.new) }
+    ensures order { IsInOrder allowance.valuers starts.new }
     ensures settled { AreSettled starts.old starts.new }
 {
+    let rt = starts.runtime();
     let files = plan.cones().len() as u8;
     let lane = open_lane(alloc, files, allowance.valuers, allowance.capacity)?;
     let ready = Ready {
@@ -137,18 +142,20 @@ pub fn hand_over<R: Threads + Wait + Sync, F: Feed + Send + Drop, G: Gate + Sync
     } = thread::scope(
         thread::scope_env(),
         rt,
-        move |scope| -> Settled
+        move |scope| -> Settled<F>
             requires unspent { lent ≡ none_spent lent.allowed }
-            ensures handed { IfOk result.handed (IsHandedOver F.left F.is_sure F.failures
+            ensures handed { IfOk result.handed (λ made. IsHandedOver F.left F.is_sure F.failures
                 ready.entry.shared.plan.now ready.entry.feeds.items
-                ready.entry.lane.closer.takers ready.entry.lane.closer.lane.2) }
+                ready.entry.lane.closer.takers ready.entry.lane.closer.lane.2 made.0) }
+            ensures given { IfOk result.handed (λ made. made.1 ≡ ready.entry.feeds.items) }
             ensures started { IfOk result.handed (λ _. AreSpent
                 (ready.entry.lane.closer.takers + vec_len ready.entry.feeds) result.starts) }
             ensures refused { IfErr result.handed (λ _. AreTooFew
                 (ready.entry.lane.closer.takers + vec_len ready.entry.feeds) result.starts) }
+            ensures order { IsInOrder ready.entry.lane.closer.takers result.starts }
             ensures settled { AreSettled lent result.starts }
         { hand_over_in(Starter::new(scope, rt, lent), ready) },
     );
-    *starts = left;
+    starts.give_back(left);
     Ok(handed?)
 }

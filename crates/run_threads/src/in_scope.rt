@@ -1,7 +1,7 @@
 //! The threads of a run within a scope, from the first start to the last join.
 
 ghost use Rattle.std.specs.Prelude.{◌≡◌, ◌+◌, vec_len, IfErr, IfOk};
-ghost use Rattle.run_threads.specs.Starts.{none_spent, AreSettled, AreSpent, AreTooFew};
+ghost use Rattle.run_threads.specs.Starts.{none_spent, AreSettled, AreSpent, AreTooFew, IsInOrder};
 ghost use Rattle.run_threads.specs.inner.HandingOver.{IsHandedOver};
 
 use crate::handing_over::HandedOver;
@@ -10,7 +10,7 @@ use crate::in_scope::settling::{give_up, settle};
 use crate::in_scope::starting::{start_readers, start_valuers};
 use crate::opened::Opened;
 use crate::ready::Ready;
-use crate::starts::{Starter, Starts};
+use crate::starts::{Counted, GivenFeeds, Starter};
 use devices::feeds::feed::Feed;
 use std::sync::Wait;
 use std::thread::Threads;
@@ -21,28 +21,30 @@ pub mod joining;
 pub mod settling;
 pub mod starting;
 
-/// What the threads of a scope hand over, all of them joined, and what is left of the starts.
+/// What the threads of a scope hand over, all of them joined, with the feeds that the readers were given; and what is left of the starts.
 #[derive(Drop)]
-pub struct Settled {
-    pub handed: Result<HandedOver, GaveUp>,
-    pub starts: Starts,
+pub struct Settled<F: Feed> {
+    pub handed: Result<(HandedOver, GivenFeeds<F>), GaveUp>,
+    pub starts: Counted,
 }
 
 /// Starts the valuers and then the readers of a run, and settles. After a refused start it ends what was started.
 pub fn hand_over_in<'s, E, T: Threads, R: Wait + Sync, F: Feed + Send + Drop + 's, G: Gate + Sync>(
     mut starter: Starter<'s, E, T>,
     ready: Ready<'s, R, F, G>,
-) -> Settled
+) -> Settled<F>
     requires unspent { starter ≡ none_spent starter.allowed }
-    ensures handed { IfOk result.handed (IsHandedOver F.left F.is_sure F.failures
+    ensures handed { IfOk result.handed (λ made. IsHandedOver F.left F.is_sure F.failures
         ready.entry.shared.plan.now ready.entry.feeds.items
-        ready.entry.lane.closer.takers ready.entry.lane.closer.lane.2) }
+        ready.entry.lane.closer.takers ready.entry.lane.closer.lane.2 made.0) }
+    ensures given { IfOk result.handed (λ made. made.1 ≡ ready.entry.feeds.items) }
 
-    // The starts: one for each valuer and each file, or one was refused. Each thread is joined.
+    // The starts: one for each valuer and each file, or one was refused; the valuers first. Each thread is joined.
     ensures started { IfOk result.handed (λ _.
         AreSpent (ready.entry.lane.closer.takers + vec_len ready.entry.feeds) result.starts) }
     ensures refused { IfErr result.handed (λ _.
         AreTooFew (ready.entry.lane.closer.takers + vec_len ready.entry.feeds) result.starts) }
+    ensures order { IsInOrder ready.entry.lane.closer.takers result.starts }
     ensures settled { AreSettled starter.entry result.starts }
 
     // Where one was refused, the valuers are ended by a Quit each.
@@ -83,6 +85,7 @@ pub fn hand_over_in<'s, E, T: Threads, R: Wait + Sync, F: Feed + Send + Drop + '
             starts: starter.end(),
         };
     }
+    let given = GivenFeeds::of(&readers.handles);
     let handed = settle(
         &mut starter,
         shared.rt,
@@ -93,7 +96,7 @@ pub fn hand_over_in<'s, E, T: Threads, R: Wait + Sync, F: Feed + Send + Drop + '
         shared.plan,
     );
     Settled {
-        handed: Ok(handed),
+        handed: Ok((handed, given)),
         starts: starter.end(),
     }
 }

@@ -14,4 +14,4 @@ mod starts;
 
 pub use handing_over::{Allowance, HandedOver, NoThread, hand_over};
 pub use read_fault::ReadFault;
-pub use starts::Starts;
+pub use starts::{GivenFeeds, Starts};

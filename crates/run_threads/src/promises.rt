@@ -1,9 +1,8 @@
 //! What the threads of a run promise of what they give back.
 
 use crate::file_reading::FileRead;
-use crate::starts::JoinedBehind;
 use devices::feeds::feed::Feed;
-use lane::{Closer, GivenUp, PutEnd, Stopped, TakeEnd};
+use lane::{PutEnd, TakeEnd};
 use pit_parts::plan::Plan;
 use std::snapshot::Snapshot;
 use std::thread::{Promise, PromisedHandle};
@@ -24,9 +23,6 @@ impl<F: Feed> Promise<FileRead> for ReadBy<F> {
         p.end.value r.ended r.answer };
 }
 
-// A reader ends by itself, while valuers take: before the lane is closed.
-impl<F: Feed> JoinedBehind<Closer> for ReadBy<F> {}
-
 /// A valuer takes from this end, and values by the formulas of this plan.
 #[derive(Drop)]
 pub struct ValuedBy {
@@ -39,13 +35,8 @@ impl Promise<ValuerResult<PackedItems>> for ValuedBy {
     ghost use Rattle.run_threads.specs.inner.Promises.{KeepsValued};
 
     ghost kept_by = { λ p r. KeepsValued (formulas_of_plan p.plan.value) p.end.value
-        r.taker r.items.items r.memory };
+        r.taker r.items r.memory };
 }
-
-// A valuer ends by the mark that it is sent.
-impl JoinedBehind<Stopped> for ValuedBy {}
-
-impl JoinedBehind<GivenUp> for ValuedBy {}
 
 /// The thread of a file's reader.
 pub type ReaderHandle<F> = PromisedHandle<FileRead, ReadBy<F>>;

@@ -1,53 +1,118 @@
-//! The starts of a run's threads, which are counted, and their joins. This module alone starts and joins threads: what it is generic
-//! over keeps it from others.
+//! The starts of a run's threads, which are counted, and their joins. This module alone starts and joins threads, and alone hands on the
+//! runtime that does: to the scope of a run, and to what waits in its threads.
 
-ghost use Rattle.std.specs.Prelude.{◌≡◌, ◌<◌, ◌≤◌, true, false, is_some, IfSome};
+ghost use Rattle.std.specs.Prelude.{◌≡◌, ◌+◌, ◌<◌, ◌≤◌, true, false, is_some, map, IfSome, OnSome};
 ghost use Rattle.run_threads.specs.Starts.{none_spent};
-ghost use Rattle.run_threads.specs.inner.Started.{after_start, after_join};
+ghost use Rattle.pit_parts.specs.PlanFormulas.{formulas_of_plan};
+ghost use Rattle.run_threads.specs.inner.Promises.{KeepsRead, KeepsValued};
+ghost use Rattle.run_threads.specs.inner.Started.{after_start, after_reader, after_join};
 ghost use Rattle.run_threads.specs.declared.starts.OnThread.{OnThread as AThread};
 
+use crate::file_reading::FileRead;
+use crate::promises::{ReadBy, ReaderHandle, ValuedBy, ValuerHandle};
+use devices::feeds::feed::Feed;
+use lane::{Closer, GivenUp, PutEnd, Stopped};
+use pit_parts::plan::Plan;
 use std::marker::{Model, PhantomData};
 use std::mem;
+use std::snapshot::Snapshot;
 use std::thread::{Promise, PromisedHandle, Scope, Threads};
+use valuers::{PackedItems, ValuerResult};
 
-/// How many threads may be started, how many were, how many of these were joined, and whether a start was refused.
+/// The starts of threads. They have the runtime on which threads are started and waited for, and give it to no other crate: so who is lent
+/// starts can spend no others, and wait for nothing but a run.
 #[derive(Drop)]
-pub struct Starts {
+pub struct Starts<'a, R> {
+    rt: &'a R,
+    counted: Counted,
+}
+
+impl<'a, R> Model for Starts<'a, R> {
+    ghost use Rattle.run_threads.specs.Starts.{StartsView};
+
+    ghost Value = { StartsView };
+
+    ghost view = { λ s. s.counted };
+}
+
+impl<'a, R> Starts<'a, R> {
+    /// So many starts on this runtime, of which none is spent: one more counts as refused.
+    pub fn new(rt: &'a R, allowed: u32) -> Starts<'a, R>
+        ensures { result ≡ none_spent allowed }
+    {
+        Starts {
+            rt,
+            counted: Counted::new(allowed),
+        }
+    }
+
+    /// The runtime.
+    pub(crate) fn runtime(&self) -> &'a R {
+        self.rt
+    }
+
+    /// What is counted, to be given back: until then there is no start here.
+    pub(crate) fn lend(&mut self) -> Counted
+        ensures { result ≡ self.old }
+    {
+        mem::replace(&mut self.counted, Counted::new(0))
+    }
+
+    /// Gives back what was lent.
+    pub(crate) fn give_back(&mut self, counted: Counted)
+        ensures { self.new ≡ counted }
+    {
+        self.counted = counted;
+    }
+}
+
+/// How many threads may be started, how many were, how many of these read a file, how many were joined, and whether a start was refused.
+#[derive(Drop)]
+pub struct Counted {
     allowed: u32,
     spent: u32,
+    readers: u32,
     joined: u32,
     refused: bool,
 }
 
-impl Model for Starts {
+impl Model for Counted {
     ghost use Rattle.std.specs.Prelude.{◌≤◌};
     ghost use Rattle.run_threads.specs.Starts.{StartsView};
 
     ghost Value = { StartsView };
 
-    ghost view = { λ s. record { allowed = s.allowed; spent = s.spent; joined = s.joined; refused = s.refused } };
+    ghost view = { λ s. record {
+      allowed = s.allowed;
+      spent = s.spent;
+      readers = s.readers;
+      joined = s.joined;
+      refused = s.refused;
+    } };
 
-    ghost invariant = { λ s. (s.spent ≤ s.allowed) × (s.joined ≤ s.spent) };
+    ghost invariant = { λ s. (s.spent ≤ s.allowed) × (s.readers ≤ s.spent) × (s.joined ≤ s.spent) };
 }
 
-impl Starts {
-    /// So many starts, of which none is spent: one more counts as refused.
-    pub fn new(allowed: u32) -> Starts
+impl Counted {
+    // So many starts, of which none is spent.
+    fn new(allowed: u32) -> Counted
         ensures { result ≡ none_spent allowed }
     {
-        Starts {
+        Counted {
             allowed,
             spent: 0,
+            readers: 0,
             joined: 0,
             refused: false,
         }
     }
 
-    /// These starts, to be given back: until then there is none here.
-    pub fn lend(&mut self) -> Starts
-        ensures { result ≡ self.old }
+    // One more of the threads reads a file.
+    fn count_reader(&mut self)
+        requires { self.old.readers < self.old.spent }
+        ensures { self.new ≡ record self.old { readers = self.old.readers + 1 } }
     {
-        mem::replace(self, Starts::new(0))
+        self.readers += 1;
     }
 }
 
@@ -57,15 +122,71 @@ pub struct OnThread {
     here: PhantomData<*mut u8>,
 }
 
-/// A promise of a thread that may be joined where there is such a thing.
-pub trait JoinedBehind<B> {}
+/// That each valuer is sent the mark that ends it.
+#[derive(Drop)]
+pub struct LaneEnded {
+    _ended: (),
+}
+
+impl LaneEnded {
+    /// The lane was stopped.
+    pub fn by_stop(_stopped: &Stopped) -> LaneEnded {
+        LaneEnded { _ended: () }
+    }
+
+    /// The lane was given up.
+    pub fn by_quits(_quits: &GivenUp) -> LaneEnded {
+        LaneEnded { _ended: () }
+    }
+}
+
+/// A promise of a thread of a run.
+pub trait RunPromise {
+    /// What there is once the thread may be joined.
+    type Behind;
+}
+
+// A reader ends by itself, while valuers take: before the lane is closed.
+impl<F> RunPromise for ReadBy<F> {
+    type Behind = Closer;
+}
+
+// A valuer ends by the mark that it is sent.
+impl RunPromise for ValuedBy {
+    type Behind = LaneEnded;
+}
+
+/// The feeds that the threads of readers were given, in the order of these threads.
+#[derive(Drop)]
+pub struct GivenFeeds<F: Feed> {
+    readers: Snapshot<Vec<ReaderHandle<F>>>,
+}
+
+impl<F: Feed> Model for GivenFeeds<F> {
+    ghost use Rattle.std.specs.Prelude.{List, map};
+
+    ghost Value = { List F };
+
+    ghost view = { λ given. map (λ handle. handle.promise.feed.value) given.readers.value.items };
+}
+
+impl<F: Feed> GivenFeeds<F> {
+    /// Those of these threads.
+    pub fn of(readers: &Vec<ReaderHandle<F>>) -> GivenFeeds<F>
+        ensures { result ≡ map (λ handle. handle.promise.feed.value) readers.now.items }
+    {
+        GivenFeeds {
+            readers: Snapshot::of(readers),
+        }
+    }
+}
 
 /// Starts threads in a scope, and joins them.
 #[derive(Drop)]
 pub struct Starter<'s, E, T> {
     scope: &'s Scope<'s, E>,
     rt: &'s T,
-    starts: Starts,
+    starts: Counted,
 }
 
 impl<'s, E, T> Model for Starter<'s, E, T> {
@@ -78,21 +199,74 @@ impl<'s, E, T> Model for Starter<'s, E, T> {
 
 impl<'s, E, T> Starter<'s, E, T> {
     /// With these starts.
-    pub fn new(scope: &'s Scope<'s, E>, rt: &'s T, starts: Starts) -> Starter<'s, E, T>
+    pub fn new(scope: &'s Scope<'s, E>, rt: &'s T, starts: Counted) -> Starter<'s, E, T>
         ensures { result ≡ starts }
     {
         Starter { scope, rt, starts }
     }
 
     /// What is left of the starts.
-    pub fn end(self) -> Starts
+    pub fn end(self) -> Counted
         ensures { result ≡ self.entry }
     {
         self.starts
     }
 
-    /// Starts a thread that does this work, or refuses to: where no start is left, or where the system starts none.
-    pub fn spawn<
+    /// Starts a thread that does the work of a valuer, or refuses to: where no start is left, or where the system starts none.
+    pub fn spawn_valuer<W: FnOnce(OnThread) -> ValuerResult<PackedItems> + Send + Drop + 's>(
+        &mut self,
+        promise: ValuedBy,
+        work: W,
+    ) -> Option<ValuerHandle>
+        requires none_refused { self.old.refused ≡ false }
+        requires runs { W.IsAlwaysCallable work }
+        requires keeps { (thread : AThread) (r : _) → W.post work thread r
+            → KeepsValued (formulas_of_plan promise.plan.value) promise.end.value r.taker r.items r.memory }
+        ensures promise { IfSome result (λ handle. handle.promise ≡ promise) }
+        ensures counted { self.new ≡ after_start (is_some result) self.old }
+        ensures within { self.new.spent ≤ self.new.allowed }
+    {
+        self.spawn(promise, work)
+    }
+
+    /// Starts a thread that does the work of a reader with this feed, which no other thread has from then on; or refuses to.
+    pub fn spawn_reader<
+        F: Feed + Send + Drop + 's,
+        W: FnOnce(OnThread, F) -> FileRead + Send + Drop + 's,
+    >(
+        &mut self,
+        feed: F,
+        plan: Snapshot<Plan>,
+        end: Snapshot<PutEnd>,
+        work: W,
+    ) -> Option<ReaderHandle<F>>
+        requires none_refused { self.old.refused ≡ false }
+        requires runs { W.IsAlwaysCallable work }
+        requires keeps { (thread : AThread) (r : _) → W.post work thread feed r
+            → KeepsRead F.left F.is_sure F.failures plan.value.grid feed end.value r.ended r.answer }
+        ensures promise { IfSome result (λ handle. (handle.promise.feed.value ≡ feed)
+            × (handle.promise.plan.value ≡ plan.value) × (handle.promise.end.value ≡ end.value)) }
+        ensures counted { self.new ≡ after_reader (is_some result) self.old }
+        ensures within { self.new.spent ≤ self.new.allowed }
+    {
+        let promise = ReadBy {
+            feed: Snapshot::of(&feed),
+            plan,
+            end,
+        };
+        let handle = self.spawn(
+            promise,
+            move |thread: OnThread| -> FileRead
+                requires { W.IsAlwaysCallable work }
+                ensures { W.post work thread feed result }
+            { work(thread, feed) },
+        )?;
+        self.starts.count_reader();
+        Some(handle)
+    }
+
+    // Starts a thread that does this work, or refuses to.
+    fn spawn<
         W: FnOnce(OnThread) -> A + Send + Drop + 's,
         A: Send + Drop + 's,
         P: Promise<A> + Drop,
@@ -102,6 +276,7 @@ impl<'s, E, T> Starter<'s, E, T> {
         requires keeps { (thread : AThread) (r : A) → W.post work thread r → P.kept_by promise r }
         ensures promise { IfSome result (λ handle. handle.promise ≡ promise) }
         ensures counted { self.new ≡ after_start (is_some result) self.old }
+        ensures more { OnSome result (self.new.readers < self.new.spent) }
         ensures within { self.new.spent ≤ self.new.allowed }
     {
         if self.starts.spent == self.starts.allowed {
@@ -130,10 +305,10 @@ impl<'s, E, T> Starter<'s, E, T> {
 
 impl<'s, E, T: Threads> Starter<'s, E, T> {
     /// Joins a thread, where there is what it may be joined behind.
-    pub fn join<A, P: Promise<A> + JoinedBehind<B>, B>(
+    pub fn join<A, P: Promise<A> + RunPromise>(
         &mut self,
         handle: PromisedHandle<A, P>,
-        _behind: &B,
+        _behind: &P::Behind,
     ) -> A
         requires running { self.old.joined < self.old.spent }
         ensures kept { P.kept_by handle.promise result }

@@ -23,17 +23,19 @@ use Rattle.thin_commands.specs.Thin.{IsNotThinned, IsRead, IsStopped, thin_text}
 
 module _ (plan : PlanParts) (paths : List (List ℕ)) (opened_old opened_new : List Opening) (starts_old starts_new : StartsView) (old new : SinkState) where
   -- the instance that was compiled of the files that were opened
-  pub was_read : (lefts : List (Option (List ℕ))) (valuers capacity : ℕ) (c : Compiled) → AreOpened opened_old opened_new paths lefts
-      → IsCompiled plan lefts valuers capacity c → AreSpent (valuers + length lefts) starts_new
-      → IsRead plan paths opened_old opened_new starts_old starts_new old new valuers c.instance
-  was_read lefts valuers capacity c opened compiled spent = record {
+  pub was_read : (lefts : List (Option (List ℕ))) (settings : Chosen) (c : Compiled) → AreOpened opened_old opened_new paths lefts
+      → IsCompiled plan lefts settings.valuers settings.capacity c → AreSpent (settings.valuers + length lefts) starts_new
+      → IsRead plan paths opened_old opened_new starts_old starts_new old new settings c.instance
+  was_read lefts settings c opened compiled spent = record {
     lefts = lefts;
     texts = compiled.texts;
     opened = opened;
     given = compiled.given;
     accepted = compiled.accepted;
+    gathered = c.gathered;
+    passed = compiled.passed;
     instance_is = compiled.instance_is;
-    started = subst (λ n. AreSpent (valuers + n) starts_new) opened.each spent;
+    started = subst (λ n. AreSpent (settings.valuers + n) starts_new) opened.each spent;
   }
 
   module _ {F : Type 0} (left : F → Option (List ℕ)) (is_sure : F → Bool) (failures : F → ℕ) (formulas : List Formula) (settings : Chosen) where
@@ -61,11 +63,11 @@ module _ (plan : PlanParts) (paths : List (List ℕ)) (opened_old opened_new : L
     ))
 
     pub cut_off : (i : Instance) (refusal : Refusal) (why : Refused) → why ≡ Run refusal
-        → IsRead plan paths opened_old opened_new starts_old starts_new old new settings.valuers i → IsStopped (thin_text i) old new refusal
+        → IsRead plan paths opened_old opened_new starts_old starts_new old new settings i → IsStopped (thin_text i) old new refusal
         → IsNotThinned plan paths opened_old opened_new starts_old starts_new old new left is_sure failures formulas settings why
     cut_off i refusal why e read stopped = inr (inr (inl (refusal, e, (i, read, stopped))))
 
-    pub refused_line : (i : Instance) (why : Refused) → IsRead plan paths opened_old opened_new starts_old starts_new old new settings.valuers i
+    pub refused_line : (i : Instance) (why : Refused) → IsRead plan paths opened_old opened_new starts_old starts_new old new settings i
         → IsWritten (thin_text i) old new → why ≡ Run OutOfMemory
         → IsNotThinned plan paths opened_old opened_new starts_old starts_new old new left is_sure failures formulas settings why
     refused_line i why read written e = inr (inr (inr (e, (i, record { read = read; written = written }))))

@@ -3,6 +3,7 @@ use Rattle.std.specs.Prelude.{◌≡◌, ℕ, ◌+◌, ◌⊎◌, Bool, List, []
 use Rattle.devices.specs.files.Opening.{Opening}
 use Rattle.devices.specs.sinks.SinkState.{SinkState, IsWritten, IsCutOff}
 use Rattle.fewer_arcs.specs.Fewer.{fewer}
+use Rattle.lane.specs.Whole.{GatheredView}
 use Rattle.mine_instance.specs.Instance.{Instance}
 use Rattle.minelib_writing.specs.Written.{text_prec}
 use Rattle.minelib_writing.specs.declared.text_name.TextName.TheVariants.{Prec}
@@ -10,7 +11,7 @@ use Rattle.pit_compile.specs.Compiling.{IsNotCompiled}
 use Rattle.pit_compile.specs.Settings.{IsSettingsFault}
 use Rattle.pit_compile.specs.Starts.{AreStartsOf}
 use Rattle.pit_compile.specs.Verdict.{IsAccepted}
-use Rattle.pit_compile.specs.ZoneFiles.{AreGiven, instance_from}
+use Rattle.pit_compile.specs.ZoneFiles.{AreGiven, HasPassed, instance_from}
 use Rattle.pit_compile.specs.declared.refusal.Refusal.{Refusal}
 use Rattle.pit_compile.specs.declared.refusal.Refusal.TheVariants as refusal
 use Rattle.pit_compile.specs.declared.settings.SettingsFault.{SettingsFault}
@@ -25,7 +26,7 @@ use Rattle.run_threads.specs.Starts.{AreSpent, StartsView}
 use Rattle.thin_commands.specs.CountsText.{counts_words}
 use Rattle.thin_commands.specs.declared.counts.Counts.{Counts}
 
--- the precedence file of an instance in which of each list is left what does not follow from others
+-- the precedence file of an instance with what is left of each list
 abbrev pub thin_text : Instance → List ℕ
 thin_text i = text_prec (record i { preds = fewer i.preds })
 
@@ -41,25 +42,28 @@ IsStopped text old new why =
 -- of the zone files at these paths: what was opened before and is now, the starts of threads, and what the sink told before and tells now
 module _ (plan : PlanParts) (paths : List (List ℕ)) (opened_old opened_new : List Opening) (starts_old starts_new : StartsView)
     (old new : SinkState) where
-  -- the files were opened in this order, and no other; they are accepted, and this is their instance; a thread ran for each valuer and file
-  pub record IsRead (valuers : ℕ) (i : Instance) : Type 0 where
+  -- the files were opened in this order, and no other; they are accepted, went through a lane of this capacity, and this is their instance;
+  -- a thread ran for each valuer and file
+  pub record IsRead (settings : Settings) (i : Instance) : Type 0 where
     pub lefts : List (Option (List ℕ))
     pub texts : List (List ℕ)
     pub opened : AreOpened opened_old opened_new paths lefts
     pub given : AreGiven lefts texts
     pub accepted : IsAccepted plan texts
+    pub gathered : GatheredView
+    pub passed : HasPassed plan texts settings.valuers settings.capacity gathered
     pub instance_is : i ≡ instance_from plan texts
-    pub started : AreSpent (valuers + length paths) starts_new
+    pub started : AreSpent (settings.valuers + length paths) starts_new
 
   -- the sink holds what is left
-  pub record IsThinned (valuers : ℕ) (i : Instance) : Type 0 where
-    pub read : IsRead valuers i
+  pub record IsThinned (settings : Settings) (i : Instance) : Type 0 where
+    pub read : IsRead settings i
     pub written : IsWritten (thin_text i) old new
 
   -- the same, and the line of its counts was appended
-  abbrev pub TellsThinned : ℕ → (out_old out_new : List ℕ) → Type 0
-  TellsThinned valuers out_old out_new =
-      (i : Instance) × IsThinned valuers i × (out_new ≡ out_old ++ (counts_words (counts_of i) ++ 10 ∷ []))
+  abbrev pub TellsThinned : Settings → (out_old out_new : List ℕ) → Type 0
+  TellsThinned settings out_old out_new =
+      (i : Instance) × IsThinned settings i × (out_new ≡ out_old ++ (counts_words (counts_of i) ++ 10 ∷ []))
 
   -- by what feeds have left, whether they are sure, and how many pulls they refused
   module _ {F : Type 0} (left : F → Option (List ℕ)) (is_sure : F → Bool) (failures : F → ℕ) where
@@ -79,5 +83,5 @@ module _ (plan : PlanParts) (paths : List (List ℕ)) (opened_old opened_new : L
     IsNotThinned formulas settings refused =
         (AreNotOpened opened_old opened_new paths refused × (new ≡ old) × (starts_new ≡ starts_old))
         ⊎ (((why : Refusal) × (refused ≡ Run why) × IsRunRefused formulas settings why)
-        ⊎ (((why : Refusal) × (refused ≡ Run why) × ((i : Instance) × IsRead settings.valuers i × IsStopped (thin_text i) old new why))
-        ⊎ ((refused ≡ Run refusal.OutOfMemory) × ((i : Instance) × IsThinned settings.valuers i))))
+        ⊎ (((why : Refusal) × (refused ≡ Run why) × ((i : Instance) × IsRead settings i × IsStopped (thin_text i) old new why))
+        ⊎ ((refused ≡ Run refusal.OutOfMemory) × ((i : Instance) × IsThinned settings i))))

@@ -1,4 +1,4 @@
-//! The command of `pitc_thin`: from zone files to a precedence file without arcs that follow from others.
+//! The command of `pitc_thin`: from zone files to a precedence file with fewer arcs.
 #![tactic(auto)]
 
 pub mod counts;

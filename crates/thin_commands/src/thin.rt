@@ -41,21 +41,20 @@ use valuers::OpenGate;
 /// The starts, which none was spent of, tell what became of them: `NoThread` is told only where one was refused before there were enough.
 #[tactic(auto, using(crate::proofs::Thins::unopened_files))]
 pub fn thin_into<R: Threads + Wait + Sync, O: Opener, S: Sink>(
-    rt: &R,
     alloc: Global,
     files: &mut O,
     sink: &mut S,
     plan: &Plan,
     destinations: &[Destination],
     settings: Settings,
-    starts: &mut Starts,
+    starts: &mut Starts<'_, R>,
     zones: &[String],
     out: &mut Vec<u8>,
 ) -> Result<(), Refused>
     requires unspent { starts.old ≡ none_spent starts.old.allowed }
     ensures done { OnOk result (TellsThinned plan.now (map string_bytes zones.now) (O.opened files.old)
         (O.opened files.new) starts.old starts.new (S.state sink.old) (S.state sink.new)
-        settings.valuers out.old.items out.new.items) }
+        settings out.old.items out.new.items) }
     ensures kept { OnErr result (out.new.items ≡ out.old.items) }
     ensures refused { IfErr result (IsNotThinned plan.now (map string_bytes zones.now)
         (O.opened files.old) (O.opened files.new) starts.old starts.new (S.state sink.old)
@@ -65,7 +64,6 @@ pub fn thin_into<R: Threads + Wait + Sync, O: Opener, S: Sink>(
 {
     let feeds = open_all(alloc, zones, files)?;
     let Compiled { instance, .. } = compile_with_starts(
-        rt,
         alloc,
         feeds,
         plan,
@@ -83,14 +81,13 @@ pub fn thin_into<R: Threads + Wait + Sync, O: Opener, S: Sink>(
 /// else the line of the refusal to `err`. Only one of the two grows. For want of memory the status is that of memory, and both are as
 /// they were.
 pub fn thin<R: Threads + Wait + Sync, O: Opener, S: Sink>(
-    rt: &R,
     alloc: Global,
     files: &mut O,
     sink: &mut S,
     plan: &Plan,
     destinations: &[Destination],
     settings: Settings,
-    starts: &mut Starts,
+    starts: &mut Starts<'_, R>,
     zones: &[String],
     out: &mut Vec<u8>,
     err: &mut Vec<u8>,
@@ -98,7 +95,7 @@ pub fn thin<R: Threads + Wait + Sync, O: Opener, S: Sink>(
     requires unspent { starts.old ≡ none_spent starts.old.allowed }
     ensures done { result ≡ 0 → TellsThinned plan.now (map string_bytes zones.now)
         (O.opened files.old) (O.opened files.new) starts.old starts.new (S.state sink.old)
-        (S.state sink.new) settings.valuers out.old.items out.new.items }
+        (S.state sink.new) settings out.old.items out.new.items }
     ensures quiet { result ≡ 0 → err.new.items ≡ err.old.items }
     ensures kept { result ≢ 0 → out.new.items ≡ out.old.items }
     ensures refused { result ≢ 0 → EndsBy (IsNotThinned plan.now (map string_bytes zones.now)
@@ -108,7 +105,6 @@ pub fn thin<R: Threads + Wait + Sync, O: Opener, S: Sink>(
     ensures settled { AreSettled starts.old starts.new }
 {
     match thin_into(
-        rt,
         alloc,
         files,
         sink,

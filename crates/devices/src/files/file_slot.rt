@@ -1,6 +1,6 @@
 //! Files that are created once, at their paths.
 
-ghost use Rattle.std.specs.Prelude.{◌≡◌, ◌++◌, ℕ, List, [], ◌∷◌, Bool, string_bytes, IfOk};
+ghost use Rattle.std.specs.Prelude.{◌≡◌, ◌++◌, ℕ, List, [], ◌∷◌, Bool, string_bytes, IsOk, IsTrue, IfOk};
 ghost use Rattle.devices.specs.files.Told.{told_empty};
 
 use crate::files::file_access::AtPath;
@@ -15,6 +15,9 @@ pub trait FileSlot: Drop {
     /// Whether its file tells what it holds. That of a system does not.
     ghost tells: { Bool };
 
+    /// Whether its file can always be created. That of a system cannot.
+    ghost is_sure: { Bool };
+
     /// The path of its file.
     ghost path: { Self → List ℕ };
 
@@ -25,7 +28,8 @@ pub trait FileSlot: Drop {
     /// It cannot be created, for whatever reason of the system's.
     fn create(self) -> io::Result<Self::File>
         ensures path { IfOk result (λ file. Self.File.path file ≡ path self) }
-        ensures empty { IfOk result (λ file. Self.File.contents file ≡ told_empty tells) };
+        ensures empty { IfOk result (λ file. Self.File.contents file ≡ told_empty tells) }
+        ensures sure { IsTrue is_sure → IsOk result };
 }
 
 /// Makes slots, and remembers for contracts for which paths.

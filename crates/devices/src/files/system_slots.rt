@@ -60,6 +60,8 @@ impl<'a, R: Files> FileSlot for SystemSlot<'a, R> {
 
     ghost tells = { false };
 
+    ghost is_sure = { false };
+
     ghost path = { λ slot. string_bytes slot.path };
 
     fn create(self) -> io::Result<SystemFile<R::File>> {

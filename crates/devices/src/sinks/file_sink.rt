@@ -1,6 +1,6 @@
 //! A file as a sink.
 
-ghost use Rattle.std.specs.Prelude.{◌≡◌, ◌+◌, ◌<◌, ◌≤◌, [], false, length, take, true, ◌++◌, ◌∷◌, is_some, IsErr, IfOk, IfSome, OnOk, OnErr};
+ghost use Rattle.std.specs.Prelude.{◌≡◌, ◌+◌, ◌<◌, ◌≤◌, [], false, length, take, true, ◌++◌, ◌∷◌, is_some, IsErr, IsOk, IsTrue, IfOk, IfSome, OnOk, OnErr};
 ghost use Rattle.std.specs.Io.KnownBytes.{WriteAppends};
 ghost use Rattle.devices.specs.Device.{added};
 ghost use Rattle.devices.specs.files.Told.{told_empty, told_held};
@@ -108,6 +108,7 @@ impl<P: FileSlot> Sink for FileSink<P> {
         ensures refused { OnErr result (IsCutOff 1 [] (told self.old) (told self.new)) }
         ensures path { self.new.path ≡ self.old.path }
         ensures once { OnOk result (self.old.has_slot ≡ true) }
+        ensures sure { IsTrue P.is_sure → self.old.has_slot ≡ true → IsOk result }
         ensures used_up { self.new.has_slot ≡ false }
         ensures file { OnOk result ((file : P.File) × (P.File.path file ≡ self.old.path)
             × (P.File.contents file ≡ told_empty P.tells)

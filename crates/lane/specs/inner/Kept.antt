@@ -5,7 +5,7 @@ use Rattle.atomic_table.specs.declared.badge.Badge.{Badge}
 use Rattle.crossbeam_channel.specs.declared.flavors.array.Doing.{Doing}
 use Rattle.crossbeam_channel.specs.declared.flavors.array.Key.{Key}
 use Rattle.crossbeam_channel.specs.declared.flavors.array.Rows.{Rows}
-use Rattle.crossbeam_channel.specs.Claims.{Pass, view, IsKeyed}
+use Rattle.crossbeam_channel.specs.Claims.{IsKeyed}
 use Rattle.crossbeam_channel.specs.Fifo.{Forks}
 use Rattle.lane.specs.declared.message.Taken.{Taken}
 use Rattle.lane.specs.declared.part.Part.{Part}
@@ -13,29 +13,13 @@ use Rattle.lane.specs.declared.part.Part.TheVariants.{Put, Take, Close}
 use Rattle.lane.specs.Message.{IsEndedFrom}
 use Rattle.lane.specs.MessageKinds.{has_end, is_done, row_count}
 use Rattle.lane.specs.MessageOrders.{IsFrom}
-use Rattle.lane.specs.Whole.{GatheredView, IsWhole}
-use Rattle.lane.specs.Ends.{Lane, PutEndView, TakeEndView, CloserView, StoppedView, ArePutsFrom, AreTakesFrom}
+use Rattle.lane.specs.Whole.{IsWhole}
+use Rattle.lane.specs.Ends.{Lane, PutEndView, TakeEndView, ArePutsFrom, AreTakesFrom}
 use Rattle.lane.specs.Rule.{IsLane, put_parts, take_parts}
 use Rattle.lane.specs.Steps.{full_view, IsFull}
-use Rattle.lane.specs.inner.Views.{IsOrdered, sent_in, took_in, sent_lists, taken_lists, quits_in, gathering_in, without_second, second_alone}
+use Rattle.lane.specs.EndFields.{lane_at, sent_in, took_in, sent_lists, taken_lists, gathering_in}
+use Rattle.lane.specs.inner.Views.{IsOrdered, without_second, second_alone}
 use Rattle.pit_parts.specs.declared.ranges.TheConstants.{MAX_ROWS}
-
--- what contracts see of an end of the channel with its pass: the lane, and what the pass knows
-pub record SeatView : Type 0 where
-  pub lane : Lane
-  pub known : List Part
-
--- how many messages the lane's queue has room for
-abbrev pub room_of : SeatView → ℕ
-room_of s = s.lane.2
-
--- the lane of a channel
-abbrev pub lane_at : {Q M L A : Type 0} → Rows (Badge (Key Taken)) (Doing Taken (List Part)) Q M (Key Taken) L A → Lane
-lane_at c = (c.stamps.shared.table_id, c.stamps.shared.key, c.cap)
-
--- an end of the channel c with the pass p
-abbrev pub seated : {Q M L A : Type 0} → Rows (Badge (Key Taken)) (Doing Taken (List Part)) Q M (Key Taken) L A → Pass Taken (List Part) → SeatView
-seated c p = record { lane = lane_at c; known = view p }
 
 -- the channel is the lane's
 abbrev pub IsChannelOf : {Q M L A : Type 0} → Lane → Rows (Badge (Key Taken)) (Doing Taken (List Part)) Q M (Key Taken) L A → Type 0
@@ -44,25 +28,6 @@ IsChannelOf lane c = (lane_at c ≡ lane) × IsKeyed c
 -- the second part of the view may move to a new pass
 abbrev pub MayGive : List Part → Type 0
 MayGive v = (pass : ℕ) → Forks IsLane pass v (without_second v) (second_alone v)
-
-abbrev pub put_end_view : SeatView → ℕ → PutEndView
-put_end_view s file = record { lane = s.lane; file = file; sent = sent_in s.known }
-
-abbrev pub take_end_view : SeatView → ℕ → TakeEndView
-take_end_view s taker = record { lane = s.lane; taker = taker; took = took_in s.known }
-
-abbrev pub closer_view : SeatView → ℕ → ℕ → CloserView
-closer_view s files takers = record { lane = s.lane; files = files; takers = takers }
-
-abbrev pub stopped_view : SeatView → ℕ → StoppedView
-stopped_view s takers = record { lane = s.lane; takers = takers; sent = sent_lists s.known }
-
--- the number of Quits that the pass put
-abbrev pub quits_of : Pass Taken (List Part) → ℕ
-quits_of p = quits_in (view p)
-
-abbrev pub gathered_view : Pass Taken (List Part) → GatheredView
-gathered_view p = gathering_in (view p)
 
 -- the list of a put end that may still send: rows alone, so many
 pub record IsOpenPut (v : List Part) (file capacity count : ℕ) : Type 0 where

@@ -1,10 +1,11 @@
 -- What the threads of a run hand over.
-use Rattle.std.specs.Prelude.{◌≡◌, ℕ, Bool, List, length, map, Option, IsFalse}
+use Rattle.std.specs.Prelude.{◌≡◌, ℕ, Bool, List, length, map, Option, IsFalse, IsTrue}
 use Rattle.lane.specs.Whole.{IsWhole}
 use Rattle.pit_parts.specs.PlanFormulas.{formulas_of_plan}
 use Rattle.pit_parts.specs.Plan.{PlanParts}
 use Rattle.valuers.specs.Valuing.{items_by}
 use Rattle.rows.specs.ItemsView.{items_in}
+use Rattle.run_threads.specs.Full.{IsOneFull}
 use Rattle.run_threads.specs.Reading.{AreRead}
 use Rattle.run_threads.specs.declared.handing_over.HandedOver.{HandedOver}
 
@@ -16,4 +17,5 @@ pub record IsHandedOver {F : Type 0} (left : F → Option (List ℕ)) (is_sure :
   pub capacity_is : handed.gathered.capacity ≡ capacity
   pub read : AreRead left is_sure failures plan.grid 0 feeds handed.answers.items handed.gathered.sent
   pub valued : IsFalse handed.memory → items_in handed.items.items ≡ map (items_by (formulas_of_plan plan)) handed.gathered.took
+  pub full : IsTrue handed.memory → IsOneFull (length (formulas_of_plan plan)) handed.items.items
   pub takers : length handed.gathered.took ≡ valuers

@@ -1,12 +1,12 @@
 -- What the threads of a run promise of what they give back, and what is made ready for them.
-use Rattle.std.specs.Prelude.{◌≡◌, ℕ, ◌+◌, ◌<◌, Bool, true, List, [], ◌∷◌, ◌++◌, length, drop, Option, Result, IsFalse}
+use Rattle.std.specs.Prelude.{◌≡◌, ℕ, ◌+◌, ◌<◌, Bool, true, List, [], ◌∷◌, ◌++◌, length, drop, Option, Result, IsFalse, IsTrue}
 use Rattle.lane.specs.Ends.{PutEndView, TakeEndView}
 use Rattle.lane.specs.MessageKinds.{is_done}
 use Rattle.pit_parts.specs.declared.formulas.formula.Formula.{Formula}
 use Rattle.pit_parts.specs.Plan.{PlanParts}
 use Rattle.pit_parts.specs.declared.grid.Grid.{Grid}
 use Rattle.valuers.specs.Valuing.{items_by}
-use Rattle.rows.specs.declared.item.Item.{Item}
+use Rattle.rows.specs.ItemsView.{IsFullFor, PackedView}
 use Rattle.run_threads.specs.Reading.{IsRead}
 use Rattle.run_threads.specs.declared.read_fault.ReadFault.{ReadFault}
 
@@ -16,12 +16,13 @@ module _ {F : Type 0} (left : F → Option (List ℕ)) (is_sure : F → Bool) (f
   KeepsRead grid feed given ended answer =
       (ended.lane ≡ given.lane) × (ended.file ≡ given.file) × IsRead left is_sure failures grid given.file feed answer ended.sent
 
--- a valuer that was given this end took until it was done, and valued what it took
-abbrev pub KeepsValued : List Formula → TakeEndView → TakeEndView → List Item → Bool → Type 0
-KeepsValued formulas given taker items memory =
+-- a valuer that was given this end took until it was done, and valued what it took; where it was refused memory, its list has no room left
+abbrev pub KeepsValued : List Formula → TakeEndView → TakeEndView → PackedView → Bool → Type 0
+KeepsValued formulas given taker list memory =
     (taker ≡ record given { took = given.took ++ drop (length given.took) taker.took })
     × (is_done taker.took ≡ true)
-    × (IsFalse memory → items ≡ items_by formulas (drop (length given.took) taker.took))
+    × (IsFalse memory → list.items ≡ items_by formulas (drop (length given.took) taker.took))
+    × (IsTrue memory → IsFullFor (length formulas) list)
 
 -- the put end of a file that has a zone of the plan, which sent nothing
 pub record IsUnsent (plan : PlanParts) (file : ℕ) (end : PutEndView) : Type 0 where

@@ -5,7 +5,7 @@ ghost use Rattle.std.specs.Prelude.{◌≡◌, ◌+◌, ◌≤◌, vec_len};
 ghost use Rattle.run_threads.specs.inner.Started.{after_joins};
 
 use crate::promises::ValuerHandle;
-use crate::starts::{JoinedBehind, Starter};
+use crate::starts::{LaneEnded, RunPromise, Starter};
 use lane::{Closer, GivenUp};
 use std::sync::Wait;
 use std::thread::{Promise, PromisedHandle, Threads};
@@ -24,10 +24,10 @@ pub struct GaveUp {
 }
 
 /// Joins each thread, behind what it may be joined behind.
-pub fn join_each<'s, E, T: Threads, A: Drop, P: Promise<A> + JoinedBehind<B>, B>(
+pub fn join_each<'s, E, T: Threads, A: Drop, P: Promise<A> + RunPromise>(
     starter: &mut Starter<'s, E, T>,
     handles: Vec<PromisedHandle<A, P>>,
-    behind: &B,
+    behind: &P::Behind,
 ) -> Joined
     requires running { starter.old.joined + vec_len handles ≤ starter.old.spent }
     ensures counted { starter.new ≡ after_joins (vec_len handles) starter.old }
@@ -59,7 +59,7 @@ pub fn join_behind<'s, E, T: Threads>(
     ensures counted { starter.new ≡ after_joins (vec_len valuers) starter.old }
 {
     let count = valuers.len();
-    let _joined = join_each(starter, valuers, &quits);
+    let _joined = join_each(starter, valuers, &LaneEnded::by_quits(&quits));
     GaveUp {
         quits,
         valuers: count,

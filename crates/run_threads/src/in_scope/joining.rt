@@ -6,18 +6,18 @@ ghost use Rattle.run_threads.specs.inner.Started.{after_joins};
 
 use crate::file_reading::FileRead;
 use crate::read_fault::ReadFault;
-use crate::starts::{JoinedBehind, Starter};
+use crate::starts::{RunPromise, Starter};
 use lane::{EndedPut, TakeEnd};
 use rows::PackedItems;
 use std::thread::{Promise, PromisedHandle, Threads};
 use valuers::ValuerResult;
 
 /// Joins each thread, behind what it may be joined behind, and gives what they gave back, in their order.
-pub fn join_all<'s, E, T: Threads, A: Drop, P: Promise<A> + JoinedBehind<B>, B>(
+pub fn join_all<'s, E, T: Threads, A: Drop, P: Promise<A> + RunPromise>(
     starter: &mut Starter<'s, E, T>,
     handles: Vec<PromisedHandle<A, P>>,
     mut results: Vec<A>,
-    behind: &B,
+    behind: &P::Behind,
 ) -> Vec<A>
     requires empty { results.items ≡ [] }
     requires room { vec_len handles ≤ vec_capacity results }

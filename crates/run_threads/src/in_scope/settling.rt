@@ -12,7 +12,7 @@ use crate::in_scope::giving_up::{GaveUp, join_behind, join_each, quit_each};
 use crate::in_scope::joining::{join_all, split_reads, split_values};
 use crate::promises::{ReaderHandle, ValuerHandle};
 use crate::result_room::ResultRoom;
-use crate::starts::Starter;
+use crate::starts::{LaneEnded, Starter};
 use devices::feeds::feed::Feed;
 use lane::Closer;
 use pit_parts::plan::Plan;
@@ -62,7 +62,7 @@ pub fn settle<'s, E, T: Threads, R: Wait, F: Feed>(
     let reads = join_all(starter, readers, reads, &closer);
     let (ended, answers) = split_reads(reads, ended, answers);
     let stopped = closer.stop(rt, ended);
-    let values = join_all(starter, valuers, values, &stopped);
+    let values = join_all(starter, valuers, values, &LaneEnded::by_stop(&stopped));
     let (takers, items, memory) = split_values(values, takers, items);
     let gathered = stopped.gather(rt, takers);
     HandedOver {

@@ -6,12 +6,13 @@ ghost use Rattle.lane.specs.MessageKinds.{is_done};
 ghost use Rattle.pit_parts.specs.Destinations.{formulas_of};
 ghost use Rattle.run_threads.specs.Reading.{IsRead};
 ghost use Rattle.run_threads.specs.inner.Promises.{AreUnsentFrom, IsUnsent};
-ghost use Rattle.run_threads.specs.inner.Started.{after_start, after_starts};
+ghost use Rattle.run_threads.specs.inner.Started.{after_reader, after_readers, after_start, after_starts};
+ghost use Rattle.rows.specs.ItemsView.{IsFullFor};
 ghost use Rattle.valuers.specs.Valuing.{items_by};
 ghost use Rattle.pit_parts.specs.declared.ranges.TheConstants.{MAX_DESTINATIONS, MAX_VALUERS, MAX_ZONES};
 
 use crate::file_reading::{FileRead, read_file};
-use crate::promises::{ReadBy, ReaderHandle, ValuedBy, ValuerHandle};
+use crate::promises::{ReaderHandle, ValuedBy, ValuerHandle};
 use crate::shared::Shared;
 use crate::starts::{OnThread, Starter};
 use devices::feeds::feed::Feed;
@@ -95,7 +96,7 @@ pub fn start_readers<'s, E, T, R: Wait + Sync, F: Feed + Send + Drop + 's, G: Ga
     ensures short { IsTrue result.refused → vec_len result.handles < vec_len ends }
     ensures whole { IsFalse result.refused → vec_len result.handles ≡ vec_len ends }
     ensures counted { starter.new
-        ≡ after_starts (vec_len result.handles) result.refused starter.old }
+        ≡ after_readers (vec_len result.handles) result.refused starter.old }
     ensures within { starter.new.spent ≤ starter.new.allowed }
 {
     let mut file = 0u8;
@@ -139,7 +140,7 @@ fn start_valuer<'s, E, T, R: Wait + Sync, G: Gate + Sync>(
         plan: Snapshot::of(shared.plan),
         end: Snapshot::of(&end),
     };
-    starter.spawn(
+    starter.spawn_valuer(
         promise,
         move |_thread: OnThread| -> ValuerResult<PackedItems>
             requires some { 1 ≤ length destinations.now }
@@ -150,6 +151,7 @@ fn start_valuer<'s, E, T, R: Wait + Sync, G: Gate + Sync>(
             ensures items { let took = drop (length end.took) result.taker.took in
                 IsFalse result.memory
                 → result.items.items ≡ items_by (formulas_of destinations.entry.now) took }
+            ensures full { IsTrue result.memory → IsFullFor (length destinations.entry.now) result.items }
         { value_packed(rt, alloc, end, valuer, destinations, gate) },
     )
 }
@@ -163,7 +165,7 @@ fn start_reader<'s, E, T, R: Wait + Sync, F: Feed + Send + Drop + 's, G: Gate + 
 ) -> Option<ReaderHandle<F>>
     requires none_refused { starter.old.refused ≡ false }
     requires unsent { IsUnsent shared.now.plan.now file end }
-    ensures counted { starter.new ≡ after_start (is_some result) starter.old }
+    ensures counted { starter.new ≡ after_reader (is_some result) starter.old }
     ensures within { starter.new.spent ≤ starter.new.allowed }
     ensures promise { IfSome result (λ h. (h.promise.feed.value ≡ feed)
         × (h.promise.plan.value ≡ shared.now.plan.now) × (h.promise.end.value ≡ end)) }
@@ -172,14 +174,11 @@ fn start_reader<'s, E, T, R: Wait + Sync, F: Feed + Send + Drop + 's, G: Gate + 
     let alloc = shared.alloc;
     let plan = shared.plan;
     let gate = shared.gate;
-    let promise = ReadBy {
-        feed: Snapshot::of(&feed),
-        plan: Snapshot::of(plan),
-        end: Snapshot::of(&end),
-    };
-    starter.spawn(
-        promise,
-        move |thread: OnThread| -> FileRead
+    starter.spawn_reader(
+        feed,
+        Snapshot::of(plan),
+        Snapshot::of(&end),
+        move |thread: OnThread, feed: F| -> FileRead
             requires { IsUnsent plan.now file end }
             ensures end { (result.ended.lane ≡ end.lane) × (result.ended.file ≡ file) }
             ensures read { IsRead F.left F.is_sure F.failures plan.entry.now.grid file feed

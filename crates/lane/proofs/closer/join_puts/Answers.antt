@@ -1,5 +1,5 @@
 use Rattle.std.proofs.Common.{sym, ap, ◌∙◌, ◌≤◌, arith}
-use Rattle.lane.specs.inner.Kept.{SeatView}
+use Rattle.lane.specs.EndFields.{SeatView}
 use Rattle.lane.proofs.Joining.{join_more, one_less}
 use Rattle.lane.proofs.closer.join_puts.Goals as goal
 

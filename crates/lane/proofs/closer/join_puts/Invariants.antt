@@ -1,6 +1,7 @@
 use Rattle.std.proofs.Common.{◌≡◌, length}
 use Rattle.std.specs.Vec.Iter.{into_iter_items, into_iter_len}
-use Rattle.lane.specs.inner.Kept.{room_of, IsJoining}
+use Rattle.lane.specs.EndFields.{room_of}
+use Rattle.lane.specs.inner.Kept.{IsJoining}
 use Rattle.lane.proofs.closer.join_puts.Given as goal
 
 abbrev pub invariant-loop-put : goal.invariant-loop-put

@@ -1,7 +1,7 @@
 use Rattle.std.proofs.Common.{sym, ap, ◌∙◌, refl, map, rules}
 use Rattle.std.specs.Vec.Iter.{into_iter_items}
 use Rattle.lane.specs.Ends.{TakeEndView}
-use Rattle.lane.specs.inner.Kept.{SeatView}
+use Rattle.lane.specs.EndFields.{SeatView}
 use Rattle.lane.proofs.Joining.{gather_begin, gather_more, gather_done, nothing_left, one_less}
 use Rattle.lane.proofs.closer.join_takes.Goals as goal
 

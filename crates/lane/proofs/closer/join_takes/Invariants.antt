@@ -1,7 +1,7 @@
 use Rattle.std.proofs.Common.{◌≡◌, length}
 use Rattle.std.specs.Vec.Iter.{into_iter_items, into_iter_len}
-use Rattle.lane.specs.inner.Views.{sent_lists}
-use Rattle.lane.specs.inner.Kept.{room_of, IsGathering}
+use Rattle.lane.specs.EndFields.{sent_lists, room_of}
+use Rattle.lane.specs.inner.Kept.{IsGathering}
 use Rattle.lane.proofs.closer.join_takes.Given as goal
 
 abbrev pub invariant-loop-take : goal.invariant-loop-take

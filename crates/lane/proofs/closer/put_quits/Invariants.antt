@@ -1,6 +1,6 @@
 use Rattle.std.proofs.Common.{◌≡◌, [], ◌∷◌}
 use Rattle.lane.specs.declared.part.Part.TheVariants.{Close}
-use Rattle.lane.specs.inner.Kept.{room_of}
+use Rattle.lane.specs.EndFields.{room_of}
 use Rattle.lane.proofs.closer.put_quits.Given as goal
 
 abbrev pub invariant-loop-quit : goal.invariant-loop-quit

@@ -1,6 +1,5 @@
 use Rattle.std.proofs.Common.{refl}
-use Rattle.lane.specs.inner.Kept.{room_of}
-use Rattle.lane.specs.inner.Views.{sent_lists}
+use Rattle.lane.specs.EndFields.{room_of, sent_lists}
 use Rattle.lane.proofs.Joining.{may_stop}
 use Rattle.lane.proofs.closer.put_stops.Goals as goal
 

@@ -1,8 +1,7 @@
 use Rattle.std.proofs.Common.{◌≡◌, ◌∷◌}
 use Rattle.lane.specs.declared.part.Part.TheVariants.{Close}
 use Rattle.lane.specs.Rule.{put_parts}
-use Rattle.lane.specs.inner.Kept.{room_of}
-use Rattle.lane.specs.inner.Views.{sent_lists}
+use Rattle.lane.specs.EndFields.{room_of, sent_lists}
 use Rattle.lane.proofs.closer.put_stops.Given as goal
 
 abbrev pub invariant-loop-stop : goal.invariant-loop-stop

@@ -1,6 +1,7 @@
 use Rattle.std.proofs.Common.{◌≡◌}
 use Rattle.lane.specs.Ends.{first_puts}
-use Rattle.lane.specs.inner.Kept.{room_of, puts_left}
+use Rattle.lane.specs.EndFields.{room_of}
+use Rattle.lane.specs.inner.Kept.{puts_left}
 use Rattle.lane.proofs.opening.put_ends.Given as goal
 
 abbrev pub invariant-loop-file : goal.invariant-loop-file

@@ -1,6 +1,7 @@
 use Rattle.std.proofs.Common.{◌≡◌}
 use Rattle.lane.specs.Ends.{first_takes}
-use Rattle.lane.specs.inner.Kept.{room_of, takes_left}
+use Rattle.lane.specs.EndFields.{room_of}
+use Rattle.lane.specs.inner.Kept.{takes_left}
 use Rattle.lane.proofs.opening.take_ends.Given as goal
 
 abbrev pub invariant-loop-taker : goal.invariant-loop-taker

@@ -31,7 +31,7 @@ returns-in_err-counts-clause-refused g c =
     let many = length-map c.in_ok-feeds.feeds.items g.O.Opened.Feed.left in
     let read = was_read c.args.plan.now (map string_bytes c.args.zones.now) (g.O.Opener.opened c.args.files.now)
     (g.O.Opener.opened c.open_all.new.files) c.args.starts.now c.compile_with_starts.new.starts (g.S.Sink.state c.args.sink.now)
-    (g.S.Sink.state c.write_fewer.new.sink) (map g.O.Opened.Feed.left c.in_ok-feeds.feeds.items) c.args.settings.valuers c.args.settings.capacity
+    (g.S.Sink.state c.write_fewer.new.sink) (map g.O.Opened.Feed.left c.in_ok-feeds.feeds.items) c.args.settings
     c.in_ok-instance.field-0
     c.in_ok-feeds.ensures.opened c.in_ok-instance.ensures.done
     (subst (λ n. AreSpent (c.args.settings.valuers + n) c.compile_with_starts.new.starts) (sym many) c.in_ok-instance.ensures.started) in
@@ -48,7 +48,7 @@ returns-in_err-append_counts-clause-refused g c =
     let many = length-map c.in_ok-feeds.feeds.items g.O.Opened.Feed.left in
     let read = was_read c.args.plan.now (map string_bytes c.args.zones.now) (g.O.Opener.opened c.args.files.now)
     (g.O.Opener.opened c.open_all.new.files) c.args.starts.now c.compile_with_starts.new.starts (g.S.Sink.state c.args.sink.now)
-    (g.S.Sink.state c.write_fewer.new.sink) (map g.O.Opened.Feed.left c.in_ok-feeds.feeds.items) c.args.settings.valuers c.args.settings.capacity
+    (g.S.Sink.state c.write_fewer.new.sink) (map g.O.Opened.Feed.left c.in_ok-feeds.feeds.items) c.args.settings
     c.in_ok-instance.field-0
     c.in_ok-feeds.ensures.opened c.in_ok-instance.ensures.done
     (subst (λ n. AreSpent (c.args.settings.valuers + n) c.compile_with_starts.new.starts) (sym many) c.in_ok-instance.ensures.started) in
@@ -63,7 +63,7 @@ returns-clause-done g c =
     let many = length-map c.in_ok-feeds.feeds.items g.O.Opened.Feed.left in
     let read = was_read c.args.plan.now (map string_bytes c.args.zones.now) (g.O.Opener.opened c.args.files.now)
     (g.O.Opener.opened c.open_all.new.files) c.args.starts.now c.compile_with_starts.new.starts (g.S.Sink.state c.args.sink.now)
-    (g.S.Sink.state c.write_fewer.new.sink) (map g.O.Opened.Feed.left c.in_ok-feeds.feeds.items) c.args.settings.valuers c.args.settings.capacity
+    (g.S.Sink.state c.write_fewer.new.sink) (map g.O.Opened.Feed.left c.in_ok-feeds.feeds.items) c.args.settings
     c.in_ok-instance.field-0
     c.in_ok-feeds.ensures.opened c.in_ok-instance.ensures.done
     (subst (λ n. AreSpent (c.args.settings.valuers + n) c.compile_with_starts.new.starts) (sym many) c.in_ok-instance.ensures.started) in (

@@ -1,5 +1,6 @@
 use Rattle.std.proofs.Common.{subst, sym, refl}
-use Rattle.lane.specs.inner.Kept.{SeatView, room_of, IsEndedPut}
+use Rattle.lane.specs.EndFields.{SeatView, room_of}
+use Rattle.lane.specs.inner.Kept.{IsEndedPut}
 use Rattle.lane.proofs.Ends.{end_put}
 use Rattle.lane.proofs.put_end.PutEnd.end.Goals as goal
 

@@ -1,6 +1,6 @@
 use Rattle.std.proofs.Common.{sym, subst, refl, arith, ◌+◌, ◌<◌, length}
-use Rattle.lane.specs.inner.Kept.{SeatView, room_of, IsOpenPut}
-use Rattle.lane.specs.inner.Views.{sent_in}
+use Rattle.lane.specs.EndFields.{SeatView, room_of, sent_in}
+use Rattle.lane.specs.inner.Kept.{IsOpenPut}
 use Rattle.lane.proofs.Ends.{row_put}
 use Rattle.lane.proofs.put_end.PutEnd.row.Goals as goal
 

@@ -1,7 +1,7 @@
 use Rattle.std.proofs.Common.{◌≡◌}
 use Rattle.crossbeam_channel.specs.Claims.{IsSeatAt}
 use Rattle.crossbeam_channel.specs.Ends.{sends_on}
-use Rattle.lane.specs.inner.Kept.{seated}
+use Rattle.lane.specs.EndFields.{seated}
 use Rattle.lane.proofs.seated.SeatedSender.put_soon.Given as goal
 
 abbrev pub invariant-loop : goal.invariant-loop

@@ -1,7 +1,7 @@
 use Rattle.std.proofs.Common.{arith, rules, ◌≡◌, ◌∙◌, All, true, sym, subst}
 use Rattle.lane.specs.Ends.{TakeEndView}
 use Rattle.lane.specs.MessageKinds.{is_done}
-use Rattle.run_threads.proofs.Joined.{puts_of, read_of, takes_of, done_of, valued_of}
+use Rattle.run_threads.proofs.Joined.{puts_of, read_of, takes_of, done_of, valued_of, full_of}
 use Rattle.run_threads.proofs.in_scope.settling.settle.Goals as goal
 
 pub stop-stopped-requires : goal.stop-stopped-requires
@@ -46,5 +46,10 @@ returns-clause-handed g c =
           (valued_of (λ h. h.promise.plan.value) (λ h. h.promise.end.value) plan lane c.args.closer.takers 0 c.args.closer.takers
           c.args.valuers.items c.join_all-values.result.items c.join_all-values.ensures.kept c.requires.valuer_plans c.requires.takes
           (sym c.split_values-takers.ensures.memory ∙ fine));
+      full = λ refused.
+          rw c.split_values-takers.ensures.items
+          (full_of (λ h. h.promise.plan.value) (λ h. h.promise.end.value) plan lane c.args.closer.takers c.args.valuers.items
+          c.join_all-values.result.items c.join_all-values.ensures.kept c.requires.valuer_plans
+          (sym c.split_values-takers.ensures.memory ∙ refused));
       takers = search rules;
     }

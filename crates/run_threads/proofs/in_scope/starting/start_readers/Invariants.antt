@@ -2,7 +2,7 @@ use Rattle.std.proofs.Common.{◌≡◌, ◌+◌, ◌≤◌, ◌++◌, map, vec_
 use Rattle.std.specs.Prelude.{vec_capacity, false}
 use Rattle.std.specs.Vec.Iter.{into_iter_items, into_iter_len}
 use Rattle.run_threads.specs.inner.Promises.{AreUnsentFrom}
-use Rattle.run_threads.specs.inner.Started.{after_starts}
+use Rattle.run_threads.specs.inner.Started.{after_readers}
 use Rattle.run_threads.proofs.in_scope.starting.start_readers.Given as goal
 
 abbrev pub invariant-loop-end : goal.invariant-loop-end
@@ -16,6 +16,6 @@ invariant-loop-end g l =
       fed : into_iter_len l.rest ≡ into_iter_len l.end-iterator;
       room : vec_len l.fn.ends ≤ vec_capacity l.handles;
       unsent : AreUnsentFrom (vec_len l.handles) (into_iter_items l.end-iterator);
-      counted : l.starter ≡ after_starts (vec_len l.handles) false l.fn.starter;
+      counted : l.starter ≡ after_readers (vec_len l.handles) false l.fn.starter;
       within : l.starter.spent ≤ l.starter.allowed;
     }
