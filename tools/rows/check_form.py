@@ -2,11 +2,14 @@
 
 The table texts has the faults of their lines.
 """
+import itertools
+
 from rows.instance import (
-    LIMITED_TEXTS, NINE_TEXTS, NO_BLOCK, ONE_ORE_BLOCK, TWO_ZONES, at,
+    LIMITED_TEXTS, NINE_TEXTS, NO_BLOCK, ONE_ORE_BLOCK, TWO_ZONES, at, heading,
 )
+from rows.texts import NOT_SKIPPED
 from rows.trial import MARK, Folder, Trial, lines, refused
-from shared import CHECKED
+from shared import CHECKED, HEADER_KEYS
 
 
 def spoiled(parts):
@@ -140,6 +143,157 @@ def near_bases():
     yield counted("near_bases: a base with an ending", *COUNTED[0][1:], base="base.blocks")
 
 
+# What may stand about the lines of a text.
+BEFORE = MARK + b"\r\n \t\n%\n  % a: b\r\n\t%\xFF\0\v\f\r x\n%x\n"
+BETWEEN = b" \t\r\n\n\t% 1 0\n"
+KEYS = [key for key, *_ in HEADER_KEYS]
+
+
+def freed(text):
+    """The same text as a hand may write it: remarks, blank lines, runs of blanks, CR LF, no end of
+    the last line, header keys from the last to the first and with blanks about their colon."""
+    parts = text.split(b"\n")[:-1]
+    head = [line for line in parts if line.split(b":")[0].decode() in KEYS]
+    rest = parts[len(head) :]
+    turned = [line.replace(b":", b"\t :\t").replace(b" ", b" \t ") for line in head[::-1]]
+    spread = [line.replace(b" ", b"\t  ").replace(b":", b" :") for line in rest]
+    return BEFORE + BETWEEN.join(b"\t " + line for line in turned + spread) + b" \t\r"
+
+
+def freedoms():
+    """Each text of an instance as a hand may write it, alone and together; then other lines."""
+    counts = "blocks 2 arcs 0 coefficients 1 limits 2 cpit 1"
+    for endings in [*((ending,) for ending in CHECKED), CHECKED]:
+        texts = {**LIMITED_TEXTS, **{ending: freed(LIMITED_TEXTS[ending]) for ending in endings}}
+        yield counted(f"freedoms of {', '.join(endings)}", texts, counts)
+    for ending, line in itertools.product(CHECKED, NOT_SKIPPED):
+        text = freed(LIMITED_TEXTS[ending])
+        cut = text.index(BETWEEN) + len(BETWEEN)
+        changed = text[:cut] + line.encode(errors="surrogateescape") + b"\n" + text[cut:]
+        place, kind = text[:cut].count(b"\n") + 1, "Fields" if ending in CHECKED[:2] else "Key"
+        files = at("base", {**LIMITED_TEXTS, ending: changed})
+        name, told = f"freedoms: {line!r} in {ending}", f"{ending} line {place}: {kind}"
+        yield refused(name, told, words=["check", "base"], files=files)
+
+
+def at_its_ends(index, tonnes, zone, value, counts, rate, name):
+    """The texts of two blocks that wait for each other, where each number is at one end: one index
+    along each axis, one number as tonnes and grade, one as value. The counts are those of periods,
+    destinations and resources."""
+    periods, destinations, resources = counts
+    where = f"{resources - 1} {periods - 1}"
+    blocks = "".join(f"{own} {index} {index} {index} {tonnes} {tonnes} {zone}|" for own in (0, 1))
+    limits = f"RESOURCE_CONSTRAINT_LIMITS:|{where} I {value} {value}|"
+    given = {"name": name, "blocks": 2, "periods": periods, "resources": resources, "rate": rate}
+
+    def model_file(kind, count, place):
+        values = "".join(f"{own}{f' {value}' * count}|" for own in (0, 1))
+        head = heading(kind, destinations=destinations, **given)
+        items = f"RESOURCE_CONSTRAINT_COEFFICIENTS:|{place} {resources - 1} {value}|"
+        return lines(f"{head}OBJECTIVE_FUNCTION:|{values}{items}{limits}")
+
+    pcpsp = model_file("PCPSP", destinations, f"1 {destinations - 1}")
+    texts = [lines(blocks), b"0 1 1\n1 1 0\n", pcpsp, model_file("CPIT", 1, "1")]
+    return dict(zip(CHECKED, texts))
+
+
+ENDS = [
+    ("the least", at_its_ends("0", "0", "0", -(10**18), (1, 1, 1), "0", "-")),
+    ("the greatest",
+     at_its_ends("9999", "1000000", "63", 10**18, (100, 8, 8), "1", "Az_9." * 12 + "-09Z")),
+    ("spelled in full", at_its_ends(
+        "+09999.0", "001000000.0000", "063.", f"+{10**18}.0000000", (100, 8, 8), "1.000000", "a")),
+    ("a millionth", at_its_ends(".0", "0.001", "-0", "-.000001", (1, 1, 1), ".000001", "0" * 64)),
+]
+
+# How many blocks the instance has that follows, and the places of some of them.
+MANY = 5_000
+POWERS = [1 << bits for bits in range(13)]
+
+
+def many_blocks():
+    """The texts of thousands of blocks, and their arcs. Each block waits for those that are a power
+    of two behind it, and has a coefficient; each of 8 resources has a limit in each of 100 periods.
+    """
+    blocks = "".join(f"{own} {own} 0 0 1 0 0|" for own in range(MANY))
+    above = [[own + more for more in POWERS if own + more < MANY] for own in range(MANY)]
+    items = ([own, len(one), *one] for own, one in enumerate(above))
+    prec = "".join(" ".join(map(str, item)) + "|" for item in items)
+    limits = "".join(f"{r} {t} L 1|" for r, t in itertools.product(range(8), range(100)))
+    values = "OBJECTIVE_FUNCTION:|" + "".join(f"{own} 1|" for own in range(MANY))
+    given = {"blocks": MANY, "periods": 100, "resources": 8}
+
+    def model_file(kind, destination):
+        items = "".join(f"{own} {destination}0 1|" for own in range(MANY))
+        head = heading(kind, **given) + values + "RESOURCE_CONSTRAINT_COEFFICIENTS:|"
+        return lines(f"{head}{items}RESOURCE_CONSTRAINT_LIMITS:|{limits}")
+
+    texts = [lines(blocks), lines(prec), model_file("PCPSP", "0 "), model_file("CPIT", "")]
+    return dict(zip(CHECKED, texts)), sum(map(len, above))
+
+
+def of_many_blocks():
+    """What is counted of them, and a fault at the end of each text."""
+    texts, arcs = many_blocks()
+    counts = f"blocks {MANY} arcs {arcs} coefficients {MANY} limits 800 cpit {MANY}"
+    yield counted("thousands of blocks", texts, counts)
+    for ending in CHECKED:
+        place = texts[ending].count(b"\n") + 1
+        files = at("base", {**texts, ending: texts[ending] + b"x\n"})
+        name = f"thousands of blocks, a fault behind {ending}"
+        yield refused(name, f"{ending} line {place}: Fields", words=["check", "base"], files=files)
+    cut = texts["prec"][: texts["prec"].rindex(b"\n", 0, -1) + 1]
+    files, place = at("base", {**texts, "prec": cut}), texts["prec"].count(b"\n")
+    name, line = "thousands of blocks, and a line less", f"prec line {place}: Missing"
+    yield refused(name, line, words=["check", "base"], files=files)
+
+
+def powers_apart():
+    """Identifiers and numbers of blocks that are a power of two more than they should be."""
+    blocks = lines("".join(f"{own} 0 0 0 1 0 0|" for own in range(75)))
+    prec = lines("".join(f"{own} 0|" for own in range(75)))
+
+    def model_file(kind, first=0, count=75):
+        values = "".join(f"{own} 1|" for own in [first, *range(1, 75)])
+        rest = "RESOURCE_CONSTRAINT_COEFFICIENTS:|RESOURCE_CONSTRAINT_LIMITS:|"
+        return lines(f"{heading(kind, blocks=count)}OBJECTIVE_FUNCTION:|{values}{rest}")
+
+    good = dict(zip(CHECKED, [blocks, prec, model_file("PCPSP"), model_file("CPIT")]))
+    for bits in range(26):
+        more, texts = 1 << bits, {}
+        texts["blocks line 2: Order"] = lines(f"0 0 0 0 1 0 0|{1 + more} 0 0 0 1 0 0|")
+        texts["pcpsp line 3: Count"] = model_file("PCPSP", count=75 + more)
+        texts["cpit line 3: Count"] = model_file("CPIT", count=75 + more)
+        if more < 75:
+            texts["prec line 1: Order"] = lines(f"{more} 0|") + prec
+            texts["pcpsp line 10: Order"] = model_file("PCPSP", more)
+            texts["cpit line 8: Order"] = model_file("CPIT", more)
+        for line, text in texts.items():
+            files = at("base", {**good, line.split()[0]: text})
+            name = f"a power of two apart: {more}, {line}"
+            yield refused(name, line, words=["check", "base"], files=files)
+
+
+# How many predecessors a block has, and how far apart the two are that are one.
+ABOVE, APART = 70, (1, 2, 3, 4, 5, 8, 9, 16, 17, 32, 33, 64, 69)
+
+
+def twice_far_apart():
+    """A predecessor that stands twice so far apart, and the block itself, among many that rise and
+    that fall."""
+    blocks = lines("".join(f"{own} 0 0 0 1 0 0|" for own in range(ABOVE + 5)))
+    rest = "".join(f"{own} 0|" for own in range(1, ABOVE + 5))
+    for step, (apart, spelling) in itertools.product((1, -1), itertools.product(APART, ("", "0"))):
+        above = [str(own) for own in range(1, ABOVE + 1)][::step]
+        for what, again in (("twice", spelling + above[-apart]), ("itself", spelling + "0")):
+            place = len(above) if what == "twice" else ABOVE - apart
+            line = [*above[:place], again, *above[place:]]
+            prec = lines(f"0 {len(line)} {' '.join(line)}|{rest}")
+            files = at("base", {"blocks": blocks, "prec": prec, "pcpsp": b"x\n"})
+            name = f"{what} far apart: {apart}, {step}, {again}"
+            yield refused(name, "prec line 1: Twice", words=["check", "base"], files=files)
+
+
 def counted(name, texts, counts, base="base"):
     return Trial(name, words=["check", base], files=at(base, texts), out=lines(counts + "|"))
 
@@ -152,6 +306,13 @@ def trials():
     yield near._replace(words=["check", "./" * 150 + "base"])
     for name, texts, line in FAULTY:
         yield refused(name, line, words=["check", "base"], files=at("base", texts))
+    yield from freedoms()
+    for name, texts in ENDS:
+        counts = "blocks 2 arcs 2 coefficients 1 limits 1 cpit 1"
+        yield counted(f"each number at its end: {name}", texts, counts)
+    yield from of_many_blocks()
+    yield from powers_apart()
+    yield from twice_far_apart()
     yield from near_bases()
     for length in (401, 1_000, 4_000):
         base = "./" * ((length - 4) // 2) + "/" * ((length - 4) % 2) + "base"

@@ -13,8 +13,8 @@ OLDER = at("base", dict.fromkeys(ENDINGS, b"a line of an older file\n" * 100))
 
 # A path of 300 bytes and more, which leads to where it begins; and a longer one, which with a name
 # stays below the 4,096 bytes that a path may have.
-FAR = "./" * 150
-FARTHER = "./" * 2_000
+LONG_PATH = "./" * 150
+LONGER_PATH = "./" * 2_000
 
 # As many bytes as a plan may have.
 MOST = 1_048_576
@@ -25,6 +25,13 @@ def zones(count):
     return plan_of(cones=["1,1,1"] * count)
 
 
+def wide_rows():
+    """The one ore block among many columns."""
+    names = [PLACES.get(place, f"c{place}") for place in range(WIDE)]
+    cells = [VALUES.get(name, name) for name in names]
+    return (",".join(names) + "\n" + ",".join(cells) + "\n").encode()
+
+
 # A plan of many periods without a resource.
 HUNDRED = plan_of(rest="periods,100|rate,0.1|")
 
@@ -32,6 +39,18 @@ HUNDRED = plan_of(rest="periods,100|rate,0.1|")
 CENT = plan_of("leach,heap,3,0,0,1|mill,m,1,3,0|"), zone_file("0,0,0,1.873,177967.609895")
 
 LATE = [f"{n % 30 * 10},{n // 30 * 10},0,1,0" for n in range(898)]
+
+# Blocks that lie a power of two from one another along each axis, from the last to the first, each
+# of other tonnes.
+FAR = [(0, 0, 0), *(tuple(2**bits * (axis == at) for at in range(3))
+                    for axis in range(3) for bits in range(14))]
+FAR_ROWS = [f"{x}0,{y}0,{z}0,{number}.5,0.{number:06d}" for number, (x, y, z) in enumerate(FAR)]
+
+# A zone file of many columns, and how many cells rows have too many.
+WIDE = 1_100
+PLACES = {70: "tonnes", 300: "x", 600: "grade", 1_000: "z", 1_099: "y"}
+VALUES = {"x": "0", "y": "0", "z": "0", "tonnes": "1000", "grade": "5000"}
+MORE = [1, 16, 32, 40, 64, 100, 250, 255, 256, 500, 1_000, 65_536]
 
 MANY = zones(64), *(zone_file(f"{file * 10},0,0,1,{file}") for file in range(64))
 
@@ -63,6 +82,10 @@ FILES = {
     "columns": b"zone,x,y,z,tonnes,grade\n0,0,0,0,1000,5000\n",
     "spelled": b"Grade,TONNES,z,Y,X\n+5000.000000,01000.,-0,00,.0\n",
     "void": b"grade,tonnes,z,y,x",
+    "wide": wide_rows(),
+    "far": zone_file(*reversed(FAR_ROWS)),
+    "many_rows": zone_file(*LATE),
+    **{f"more{count}": zone_file("0,0,10,1,0" + ",0" * count) for count in MORE},
     "waste": zone_file("10,0,0,1,0"),
     "limited_zone": LIMITED[1],
     "cent_zone": CENT[1],
@@ -91,12 +114,14 @@ WRITTEN = [
     ("two zones in their order", "two --valuers 2 --capacity 1 waste ore", TWO_ZONES),
     ("a hundred periods without a resource", "hundred ore", plain_texts(HUNDRED, ORE)),
     ("a cent of metal", "cent cent_zone", plain_texts(*CENT)),
+    ("blocks a power of two from one another", "one far", plain_texts(PLAN, zone_file(*FAR_ROWS))),
+    ("898 rows", "one many_rows", plain_texts(PLAN, zone_file(*LATE))),
     # each of these is the second file, and the first one has none of its features
     *(
         (f"a file that is {second}, as the second", f"{plan} waste {second}", TWO_ZONES)
         for second, plan in [
             ("marked", "two"), ("turned", "two"), ("broken", "marked_two"), ("blank", "two"),
-            ("columns", "marked_two"), ("spelled", "two"),
+            ("columns", "marked_two"), ("spelled", "two"), ("wide", "two"),
         ]
     ),
 ]
@@ -111,7 +136,7 @@ ACCEPTED = [
     ("a mark in the plan", "marked_plan ore", b""),
     ("a mark in both", "marked_plan marked", b""),
     *((f"a file that is {name}", f"one {name}", b"") for name in [
-        "marked", "turned", "broken", "blank", "columns", "spelled"]),
+        "marked", "turned", "broken", "blank", "columns", "spelled", "wide"]),
     ("a pipe with a mark", "marked_plan /dev/stdin", OTHER_ORE),
 ]
 
@@ -130,9 +155,11 @@ REFUSED = [
     ("the first of two that are not there", "file 0: FeedFailed", "one no/such ."),
     ("a hyphen as a zone file", "file 0: FeedFailed", "one -"),
     ("a zone file without a name", "file 0: FeedFailed", ["one", ""]),
-    ("a path of 300 bytes to no file", "file 1: FeedFailed", ["two", "ore", FAR + "ore.csv"]),
-    ("a path of 4,000 bytes to no file", "file 1: FeedFailed", ["two", "ore", FARTHER + "ore.csv"]),
-    ("a path that is longer than there may be", "file 0: FeedFailed", ["one", FARTHER * 2 + "ore"]),
+    ("a path of 300 bytes to no file", "file 1: FeedFailed", ["two", "ore", LONG_PATH + "ore.csv"]),
+    ("a path of 4,000 bytes to no file", "file 1: FeedFailed",
+     ["two", "ore", LONGER_PATH + "ore.csv"]),
+    ("a path that is longer than there may be", "file 0: FeedFailed",
+     ["one", LONGER_PATH * 2 + "ore"]),
     ("a row off the grid along y", "file 0 row 2 column y: OffGrid", "one off_grid_y"),
     ("a row out of the grid along z", "file 1 row 3 column z: Range", "two ore off_range_z"),
     ("too few files", "settings: Files", "two ore"),
@@ -170,6 +197,11 @@ REFUSED = [
     ("a row off the grid", "file 1 row 2 column x: OffGrid", "two ore off_grid"),
     ("same_block_in_two_files", "file 1 row 4 repeats file 0 row 2", "same same0 same1"),
     ("one file for two zones", "file 1 row 2 repeats file 0 row 2", "two ore ore"),
+    *(
+        (f"{more} cells more in file {file}", f"file {file} row 2 column whole: Width",
+         f"{others} more{more}")
+        for more in MORE for file, others in [(0, "one"), (1, "two ore")]
+    ),
     *(
         (
             f"late_fault_in_file_0 {valuers}",
@@ -218,7 +250,7 @@ def files_that_are_written():
         run = writes(f"a base that is a {name}", "one ore", ONE_ORE_BLOCK, base)
         left = {os.path.normpath(name) if ".." in name else name: text for name, text in run.left.items()}
         yield run._replace(files={**run.files, "place": Folder()}, left=left)
-    for front in (FAR, "./" * 199 + "/", FARTHER):
+    for front in (LONG_PATH, "./" * 199 + "/", LONGER_PATH):
         far = compile_words("one ore", front + "base")
         far["words"][-2:] = [front + "one", front + "ore"]
         left = at("base", ONE_ORE_BLOCK)

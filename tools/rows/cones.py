@@ -304,6 +304,15 @@ def by_compile():
         yield Trial(f"by_compile: {name}, two files", out=b"rows 2\n", **given)
 
 
+def no_blocks():
+    """No block, so no line, by both forms."""
+    given = piped(ONE, HEADER)
+    yield Trial("no_blocks", given=given, out=Part(lines("== blocks|== prec|== upit|")))
+    left = at("b", {**dict.fromkeys(ENDINGS, ANY), "blocks": b"", "prec": b""})
+    files, words = {"plan": ONE, "0": HEADER}, compile_words("plan", "b", ["0"])
+    yield Trial("no_blocks, by compile", words=words, files=files, out=b"rows 0\n", left=left)
+
+
 def million_blocks():
     """A box of a million blocks."""
     places = itertools.product(range(25), range(200), range(200))
@@ -330,4 +339,5 @@ def trials():
         blocks = list(blocks_of(seed, *box))
         yield by_all_pairs(f"as_by_all_pairs: seed {seed}", sizes, cones, blocks)
     yield from by_compile()
+    yield from no_blocks()
     yield million_blocks()

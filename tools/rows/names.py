@@ -6,7 +6,7 @@ A name of bytes that are no UTF-8 is refused, whatever it names.
 import os
 
 from rows.instance import ONE_ORE_BLOCK, ORE, PLAN, at
-from rows.trial import Trial, refused
+from rows.trial import Folder, Trial, refused
 from shared import compile_words
 
 # A name, and others that some programs take for it.
@@ -63,6 +63,22 @@ def rows_of(name, near, base=None):
         yield refused(f"{other[:20]!r} alone in the place of {name[:20]!r}", "file 0: FeedFailed", words=words, files=files)
 
 
+def in_folders():
+    """Names in folders whose names are as long as they may be: paths of 500 bytes and of 1,500."""
+    for depth in (2, 6):
+        folders = [named(LONGEST - 5, letter) for letter in "abcdef"[:depth]]
+        paths = {"/".join(folders[: count + 1]): Folder() for count in range(depth)}
+        place = "/".join(folders) + "/"
+        given = {**paths, place + "one": PLAN, place + "ore": ORE}
+        words = compile_words(place + "one", place + "base", [place + "ore"])
+        wanted = {"out": b"rows 1\n", "left": at(place + "base", ONE_ORE_BLOCK)}
+        yield Trial(f"paths of {len(place)} bytes", words=words, files=given, **wanted)
+        counts = b"blocks 1 arcs 0 coefficients 0 limits 0 cpit 0\n"
+        files = {**paths, **at(place + "base", ONE_ORE_BLOCK)}
+        words = ["check", place + "base"]
+        yield Trial(f"a check in {len(place)} bytes", words=words, files=files, out=counts)
+
+
 def too_long():
     """Names that are longer than there may be."""
     name, files = named(LONGEST + 1), {"one": PLAN, "ore": ORE}
@@ -93,5 +109,6 @@ def trials():
     for name, near in NAMES:
         yield from rows_of(name, near)
     yield from rows_of(named(LONGEST), [named(LONGEST - 1), named(LONGEST, "N")], named(LONGEST - ENDING))
+    yield from in_folders()
     yield from too_long()
     yield from of_no_text()

@@ -5,15 +5,18 @@ first faulty record, line, file or text. Each name ends with it.
 """
 import itertools
 
-from rows.cells import Cell, with_cell
-from rows.instance import MILL, at, plan_of
+from rows.cells import Cell, pairs_of_faults, spelled, with_cell
+from rows.instance import MILL, ONE_ORE_BLOCK, ORE, PLAN, at, plan_of
 from rows.plans import (
-    EIGHT_DUMPS, EIGHT_RESOURCES, FIVE_HUNDRED_BANDS, SIXTEEN_BANDS, SIXTY_FOUR_ZONES,
+    CELLS as CELLS_OF_A_PLAN, EIGHT_DUMPS, EIGHT_RESOURCES, FIVE_HUNDRED_BANDS, SIXTEEN_BANDS,
+    SIXTY_FOUR_ZONES,
 )
 from rows.texts import (
-    BLOCKS, CPIT, FAULTS_OF_A_CPIT, FAULTS_OF_A_PCPSP, FAULTS_OF_BLOCKS, FAULTS_OF_PRECEDENCES,
-    PCPSP, PREC, TEN_BLOCKS, number_of, put, whole,
+    BLOCK_LINE, BLOCKS, CPIT, FAULTS_OF_A_CPIT, FAULTS_OF_A_PCPSP, FAULTS_OF_BLOCKS,
+    FAULTS_OF_PRECEDENCES, HEADER_NUMBERS, LIMIT_LINES, LINES_OF_A_CPIT, LINES_OF_A_PCPSP, PCPSP,
+    PREC, PREC_LINE, TEN_BLOCKS, before, number_of, put, whole, without,
 )
+from rows.zone_rows import CELLS as CELLS_OF_A_ROW, MILLIMETRES, NO_COLUMNS
 from rows.trial import HEADER, Folder, Link, lines, piped, refused, short, zone_file
 from shared import CHECKED, ENDINGS, compile_words
 
@@ -151,6 +154,27 @@ def in_two_texts():
     yield compiled(name, line, plan, [repeated], **full)
 
 
+def in_two_outputs():
+    """Of the files of an instance, the first of two that cannot be written: those before it are
+    whole, and no other is begun."""
+    kinds = {"a folder": Folder(), "a full device": Link("/dev/full")}
+    for (first, second), (kind, other) in itertools.product(
+            itertools.combinations(ENDINGS, 2), itertools.permutations(kinds)):
+        files = {f"b.{first}": kinds[kind], f"b.{second}": kinds[other]}
+        whole_ones = {ending: ONE_ORE_BLOCK[ending] for ending in ENDINGS[:ENDINGS.index(first)]}
+        name, line = f"two outputs: {kind} at {first}, then {second}", f"sink {first}: SinkFailed"
+        yield compiled(name, line, PLAN, [ORE], **files)._replace(left=at("b", whole_ones))
+
+
+def in_two_pieces():
+    """The number of zone files before their faults, by the pipe form."""
+    two = plan_of(cones=["1,1,1"] * 2)
+    for answer, text in KINDS_OF_FILES:
+        for plan, pieces in [(plan_of(), [text] * 2), (two, [text]), (two, [text] * 3)]:
+            name = f"two pieces: {len(pieces)} for another number before {answer}"
+            yield refused(name, "settings: Files", given=piped(plan, *pieces))
+
+
 def checked(name, line, texts):
     """A check of these texts that is refused."""
     files = at("b", dict(zip(CHECKED, texts)))
@@ -242,9 +266,164 @@ def in_two_files_of_an_instance():
             yield checked(f"two texts: {line} before {other}", line, texts)
 
 
+def before_a_later_text():
+    """Each fault that the table texts has by hand, before a fault of the text behind it, or of a
+    CPIT before one of its last line."""
+    good = [BLOCKS, PREC, whole(PCPSP), whole(CPIT)]
+    faulty = [b"0 x\n", b"x\n", b"x\n", b"x: 1\n"]
+    for place, file, table in [(0, "blocks", FAULTS_OF_BLOCKS), (1, "prec", FAULTS_OF_PRECEDENCES)]:
+        for line, *texts in table:
+            for text in texts if line.startswith(file) else ():
+                both = [*good[:place], text, faulty[place], *good[place + 2 :]]
+                yield checked(f"before a later text: {text[:60]!r}", line, both)
+    for place, file, lines_of, table in [
+        (2, "pcpsp", PCPSP, FAULTS_OF_A_PCPSP), (3, "cpit", CPIT, FAULTS_OF_A_CPIT)]:
+        for told, kind, *changes in table:
+            line = f"{file} line {number_of(lines_of, told)}: {kind}"
+            for change in changes:
+                change = put(told, change) if isinstance(change, str) else change
+                text = whole(change.of(lines_of))
+                behind = [faulty[place]] if place == 2 else []
+                if place == 3 and change.count is not None:
+                    text += faulty[place]
+                name = f"before a later text: {change}"
+                yield checked(name, line, [*good[:place], text, *behind])
+
+
+def keys_before_a_later_text():
+    """Each key and section of a model file in other spellings, each key that lacks, stands twice or
+    behind a section, and a value too many, before another fault as above."""
+    for file, good, texts in [
+        ("pcpsp", PCPSP, [BLOCKS, PREC]), ("cpit", CPIT, [BLOCKS, PREC, whole(PCPSP)])]:
+        head = good.index("OBJECTIVE_FUNCTION:")
+
+        def told(change, number, kind):
+            changed, line = change.of(good), f"{file} line {number}: {kind}"
+            changed = whole([*changed, "y: 1"] if kind != "Missing" else changed)
+            behind = [b"x\n"] if file == "pcpsp" else []
+            return checked(f"keys before a later text: {change}", line, [*texts, changed, *behind])
+
+        for number, line in enumerate(good, 1):
+            key, colon, value = line.partition(":")
+            for other in dict.fromkeys([
+                key.lower(), key.title(), key[1:], key[:-1], key + "S", "N" + key,
+                key.replace("_", " "), key.replace("_", "-"), key + "."]) if colon else ():
+                if other != key:
+                    yield told(put(number, f"{other}:{value}"), number, "Key")
+            if number < head:
+                yield told(without(number), head, "Missing")
+            if number <= head:
+                yield told(before(head + 1, line), head + 1, "Twice")
+                yield told(before(head + 2, line), head + 2, "Key")
+                yield told(put(number, f"{line} 1"), number, "Fields")
+            elif colon:
+                yield told(put(number, f"{line} 1"), number, "Fields")
+                yield told(before(number, line), number + 1, "Key")
+
+
+def columns_before_a_later_file():
+    """Headers that lack a column and have one with a near name, before a faulty file."""
+    columns, two = HEADER.decode().strip().split(","), plan_of(cones=["1,1,1"] * 2)
+    for column in columns:
+        wrong = [column[1:], column[:-1], column + "s", column + "_", "_" + column, f"'{column}'",
+                 column + ":", "#" + column, "rock"]
+        for other in dict.fromkeys([*wrong, *NO_COLUMNS[column]]):
+            text = ",".join([other if one == column else one for one in columns]).encode()
+            line = f"row 1 column {column}: MissingColumn"
+            name = f"columns before a later file: {other} for {column}"
+            yield compiled(name, f"file 0 {line}", two, [text, b"x\n"])
+            name = f"columns behind a good file: {other} for {column}"
+            yield compiled(name, f"file 1 {line}", two, [HEADER, text + b"\n0,0,0,1,0,0\n"])
+
+
+def past_ends(cell):
+    """Numbers just past either end of a cell, and one that is too fine, with their kinds."""
+    point = "" if cell.decimals else "."
+    yield spelled(cell.least - 1, cell.decimals), "Range"
+    yield spelled(cell.greatest + 1, cell.decimals), "Range"
+    yield spelled(cell.greatest, cell.decimals) + point + "1", "TooFine"
+
+
+def each_past_ends(cells):
+    """Cells of which one number is past its ends, and the kind of its fault."""
+    for place, cell in enumerate(cells):
+        for text, kind in past_ends(cell) if cell.decimals is not None else ():
+            yield with_cell(cells, place, text), kind, place
+
+
+def faults_of_a_line(cells):
+    """The same without the place, and then cells of which two are faulty."""
+    for texts, kind, _ in each_past_ends(cells):
+        yield texts, kind
+    yield from pairs_of_faults(cells)
+
+
+def ends_in_two_records():
+    """Each number of a plan and of a row past its ends, before another faulty record or row."""
+    for before, key, cells in CELLS_OF_A_PLAN:
+        for texts, kind, _ in each_past_ends(cells):
+            record, row = ",".join([key, *texts]), before.count("|") + 1
+            line, text = f"plan row {row}: {kind}", lines(f"{before}{record}|pit")
+            yield refused(f"{short(f'ends before a record: {record}')}: {line}", line, given=text)
+    for texts, kind, place in each_past_ends(CELLS_OF_A_ROW):
+        column = ["x", "y", "z", "tonnes", "grade"][place]
+        line, row = f"file 0 row 2 column {column}: {kind}", ",".join(texts)
+        given = piped(MILLIMETRES, zone_file(row, "0,0,0,1"))
+        yield refused(f"ends before a row: {row}: {line}", line, given=given)
+
+
+def ends_in_two_lines():
+    """The same of each field of a MineLib text, and two faulty fields, before a faulty line or text
+    behind it."""
+    two = put("NRESOURCE_SIDE_CONSTRAINTS", "NRESOURCE_SIDE_CONSTRAINTS: 2")
+    for fields, kind in faults_of_a_line(BLOCK_LINE[0]):
+        line = " ".join(fields)
+        text = lines(f"0 0 0 0 1000 5000 0|{line}|x|")
+        yield checked(f"ends before a line: {line}", f"blocks line 2: {kind}", [text, PREC, b"x\n"])
+    for fields, kind in faults_of_a_line(PREC_LINE[0]):
+        line = " ".join(fields)
+        yield checked(f"ends before a line: {line}", f"prec line 2: {kind}",
+                      [BLOCKS, lines(f"0 1 1|{line}|x|"), b"x\n"])
+    for file, good, table, texts in [
+        ("pcpsp", two.of(PCPSP), LINES_OF_A_PCPSP, [BLOCKS, PREC]),
+        ("cpit", two.of(CPIT), LINES_OF_A_CPIT, [BLOCKS, PREC, whole(PCPSP)]),
+    ]:
+        headers = [(key, f"{key}: ", [cell]) for key, cell in HEADER_NUMBERS.items()]
+        items = [(at, "", cells) for at, (cells, _) in table]
+        items += [("LIMITS+1", "", cells) for cells, _ in LIMIT_LINES]
+        found = {}
+        for told, front, cells in headers + items:
+            if any(line.startswith(front) for line in good):
+                for fields, kind in faults_of_a_line(cells):
+                    found.setdefault((told, front + " ".join(fields)), kind)
+        for (told, other), kind in found.items():
+            change, place = put(told, other), number_of(good, told)
+            text = whole([*change.of(good)[:place], "x: 1"])
+            line = f"{file} line {place}: {kind}"
+            yield checked(f"ends before a line: {change}", line, [*texts, text, b"x\n"][:4])
+
+
+def powers_apart():
+    """Identifiers and numbers of blocks that are a power of two more than they should be, before
+    another fault."""
+    for bits in range(26):
+        more = 1 << bits
+        text = lines(f"0 0 0 0 1 0 0|{1 + more} 0 0 0 1 0 0|x|")
+        name = f"a power of two before a line: {more}"
+        yield checked(name, "blocks line 2: Order", [text, PREC, b"x\n"])
+        if more < 10:
+            text = lines(f"{more} 0|x|")
+            yield checked(name, "prec line 1: Order", [TEN_BLOCKS, text, b"x\n"])
+        count = put("NBLOCKS", f"NBLOCKS: {2 + more}")
+        pcpsp, cpit = whole(count.of(PCPSP)), whole(count.of(CPIT)) + b"y: 1\n"
+        yield checked(name, "pcpsp line 3: Count", [BLOCKS, PREC, pcpsp, b"x\ny\n"])
+        yield checked(name, "cpit line 3: Count", [BLOCKS, PREC, whole(PCPSP), cpit])
+
+
 def of_compile():
     """Those of plans and zone files, by `compile`."""
     yield from in_two_files(FILES)
+    yield from columns_before_a_later_file()
     yield from in_two_texts()
 
 
@@ -252,6 +431,13 @@ def trials():
     yield from in_two_records()
     yield from in_two_rows()
     yield from of_compile()
+    yield from in_two_outputs()
+    yield from in_two_pieces()
     yield from in_two_lines()
     yield from in_two_lines_of_a_model()
     yield from in_two_files_of_an_instance()
+    yield from before_a_later_text()
+    yield from keys_before_a_later_text()
+    yield from ends_in_two_records()
+    yield from ends_in_two_lines()
+    yield from powers_apart()

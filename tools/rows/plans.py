@@ -23,6 +23,8 @@ ONE_RESOURCE = "dump,d,1|resource,r,d|"
 LIMITED = "periods,1|" + ONE_RESOURCE
 NAMED = "dump,one-way,1|resource,one-way,one-way|periods,1|"
 LIMITS = ["limit,r,0,L,2", "limit,r,0,G,2", "limit,r,0,I,2,3"]
+ALL_LIMITS = "periods,100|" + EIGHT_RESOURCES + "".join(
+    f"limit,{of},{period},L,1|" for of in "abcdefgh" for period in range(100))
 SIXTEEN_BANDS = "leach,h,1,1" + "".join(f",{start},0" for start in range(16))
 SIXTEEN_OF_THE_MILL = SIXTEEN_BANDS.replace("leach,h", "leach,mill")
 FIVE_HUNDRED_BANDS = "leach,h,1,1" + "".join(f",{start},0" for start in range(500))
@@ -206,7 +208,16 @@ FAULTS = [
      "limit,r,0,I,500000000000.000001,500000000000"),
     (LIMITED, "Missing", "limit,r,0,I,999999999999.999999,1000000000000",
      "limit,r,0,I,999999999999.999998,999999999999.999999"),
-    # more digits behind the point than any count of them holds
+    # a limit that stands twice behind many others
+    *(
+        (ALL_LIMITS, "Twice", f"limit,{of},{period},{rest}")
+        for of, period in itertools.product("ah", (0, 1, 15, 16, 50, 98, 99))
+        for rest in ("G,1", "I,1,2")
+    ),
+    # more digits about the point than any count of them holds
+    ("", "Missing", *(f"periods,{'0' * zeros}100" for zeros in (17, 39, 64, 255, 1_003, 5_000))),
+    ("", "Missing", *(f"rate,{'0' * zeros}.5" for zeros in (39, 64, 255, 1_003, 5_000))),
+    ("", "Range", *(f"periods,{'0' * zeros}101" for zeros in (17, 64, 1_003))),
     ("", "Missing", *(f"rate,0.1{'0' * zeros}" for zeros in (39, 64, 255, 1_003, 5_000))),
     ("", "TooFine", f"rate,0.1{'0' * 1_500}1", f"periods,1.{'0' * 5_000}1"),
     # what some programs take for numbers
@@ -468,6 +479,9 @@ def names():
         yield told(f"letters_of_limits: {letter}", plan, answer)
 
 
+# Lines that are near to that at which the pipe form cuts, as records of a plan.
+NEAR_CUTS = ["-", "---", "-- ", " --", "\t--", "- -", "--,,", "==", "--x", "x--", '"--"', "\u2013"]
+
 # Records that may stand once: two that are good, and one with a cell that is not, and its kind.
 ONCE = [
     ("name,one", "name,two", "name,?", "Name"),
@@ -528,6 +542,10 @@ def trials():
     yield from names()
     for plan, answer in table():
         yield told(f"plan_table: {plan}", lines(plan), answer)
+    for line in NEAR_CUTS:
+        text = lines(f"name,one|{line}|rate,0|")
+        yield told(f"near_cuts: {line}", text, "row 2: Key")
+        yield told_by_compile(f"near_cuts: {line}", text, "row 2: Key")
     for plan, answer in PLANS:
         yield told(f"plan_table: {plan}", lines(plan), answer)
         yield told_by_compile(f"plan_table: {plan}", lines(plan), answer)

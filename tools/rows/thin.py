@@ -261,6 +261,20 @@ def of_wide_cones():
         yield thinned(f"wide cones: {name}", cells, zones, masses=UNLIKE)
 
 
+def of_holes():
+    """Half of the blocks of a box: so many of them have neighbours like those of no other block that the
+    program keeps what is left of a cone for some alone."""
+    for name, cells, places in [
+        ("1 : 30", ["1,30,3"], box(range(24), range(24), range(4))),
+        ("1 : 4 among 1 : 2", ["1,4,3", "1,2,5"], box(range(18), range(18), range(6))),
+    ]:
+        chance = random.Random(name)
+        zones = [[] for _ in cells]
+        for place in chance.sample(places, len(places) // 2):
+            zones[sum(place) % len(zones)].append(place)
+        yield thinned(f"half of the blocks: {name}", cells, zones, masses=UNLIKE)
+
+
 def cross(side, z, y, x):
     """The list of a block of a box of this side: itself and its four sides, a bench higher."""
     places = [(x, y - 1), (x - 1, y), (x, y), (x + 1, y), (x, y + 1)]
@@ -299,5 +313,6 @@ def trials():
     yield from of_many_zones()
     yield from of_places()
     yield from of_wide_cones()
+    yield from of_holes()
     yield from of_large_models()
     yield from thin_files.trials()

@@ -29,7 +29,8 @@ def as_thin(trial, older=OLDER["longer"], left=()):
     at_base = {name: text for name, text in trial.files.items() if name.startswith(base + ".")}
     others = {name: text for name, text in trial.files.items() if name not in at_base}
     is_full = Link("/dev/full") in at_base.values()
-    files = {base: Link("/dev/full") if is_full else older, **others}
+    put = Link("/dev/full") if is_full else older
+    files = {**others, base: others.get(base, put)}
     run = trial._replace(words=words, files=files, out=b"", left={})
     return run._replace(out=left[0], left={base: left[1]}) if left else run
 
@@ -117,7 +118,7 @@ def of_names():
 
 
 # The words of a run of pitc_thin that ask for a text, and parts of it.
-ABOUT = "Writes the precedences of a model without arcs that follow from others."
+ABOUT = "Writes the precedences of a model, and leaves out arcs that follow from others."
 SHOWN = [
     ("--help", ABOUT, "a solver has fewer arcs to take", "prints `rows N arcs M of L`", "[default: 64]"),
     ("-h", ABOUT), ("--version", "pitc_thin "), ("-V", "pitc_thin "),
@@ -148,7 +149,8 @@ def of_words():
     asking = [words.split() for words, *_ in SHOWN]
     for words in [*of_compile, *map(str.split, ALSO_REFUSED)]:
         if words not in asking:
-            yield Trial(f"words that are refused: {words}", 2, words=words, files=files, errors=Front(b"error: "))
+            told = words_of_compile.told_of(" ".join(["compile", *words]))
+            yield Trial(f"words that are refused: {words}", 2, words=words, files=files, errors=told)
     for words in words_of_compile.REFUSED_WHOLE:
         if words[0] == "compile":
             yield Trial(f"words with blanks: {words[1:]}", 2, words=words[1:], files=files, errors=Front(b"error: "))

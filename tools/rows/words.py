@@ -182,6 +182,24 @@ REFUSED = [
     "compile --plan one.plan --out base --valuers 1 2 ore.csv --capacity",
 ]
 
+# What is told of some of them, one for each kind of fault, as `clap` tells it.
+RUN = "compile --plan one.plan --out base"
+LACKING = "the following required arguments were not provided:"
+NO_NUMBER = "invalid digit found in string"
+LINES = {
+    "nope": "unrecognized subcommand 'nope'",
+    "check": f"{LACKING}\n  <BASE>",
+    "check base more": "unexpected argument 'more' found",
+    RUN: f"{LACKING}\n  <ZONE>...",
+    f"{RUN} --nope ore.csv": "unexpected argument '--nope' found",
+    "compile --plan one.plan --plan one.plan --out base ore.csv":
+        "the argument '--plan <P>' cannot be used multiple times",
+    f"{RUN} ore.csv --valuers": "a value is required for '--valuers <N>' but none was supplied",
+    f"{RUN} ore.csv --valuers 65": "invalid value '65' for '--valuers <N>': 65 is not in 1..=64",
+    f"{RUN} ore.csv --valuers 4.0": f"invalid value '4.0' for '--valuers <N>': {NO_NUMBER}",
+    f"{RUN} ore.csv --capacity 0": "invalid value '0' for '--capacity <N>': 0 is not in 1..=4096",
+}
+
 # The same, with a blank in a word.
 REFUSED_WHOLE = [
     ["compile", "--plan", "one.plan", "--out", "base", "ore.csv", f"--{option}", number]
@@ -203,6 +221,11 @@ TWICE = {
 
 # The files that runs of other bases begin with.
 FEW = {"one.plan": PLAN, "ore.csv": ORE}
+
+
+def told_of(words):
+    """How the text of refused words begins."""
+    return Front(f"error: {LINES[words]}\n".encode() if words in LINES else b"error: ")
 
 
 def of_bases():
@@ -246,7 +269,7 @@ def trials():
         out = Parts([part.encode() for part in parts])
         yield Trial(words, words=words.split(), files=FILES, out=out)
     for words in REFUSED:
-        yield Trial(words, 2, words=words.split(), files=FILES, errors=Front(b"error: "))
+        yield Trial(words, 2, words=words.split(), files=FILES, errors=told_of(words))
     for words in REFUSED_WHOLE:
         name = f"words with blanks: {words}"
         yield Trial(name, 2, words=words, files=FILES, errors=Front(b"error: "))

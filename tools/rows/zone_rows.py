@@ -213,6 +213,16 @@ RECORDS_OF_TEXTS = [
     (b"X,Y,Z,TONNES,Grade\n0,0,0,1,?\n", "row 2 column grade: Number"),
     (b"X,Y,Z,Tonnes,GRADE\n0,0,0,-1,?\n", "row 2 column tonnes: Range"),
     (b" X\t,Y,Z,TONNES,GRADE\n5,0,0,1,2\n", "row 2 column x: OffGrid"),
+    # lines that are near to that at which the pipe form cuts
+    *(
+        (HEADER + b"0,0,0,1,2\n" + line + b"\n10,0,0,3,4\n", "row 3 column whole: Width")
+        for line in [b"-", b"---", b"----", b"-- ", b" --", b"\t--", b"--\t", b"- -", b"==", b"__",
+                     b"--x", b"x--", b'"--"', b"--\r\r", b"\xE2\x80\x93", b"\xE2\x80\x94"]
+    ),
+    (HEADER + b"0,0,0,1,2\n--,,,,\n", "row 3 column x: Number"),
+    (b"x,y,z,tonnes,grade,rock\n0,0,0,1,2,--\n10,0,0,3,4,a --\n", TWO),
+    (b"rock,x,y,z,tonnes,grade\n--,0,0,0,1,2\n-- a,10,0,0,3,4\n", TWO),
+    (b"x,y,z,tonnes,grade,rock\r0,0,0,1,2,a\r10,0,0,3,4,--\r", TWO),
     # records of other lengths, and blank lines, which are none
     (HEADER + b"0,0,0,1,2\n10,0,0,3,4,5", "row 3 column whole: Width"),
     (HEADER + b"\n0,0,0,1,2\n\r\n\r10,0,0,3", "row 3 column whole: Width"),
