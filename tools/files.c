@@ -26,6 +26,11 @@ void refuse_at(long n, int signal, const char *folder, int descriptor) {
     ours[1] = 1;
 }
 
+/* How many calls were counted since. */
+long calls_made(void) {
+    return calls;
+}
+
 #define NEXT(name) static __typeof__(name) *next; if (!next) next = dlsym(RTLD_NEXT, #name)
 
 static ssize_t plainly(int fd, const char *text) {

@@ -28,22 +28,25 @@ NEEDS = [
     Need(["cmp"], "", "recipes"),
     Need(["sha256sum"], "", "recipes, tools/archive"),
     Need(["gzip"], "", "a recipe"),
+    Need(["parallel"], "parallel", "a recipe: a batch over several machines"),
     Need(["git"], "git", "tools/archive: the commit, and which files there are"),
     Need(["cbc"], "coinor-cbc", "recipes: schedules"),
     Need(["glpsol"], "glpk-utils", "recipes: the pit as a linear program"),
     Need(["g++", "c++", "clang++"], "g++", "recipes and tests of python/: the pit"),
-    Need(["cc", "gcc", "clang"], "gcc", "tools/refused-memory"),
+    Need(["cc", "gcc", "clang"], "gcc", "tools/refused-memory, tools/refused-files"),
     Need(["zsh"], "zsh", "completions"),
     Need(["fish"], "fish", "completions"),
     Need(["groff"], "groff-base", "tools/man-page"),
     Need(["man"], "man-db", "README: man pitc"),
     Need(["dpkg-deb"], "", "tools/archive: the Debian package"),
     Need(["time"], "time", "the peak memory of a run"),
+    Need(["mypy"], "mypy", "tools/lint"),
+    Need(["pylint"], "pylint", "tools/lint"),
     Need(["chromium", "chromium-browser", "google-chrome"], "chromium", "a test of python/: the page of a survey"),
 ]
 
 # Packages of Python that one interpreter has to have, all of them; Debian's begin with python3-.
-MODULES = ["pandas", "numpy", "scipy", "matplotlib", "openpyxl", "pytest", "distributed", "hypothesis"]
+MODULES = ["pandas", "numpy", "scipy", "matplotlib", "openpyxl", "pytest", "distributed", "hypothesis", "ezdxf", "meshio", "tqdm"]
 
 # What no package brings.
 DEVICES = ["/dev/full", "/proc/self/task", "/proc/self/io"]

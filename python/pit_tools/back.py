@@ -1,7 +1,9 @@
-"""Takes a pit or a schedule back to where its blocks lie: as coordinates, and onto the rows of the export.
+"""Takes a pit or a schedule back to where its blocks lie: as coordinates, and onto the rows of the
+export.
 
-A pit's file has a block on each line; a schedule's its period, then its destination, and then the share
-of the block, as far as they are given. A line without a share, among others with one, has the share 1.
+A pit's file has a block on each line; a schedule's its period, then its destination, and then the
+share of the block, as far as they are given. A line without a share, among others with one, has the
+share 1.
 """
 from __future__ import annotations
 
@@ -11,16 +13,20 @@ from typing import IO, Optional
 import numpy as np
 import pandas as pd
 
-from pit_tools import outputs
+from pit_tools import outputs, progress
 from pit_tools.errors import UserError
+from pit_tools.gridding import Frame
+from pit_tools.imported_blocks import Imported
 from pit_tools.instance import Blocks
 from pit_tools.plan_file import Plan
 from pit_tools.spelling import lines_of
+from pit_tools.sums import sum_of
 
 #: The columns behind the block, by how many fields lines have.
 FIELDS = ("period", "destination", "share")
 
-#: How far, in blocks, the export's grid may lie beside the plan's: coordinates of a turned model are rounded.
+#: How far, in blocks, the export's grid may lie beside the plan's: coordinates of a turned model
+#: are rounded.
 NOISE = 0.1
 
 
@@ -68,37 +74,40 @@ def read_mined(path: str, plan: Plan, blocks: int) -> Mined:
         bad |= (numbers[column] % 1 != 0) | (numbers[column] < 0) | (numbers[column] >= end)
     if bad.any():
         at = int(np.flatnonzero(bad)[0])
-        raise UserError(f"{path}: line {table.index[at] + 1}: no line of a pit or a schedule of these blocks: `{lines.iloc[at].strip()}`")
+        raise UserError(f"{path}: line {table.index[at] + 1}: no line of a pit or a schedule of "
+                        f"these blocks: `{lines.iloc[at].strip()}`")
     columns = [numbers[at].to_numpy(np.int64 if at < 3 else float) for at in numbers.columns]
     return Mined(*columns)
 
 
 def texts_of(multiples: np.ndarray, decimals: int) -> np.ndarray:
     """Shortest decimals of whole multiples of 10^-decimals, an object array of str."""
-    return np.array(b"".join(lines_of([(multiples, decimals)])).decode().split("\n")[:-1], dtype=object)
+    return np.array(b"".join(lines_of([(multiples, decimals)])).decode().split("\n")[:-1],
+                    dtype=object)
 
 
-def coordinates(plan: Plan, blocks: Blocks, ids: np.ndarray, turn=None) -> pd.DataFrame:
-    """x, y and z of the blocks' centroids as texts, in the plan's units; turned back where the model was turned."""
+def coordinates(plan: Plan, blocks: Blocks, ids: np.ndarray,
+                frame: Frame = Frame()) -> pd.DataFrame:
+    """x, y and z of the blocks' centroids as texts, as the export has them."""
     thousandths = [int(origin * 1000) + index[ids].astype(np.int64) * int(size * 1000)
-                   for origin, size, index in zip(plan.grid.origin, plan.grid.size, (blocks.x, blocks.y, blocks.z))]
-    if turn is not None:
-        from pit_tools.gridding import Turn
-
-        x, y = Turn(-turn.angle, turn.about).own(thousandths[0] / 1000, thousandths[1] / 1000)
-        thousandths[:2] = (np.rint(axis * 1000).astype(np.int64) for axis in (x, y))
+                   for origin, size, index in zip(plan.grid.origin, plan.grid.size,
+                                                  (blocks.x, blocks.y, blocks.z))]
+    if frame != Frame():
+        own = frame.own(np.stack(thousandths, axis=1) / 1000)
+        thousandths = list(np.rint(own * 1000).astype(np.int64).T)
     return pd.DataFrame({name: texts_of(axis, 3) for name, axis in zip("xyz", thousandths)})
 
 
-def placed(plan: Plan, blocks: Blocks, mined: Mined, with_all: bool = False, turn=None) -> pd.DataFrame:
-    """A row for each line of a pit or a schedule, in its order: x, y, z, block, tonnes, grade, zone, mined 1, and
-    its other columns. With `with_all` the other blocks follow, with mined 0."""
+def placed(plan: Plan, blocks: Blocks, mined: Mined, with_all: bool = False,
+           frame: Frame = Frame()) -> pd.DataFrame:
+    """A row for each line of a pit or a schedule, in its order: x, y, z, block, tonnes, grade,
+    zone, mined 1, and its other columns. With `with_all` the other blocks follow, with mined 0."""
     ids, count = mined.block, len(mined.block)
     if with_all:
         others = np.ones(len(blocks), dtype=bool)
         others[ids] = False
         ids = np.concatenate([ids, np.flatnonzero(others)])
-    table = coordinates(plan, blocks, ids, turn)
+    table = coordinates(plan, blocks, ids, frame)
     table["block"] = ids
     table["tonnes"] = texts_of(np.rint(blocks.tonnes[ids] * 1000).astype(np.int64), 3)
     table["grade"] = texts_of(np.rint(blocks.grade[ids] * 1e6).astype(np.int64), 6)
@@ -119,49 +128,75 @@ def _told(plan: Plan, name: str, values: np.ndarray) -> np.ndarray:
     return values.astype(str).astype(object)
 
 
-def by_block(plan: Plan, mined: Mined, blocks: int) -> pd.DataFrame:
-    """What is told of each block on rows of its own: `mined`, 0, 1 or a share, and period and destination of its
-    greatest share; empty texts where it is not mined."""
+def by_block(plan: Plan, mined: Mined, blocks: int, with_shares: bool = False) -> pd.DataFrame:
+    """What is told of each block on rows of its own: `mined`, 0, 1 or a share, and period and
+    destination of its greatest share, empty texts where it is not mined. With shares there is
+    besides a column `share_T` for each period T.
+
+    Raises UserError where shares are asked for of a pit, which has no periods.
+    """
     shares = mined.shares()
     total = np.zeros(blocks)
     np.add.at(total, mined.block, shares)
     order = np.argsort(shares, kind="stable")
-    table = pd.DataFrame({"block": np.arange(blocks), "mined": texts_of(np.rint(total * 1e6).astype(np.int64), 6)})
+    table = pd.DataFrame({"block": np.arange(blocks), "mined": _share_texts(total)})
     for name in mined.columns[:2]:
         texts = np.full(blocks, "", dtype=object)
         texts[mined.block[order]] = _told(plan, name, getattr(mined, name))[order]
         table[name] = texts
+    if with_shares:
+        if mined.period is None:
+            raise UserError("--shares are those of periods, and a pit has none: give a schedule")
+        for period in range(plan.periods):
+            taken = mined.period == period
+            found = np.bincount(mined.block[taken], shares[taken], blocks)
+            table[f"share_{period}"] = _share_texts(found)
     return table
 
 
-def onto_rows(imported_path: str, plan: Plan, blocks: Blocks, mined: Mined, place: Optional[str]) -> tuple[int, int]:
-    """Writes the export's own rows with what is told of their blocks behind, or prints them where no place is given:
-    every row has its block's, sub-blocks that of their parent. Answers how many rows there are, and how many have a
-    block.
+def _share_texts(shares: np.ndarray) -> np.ndarray:
+    """Shares to 6 decimals, one text for those that are the same: most are 0 or 1."""
+    each, at = np.unique(np.rint(shares * 1e6).astype(np.int64), return_inverse=True)
+    return texts_of(each, 6)[at]
 
-    `imported_path` is BASE.json of `pit-tools import`, by which the export is read again. Cells stay as they
-    are; rows that are no block, as air, have empty cells, and a row of several blocks has the first and the
-    mean of what is mined. Raises UserError where the export cannot be read again,
-    or its grid is not the plan's.
+
+def onto_rows(imported_path: str, plan: Plan, blocks: Blocks, mined: Mined,
+              place: Optional[str], with_shares: bool = False) -> tuple[int, int, int]:
+    """Writes the export's own rows with what is told of their blocks behind, or prints them where
+    no place is given: every row has its block's, sub-blocks that of their parent. Answers how many
+    rows there are, how many have a block, and how many blocks that are mined have no row.
+
+    `imported_path` is BASE.json of `pit-tools import`, by which the export is read again. Cells
+    stay as they are; rows that are no block, as air, have empty cells, and a row of several blocks
+    has the first and the means of what is mined. Raises UserError where the export is another than
+    `import` read or cannot be read again, or its grid is not the plan's.
     """
     from pit_tools.imported import read_imported
     from pit_tools.importing import import_export
 
+    told = by_block(plan, mined, len(blocks), with_shares)
     read = read_imported(imported_path)
+    for path, found in zip(read.exports, read.sums):
+        if sum_of(path) != found:
+            raise UserError(f"{path}: it is another file than the one that `import` read: bring "
+                            "that back, or import it again")
     again = import_export(read.exports, read.words)
     block_at = _block_at(plan, blocks, again)
-    told = by_block(plan, mined, len(blocks))
+    without = len(np.setdiff1d(mined.block, block_at))
+    progress.step("writes rows")
     with outputs.opened_or_printed(place, "rows of a pit", "utf-8", "") as out:
-        return _rows_written(again, block_at, told, out)
+        return (*_rows_written(again, block_at, told, out), without)
 
 
-def _rows_written(again, block_at: np.ndarray, told: pd.DataFrame, out: IO[str]) -> tuple[int, int]:
+def _rows_written(again: Imported, block_at: np.ndarray, told: pd.DataFrame,
+                  out: IO[str]) -> tuple[int, int]:
     rows = found = 0
     for number, source in enumerate(again.sources):
         names = list(told.columns)
         separator = "," if source.separator in ("", " ") else source.separator
         if not number:
-            pd.DataFrame([source.names + names]).to_csv(out, sep=separator, header=False, index=False, lineterminator="\n")
+            pd.DataFrame([source.names + names]).to_csv(out, sep=separator, header=False,
+                                                        index=False, lineterminator="\n")
         in_file = (again.places["file"] == number).to_numpy()
         of_part = pd.Series(block_at[in_file], index=again.places["record"][in_file].to_numpy())
         of_record = of_part[~of_part.index.duplicated()]
@@ -174,23 +209,27 @@ def _rows_written(again, block_at: np.ndarray, told: pd.DataFrame, out: IO[str])
             behind.index = table.index
             if cut is not None:
                 at_cut = table.index.intersection(cut.index)
-                behind.loc[at_cut, "mined"] = cut[at_cut]
-            pd.concat([table, behind], axis=1).to_csv(out, sep=separator, header=False, index=False, lineterminator="\n")
+                behind.loc[at_cut, cut.columns] = cut.loc[at_cut]
+            pd.concat([table, behind], axis=1).to_csv(out, sep=separator, header=False, index=False,
+                                                      lineterminator="\n")
             rows += max(0, len(table) - left)
             left = max(0, left - len(table))
             found += int((ids >= 0).sum())
+            progress.tell(f"{rows:,} rows")
     return rows, found
 
 
-def _mined_of_cut_rows(told: pd.DataFrame, of_part: pd.Series) -> pd.Series:
-    """Of rows that `import` cut into several blocks, the mean of what is mined of these, as texts by record."""
+def _mined_of_cut_rows(told: pd.DataFrame, of_part: pd.Series) -> pd.DataFrame:
+    """Of rows that `import` cut into several blocks, the means of what is mined of these, whole and
+    by period, as texts by record."""
     parts = of_part[of_part.index.duplicated(keep=False) & (of_part >= 0).to_numpy()]
-    mined = pd.to_numeric(told["mined"]).to_numpy()[parts.to_numpy()]
-    mean = pd.Series(mined, index=parts.index, dtype=float).groupby(level=0).mean()
-    return pd.Series(texts_of(np.rint(mean.to_numpy() * 1e6).astype(np.int64), 6), index=mean.index, dtype=object)
+    names = [name for name in told.columns if name == "mined" or name.startswith("share_")]
+    shares = told[names].iloc[parts.to_numpy()].apply(pd.to_numeric).set_axis(parts.index)
+    means = shares.groupby(level=0).mean()
+    return means.apply(lambda mean: _share_texts(mean.to_numpy()))
 
 
-def _block_at(plan: Plan, blocks: Blocks, again) -> np.ndarray:
+def _block_at(plan: Plan, blocks: Blocks, again: Imported) -> np.ndarray:
     """The block of each place that was read again, or -1."""
     keys = []
     moves = []
@@ -201,7 +240,9 @@ def _block_at(plan: Plan, blocks: Blocks, again) -> np.ndarray:
         if abs(move - round(move)) > NOISE:
             raise UserError("the export's grid lies beside the plan's")
         moves.append(round(move))
-    for columns in ((blocks.x, blocks.y, blocks.z), [again.places[name].to_numpy() + move for name, move in zip(("ix", "iy", "iz"), moves)]):
+    for columns in ((blocks.x, blocks.y, blocks.z),
+                    [again.places[name].to_numpy() + move
+                     for name, move in zip(("ix", "iy", "iz"), moves)]):
         x, y, z = (np.asarray(column, dtype=np.int64) for column in columns)
         keys.append((z * 20_000 + y) * 20_000 + x)
     order = np.argsort(keys[0])

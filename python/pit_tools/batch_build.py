@@ -19,9 +19,9 @@ from pit_tools.sums import sum_of
 
 @dataclass(frozen=True)
 class Way:
-    """How the instances of a batch are made: the folder that names of its list are of; pitc with its options, and
-    pitc_thin where files without arcs that others imply are wanted; and the seconds of a relaxation at most, None
-    where there is to be none."""
+    """How the instances of a batch are made: the folder that names of its list are of; pitc with
+    its options, and pitc_thin where files without arcs that others imply are wanted; and the
+    seconds of a relaxation at most, None where there is to be none."""
 
     folder: str
     pitc: str
@@ -39,14 +39,16 @@ def found_program(name: str, option: str) -> str:
 
 
 def build_told(way: Way) -> str:
-    """The versions and the sums of pitc and pitc_thin, the options, and what made the table: the tool and its packages.
-    Raises UserError where one of the programs does not work."""
+    """The versions and the sums of pitc and pitc_thin, the options, and what made the table: the
+    tool and its packages. Raises UserError where one of the programs does not work."""
     packages = " ".join(f"{name} {metadata.version(name)}" for name in ("numpy", "scipy", "pandas"))
-    programs = _program_told(way.pitc, "pitc") + (_program_told(way.thin, "pitc_thin") if way.thin else "")
+    programs = _program_told(way.pitc, "pitc") + (_program_told(way.thin, "pitc_thin") if way.thin
+                                                  else "")
     relaxed = "none" if way.seconds is None else f"{way.seconds:g} s each"
     return (f"{programs}options: {' '.join(way.options) or 'none'}\nrelaxations: {relaxed}\n"
-            f"pit-tools {VERSION}\n{sum_of_modules()}  modules of pit-tools\n{sum_of(SOURCE)}  {os.path.basename(SOURCE)}\n"
-            f"Python {'.'.join(map(str, sys.version_info[:3]))}, {packages}\n")
+            f"pit-tools {VERSION}\n{sum_of_modules()}  modules of pit-tools\n{sum_of(SOURCE)}  "
+            f"{os.path.basename(SOURCE)}\nPython {'.'.join(map(str, sys.version_info[:3]))}, "
+            f"{packages}\n")
 
 
 #: BUILD's text, told once in a process.
@@ -55,7 +57,8 @@ build_told_once = lru_cache(None)(build_told)
 
 def _program_told(program: str, name: str) -> str:
     try:
-        version = subprocess.run([program, "--version"], capture_output=True, text=True)
+        version = subprocess.run([program, "--version"], capture_output=True, text=True,
+                                 check=False)
     except OSError as error:
         raise UserError(f"{program} cannot be run: {error.strerror}") from None
     if version.returncode:
@@ -65,7 +68,8 @@ def _program_told(program: str, name: str) -> str:
 
 def sum_of_modules(folder: str = os.path.dirname(__file__)) -> str:
     """One sum of all modules of the tool, those of its commands too, with their names."""
-    paths = [os.path.join(above, name) for above, _, names in os.walk(folder) for name in names if name.endswith((".py", ".cpp"))]
+    paths = [os.path.join(above, name) for above, _, names in os.walk(folder)
+             for name in names if name.endswith((".py", ".cpp"))]
     found = sha256()
     for path in sorted(os.path.relpath(path, folder) for path in paths):
         found.update(f"{sum_of(os.path.join(folder, path))}  {path}\n".encode())

@@ -1,4 +1,5 @@
-"""What makes the instances of a batch: this process, several of this machine, or the workers of a Dask scheduler."""
+"""What makes the instances of a batch: this process, several of this machine, or the workers of a
+Dask scheduler."""
 from __future__ import annotations
 
 import multiprocessing
@@ -6,7 +7,8 @@ import os
 import signal
 import sys
 import threading
-from concurrent.futures import FIRST_COMPLETED, BrokenExecutor, Executor, Future, ProcessPoolExecutor, wait
+from concurrent.futures import (FIRST_COMPLETED, BrokenExecutor, Executor, Future,
+                                ProcessPoolExecutor, wait)
 from contextlib import contextmanager
 from itertools import islice
 from multiprocessing.connection import wait as wait_for
@@ -39,8 +41,8 @@ def by_processes(jobs: int) -> Engine:
 
 @contextmanager
 def _processes(jobs: int) -> Iterator[Executor]:
-    """Processes that end with this one: they are told to where an exception leaves the block, and see it where this
-    one is killed."""
+    """Processes that end with this one: they are told to where an exception leaves the block, and
+    see it where this one is killed."""
     others = set(multiprocessing.active_children())
     executor = ProcessPoolExecutor(jobs, initializer=_end_with_parent)
     try:
@@ -60,21 +62,25 @@ def _end_with_parent() -> None:
     signal.signal(signal.SIGTERM, lambda *_: sys.exit(143))
 
     def watch() -> None:
-        wait_for([parent.sentinel])
-        os._exit(1)
+        if parent is not None:
+            wait_for([parent.sentinel])
+        os._exit(1)  # pylint: disable=protected-access
 
     threading.Thread(target=watch, daemon=True).start()
 
 
 def by_dask(address: str) -> Engine:
-    """By the workers of the scheduler at this address, which see the folder of the batch by the same path, and have the
-    same programs and packages. What a worker was making that ends is made by another.
+    """By the workers of the scheduler at this address, which see the folder of the batch by the
+    same path, and have the same programs and packages. What a worker was making that ends is made
+    by another.
 
-    Raises UserError where the package is not there, nothing answers at the address, or there is no worker."""
+    Raises UserError where the package is not there, nothing answers at the address, or there is no
+    worker."""
     try:
         import distributed
     except ImportError:
-        raise UserError("--scheduler needs Python's package distributed: apt-get install python3-distributed") from None
+        raise UserError("--scheduler needs Python's package distributed: apt-get install "
+                        "python3-distributed") from None
 
     def engine(entries: Sequence[Entry], way: Way, build: str) -> Iterator[Union[Made, Failed]]:
         try:
@@ -91,8 +97,10 @@ def by_dask(address: str) -> Engine:
     return engine
 
 
-def _through(executor: Executor, width: int, entries: Sequence[Entry], way: Way, build: str) -> Iterator[Union[Made, Failed]]:
-    """What an executor makes, never more than `width` instances under way, so that little is lost by an end."""
+def _through(executor: Executor, width: int, entries: Sequence[Entry], way: Way,
+             build: str) -> Iterator[Union[Made, Failed]]:
+    """What an executor makes, never more than `width` instances under way, so that little is lost
+    by an end."""
     waiting = iter(entries)
     running: dict[Future, Entry] = {}
     while True:
@@ -104,7 +112,9 @@ def _through(executor: Executor, width: int, entries: Sequence[Entry], way: Way,
             entry = running.pop(future)
             error = future.exception()
             if isinstance(error, BrokenExecutor):
-                raise UserError("a process of the batch was ended from outside, as for want of memory; --continue keeps what is whole")
+                raise UserError("a process of the batch was ended from outside, as for want of "
+                                "memory; --continue keeps what is whole")
             if error and not isinstance(error, Exception):
                 raise error
-            yield Failed(entry, f"it was not made: {type(error).__name__}: {error}") if error else future.result()
+            yield (Failed(entry, f"it was not made: {type(error).__name__}: {error}") if error
+                   else future.result())

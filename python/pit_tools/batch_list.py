@@ -72,9 +72,9 @@ class BatchList:
 def read_list(path: str, texts: Sequence[str] = TEXTS, others: Sequence[str] = ()) -> BatchList:
     """The lines of a list, also the last one where it has no line end; words may be quoted.
 
-    Raises UserError, with the line, where a plan comes twice, ends with something else than .plan, has no zone
-    file, a file is not there, or one would be written over by a text of an instance, a table of the batch, or another
-    file that it writes.
+    Raises UserError, with the line, where a plan comes twice, ends with something else than .plan,
+    has no zone file, a file is not there, or one would be written over by a text of an instance, a
+    table of the batch, or another file that it writes.
     """
     with open(path, "rb") as file:
         content = file.read()
@@ -83,7 +83,8 @@ def read_list(path: str, texts: Sequence[str] = TEXTS, others: Sequence[str] = (
         raise UserError(f"{path}: it has no line")
     _refuse_same_instances(path, lines)
     _refuse_writing_over(path, lines, texts, others)
-    return BatchList(os.path.normpath(path), hashlib.sha256(content).hexdigest(), tuple(lines.values()))
+    return BatchList(os.path.normpath(path), hashlib.sha256(content).hexdigest(),
+                     tuple(lines.values()))
 
 
 def _entries(path: str, content: bytes) -> Iterator[tuple[int, Entry]]:
@@ -112,18 +113,23 @@ def _entries(path: str, content: bytes) -> Iterator[tuple[int, Entry]]:
 
 def _refuse_same_instances(path: str, lines: dict[int, Entry]) -> None:
     """Refuses lines whose instances would have the same files, by whichever names."""
-    folder_of = lru_cache(None)(os.path.realpath)
+    @lru_cache(None)
+    def folder_of(path: str) -> str:
+        return os.path.realpath(path)
+
     first: dict[str, int] = {}
     for number, entry in lines.items():
         folder, name = os.path.split(entry.name)
         before = first.setdefault(os.path.join(folder_of(folder), name), number)
         if before != number:
-            raise UserError(f"{path}: line {number}: `{entry.name}` comes twice, also in line {before}: "
-                            "its instance would overwrite itself")
+            raise UserError(f"{path}: line {number}: `{entry.name}` comes twice, also in line "
+                            f"{before}: its instance would overwrite itself")
 
 
-def _refuse_writing_over(path: str, lines: dict[int, Entry], texts: Sequence[str], others: Sequence[str]) -> None:
-    """Refuses a list where a file that is to be written is one that is read, by whichever name or link."""
+def _refuse_writing_over(path: str, lines: dict[int, Entry], texts: Sequence[str],
+                         others: Sequence[str]) -> None:
+    """Refuses a list where a file that is to be written is one that is read, by whichever name or
+    link."""
     identity_of = lru_cache(None)(_identity)
     read = {identity_of(path): path}
     for entry in lines.values():

@@ -1,4 +1,5 @@
-"""The lock of a folder in which a batch runs. The system lifts it when the batch ends, in whichever way."""
+"""The lock of a folder in which a batch runs. The system lifts it when the batch ends, in whichever
+way."""
 from __future__ import annotations
 
 import fcntl
@@ -32,7 +33,8 @@ def _held(folder: str, name: str, how: int) -> Iterator[None]:
         try:
             fcntl.flock(descriptor, how | fcntl.LOCK_NB)
         except BlockingIOError:
-            raise UserError(f"{os.path.abspath(folder)}: another batch runs in this folder") from None
+            raise UserError(f"{os.path.abspath(folder)}: another batch runs in this "
+                            "folder") from None
         yield
     finally:
         os.close(descriptor)

@@ -1,8 +1,9 @@
 """Records of a batch: which instances are whole, with the sums of what went in and came out.
 
-A record is a file RECORD in the folder of the batch, or RECORD-2-of-5 of a part. Its first line has the text of
-BUILD, and each further one an instance. A line is added when its instance is whole, so a batch that is killed leaves
-the lines of those that are; whether they still are is judged by the sums.
+A record is a file RECORD in the folder of the batch, or RECORD-2-of-5 of a part. Its first line has
+the text of BUILD, and each further one an instance. A line is added when its instance is whole, so
+a batch that is killed leaves the lines of those that are; whether they still are is judged by the
+sums.
 """
 from __future__ import annotations
 
@@ -10,7 +11,7 @@ import json
 import os
 import re
 from dataclasses import dataclass
-from typing import IO, Iterable, Iterator, Optional
+from typing import IO, Any, Iterable, Iterator, Optional
 
 from pit_tools import outputs
 from pit_tools.batch_list import Entry, Part
@@ -35,8 +36,9 @@ def record_path(folder: str, part: Part = Part()) -> str:
 
 
 def recorded_in(folder: str) -> Iterator[Recorded]:
-    """The instances of all records of a folder, the newer lines of a file behind the older ones. A line that was cut
-    short is left out. Raises UserError where a file of such a name is no record."""
+    """The instances of all records of a folder, the newer lines of a file behind the older ones. A
+    line that was cut short is left out. Raises UserError where a file of such a name is no
+    record."""
     for name in sorted(os.listdir(folder)):
         if re.fullmatch(rf"{NAME}(-\d+-of-\d+)?", name):
             path = os.path.join(folder, name)
@@ -46,15 +48,18 @@ def recorded_in(folder: str) -> Iterator[Recorded]:
 
 
 def build_of(path: str) -> Optional[str]:
-    """The text of BUILD that a record begins with; None where there is no record, or nothing in it."""
+    """The text of BUILD that a record begins with; None where there is no record, or nothing in
+    it."""
     try:
         with outputs.looking(), open(path, encoding="utf-8", errors="replace") as file:
             first = file.readline()
     except FileNotFoundError:
         return None
-    found = _parsed(first)
-    if not first or isinstance(found, dict) and isinstance(found.get("build"), str):
-        return found["build"] if first else None
+    build = _parsed(first).get("build")
+    if isinstance(build, str):
+        return build
+    if not first:
+        return None
     raise UserError(f"{path}: another file is there, and no record of a batch")
 
 
@@ -70,11 +75,13 @@ def _lines(path: str) -> Iterator[Made]:
                 continue
 
 
-def _parsed(line: str) -> object:
+def _parsed(line: str) -> dict[str, Any]:
+    """What a line says by name: nothing, where it is no record."""
     try:
-        return json.loads(line)
+        found = json.loads(line)
     except ValueError:
-        return None
+        return {}
+    return found if isinstance(found, dict) else {}
 
 
 class Record:
@@ -87,13 +94,15 @@ class Record:
         if not goes_on:
             with outputs.opened(self.path, "record of a batch", "utf-8") as file:
                 file.write(json.dumps({"build": build}) + "\n")
+        # pylint: disable-next=consider-using-with
         self.file: IO[str] = open(self.path, "a", encoding="utf-8")
         if goes_on:
             # What a killed batch left of a line gets an end.
             self._write("\n")
 
     def add(self, made: Made) -> None:
-        self._write(json.dumps({"files": made.entry.inputs, "sums": made.sums, "row": made.row}) + "\n")
+        self._write(json.dumps({"files": made.entry.inputs, "sums": made.sums, "row": made.row})
+                    + "\n")
 
     def _write(self, text: str) -> None:
         try:

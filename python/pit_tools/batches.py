@@ -1,4 +1,5 @@
-"""Batches: many instances by `pitc`, with a manifest of all that went in, and a table of what came out."""
+"""Batches: many instances by `pitc`, with a manifest of all that went in, and a table of what came
+out."""
 from __future__ import annotations
 
 import csv
@@ -8,7 +9,7 @@ import os
 from contextlib import ExitStack
 from typing import Iterable, Sequence
 
-from pit_tools import outputs
+from pit_tools import outputs, progress
 from pit_tools.batch_build import Way, build_told
 from pit_tools.batch_engines import Engine, in_turn
 from pit_tools.batch_list import TABLES, BatchList, Entry, Part, read_list
@@ -26,7 +27,8 @@ KINDS = {"MANIFEST": "sums", "SIZES": "table of a batch", "BUILD": "build of a b
 class Batch:
     """A list whose instances are made in the current folder, or a part of it.
 
-    `failed` has a line for each step that failed, `kept` those instances that were whole, `made` all that are."""
+    `failed` has a line for each step that failed, `kept` those instances that were whole, `made`
+    all that are."""
 
     def __init__(self, path: str, way: Way, part: Part = Part()):
         self.way, self.part = way, part
@@ -37,13 +39,17 @@ class Batch:
         self.failed: list[str] = []
 
     def run(self, engine: Engine = in_turn, goes_on: bool = False) -> bool:
-        """Makes each instance, or where it goes on those that are not whole; then BUILD, SIZES, and MANIFEST where nothing
-        failed. A part makes none of these. Nothing is taken away before it is known that pitc works."""
+        """Makes each instance, or where it goes on those that are not whole; then BUILD, SIZES, and
+        MANIFEST where nothing failed. A part makes none of these. Nothing is taken away before it
+        is known that pitc works."""
         with locked(self.way.folder, self.part):
             build = build_told(self.way)
             if goes_on:
                 self._keep(build)
-            _judge_old(self.way.folder, [entry for entry in self.entries if entry not in self.made], texts_of(self.way))
+            _judge_old(self.way.folder, [entry for entry in self.entries if entry not in self.made],
+                       texts_of(self.way))
+            outputs.clear_left([record_path(self.way.folder, self.part),
+                                *(TABLES if self.part.is_whole else ())])
             with Record(self.way.folder, self.part, build, goes_on) as record:
                 _remove(TABLES)
                 clear_unfinished(self.entries, self.way.folder)
@@ -59,18 +65,21 @@ class Batch:
         sums = Sums(self.way.folder)
         for one in recorded_in(self.way.folder):
             texts = [f"{one.made.entry.name}.{text}" for text in texts_of(self.way)]
-            if one.build == build and sums.other([*one.made.entry.inputs, *texts], one.made.sums) is None:
+            if (one.build == build
+                    and sums.other([*one.made.entry.inputs, *texts], one.made.sums) is None):
                 self.made[one.made.entry] = one.made
         self.made = {entry: self.made[entry] for entry in self.entries if entry in self.made}
         self.kept = set(self.made)
 
     def _make(self, engine: Engine, build: str, record: Record) -> None:
-        for found in engine([entry for entry in self.entries if entry not in self.made], self.way, build):
+        for found in engine([entry for entry in self.entries if entry not in self.made], self.way,
+                            build):
             if isinstance(found, Failed):
                 self.failed.append(f"{found.entry.plan}: {found.told}")
             else:
                 record.add(found)
                 self.made[found.entry] = found
+            progress.done(found.entry.name)
 
 
 def _kind(name: str) -> str:
@@ -91,8 +100,8 @@ def _remove(names: Iterable[str]) -> None:
 
 
 def finish(listed: BatchList, build: str, made: dict[Entry, Made], is_right: bool) -> list[str]:
-    """Writes BUILD and SIZES of what is whole, and MANIFEST where all of the list is, and no input is another than when
-    its instances were made. Answers what is not so."""
+    """Writes BUILD and SIZES of what is whole, and MANIFEST where all of the list is, and no input
+    is another than when its instances were made. Answers what is not so."""
     rows = [made[entry].row for entry in listed.entries if entry in made]
     text = io.StringIO()
     csv.writer(text, delimiter=" ", lineterminator="\n").writerows([COLUMNS, *rows])
@@ -103,7 +112,8 @@ def finish(listed: BatchList, build: str, made: dict[Entry, Made], is_right: boo
                 file.write(content)
     if not is_right or len(rows) < len(listed.entries):
         return []
-    wanted = {name: hashlib.sha256(content.encode()).hexdigest() for name, content in tables.items()} | {listed.path: listed.sum}
+    wanted = {name: hashlib.sha256(content.encode()).hexdigest()
+              for name, content in tables.items()} | {listed.path: listed.sum}
     changed = _changed(listed, made)
     if changed:
         return [f"{name} was changed while the batch ran" for name in changed]
@@ -115,7 +125,8 @@ def finish(listed: BatchList, build: str, made: dict[Entry, Made], is_right: boo
 
 
 def _changed(listed: BatchList, made: dict[Entry, Made]) -> list[str]:
-    """Inputs that are no longer, or were not for all instances, what they were when an instance was made."""
+    """Inputs that are no longer, or were not for all instances, what they were when an instance was
+    made."""
     sums = Sums("")
     changed = [] if sums.of(listed.path) == listed.sum else [listed.path]
     for entry in listed.entries:
@@ -124,27 +135,33 @@ def _changed(listed: BatchList, made: dict[Entry, Made]) -> list[str]:
 
 
 class Joining:
-    """Parts of a list that were made in other folders, or in this one, joined to one batch in the current folder."""
+    """Parts of a list that were made in other folders, or in this one, joined to one batch in the
+    current folder."""
 
     def __init__(self, path: str, folders: Sequence[str]):
         self.list = read_list(path, (*TEXTS, "thin"), [record_path("")])
-        self.folders = list(dict.fromkeys(map(os.path.normpath, folders)))
+        self.folders = list(dict.fromkeys(os.path.normpath(folder) for folder in folders))
         self.made: dict[Entry, Made] = {}
         self.failed: list[str] = []
 
     def run(self) -> bool:
-        """Takes over each instance of which a record of a folder says, and its sums say too, that it is whole; then BUILD,
-        SIZES and MANIFEST as those of one batch. Nothing is taken away before all are found."""
+        """Takes over each instance of which a record of a folder says, and its sums say too, that
+        it is whole; then BUILD, SIZES and MANIFEST as those of one batch. Nothing is taken away
+        before all are found."""
         with ExitStack() as held:
-            real = dict.fromkeys(map(os.path.realpath, [".", *self.folders]))
-            for folder in real:
-                held.enter_context(locked(folder))
+            for real in dict.fromkeys(os.path.realpath(folder) for folder in [".", *self.folders]):
+                held.enter_context(locked(real))
             found = [(folder, one) for folder in self.folders for one in recorded_in(folder)]
             build = _common_build(self.folders, [one for _, one in found])
             whole = self._whole(found)
             if self.failed:
                 return False
-            _judge_old("", [made.entry for folder, made in whole if not os.path.samefile(folder, ".")], (*TEXTS, "thin"))
+            _judge_old("",
+                       [made.entry for folder, made in whole if not os.path.samefile(folder, ".")],
+                       (*TEXTS, "thin"))
+            texts = [name for _, made in whole for name in made.sums
+                     if name not in made.entry.inputs]
+            outputs.clear_left([record_path(""), *TABLES, *texts])
             _remove(TABLES)
             for folder, made in whole:
                 _copied(folder, made)
@@ -156,7 +173,8 @@ class Joining:
         return not self.failed
 
     def _whole(self, found: Sequence[tuple[str, Recorded]]) -> list[tuple[str, Made]]:
-        """The folder and the record of each instance of the list; `failed` says of which there is none."""
+        """The folder and the record of each instance of the list; `failed` says of which there is
+        none."""
         here, sums = Sums(""), {folder: Sums(folder) for folder in self.folders}
         by_entry: dict[Entry, list[tuple[str, Recorded]]] = {}
         for folder, one in found:
@@ -179,12 +197,14 @@ class Joining:
 
 
 def _common_build(folders: Sequence[str], found: Sequence[Recorded]) -> str:
-    """The text of BUILD that all records have. Raises UserError where there is none, or they differ."""
+    """The text of BUILD that all records have. Raises UserError where there is none, or they
+    differ."""
     by_build = {one.build: one.path for one in found}
     if not by_build:
         raise UserError(f"no record of a batch is in {', '.join(folders)}")
     if len(by_build) > 1:
-        raise UserError(f"parts were made by different builds: see the first lines of {' and '.join(list(by_build.values())[:2])}")
+        raise UserError("parts were made by different builds: see the first lines of "
+                        f"{' and '.join(list(by_build.values())[:2])}")
     return next(iter(by_build))
 
 

@@ -1,6 +1,8 @@
-"""The spelling of numbers in an export: decimal and thousands marks, what stands for a missing value, negatives in parentheses.
+"""The spelling of numbers in an export: decimal and thousands marks, what stands for a missing
+value, negatives in parentheses.
 
-What a file's marks are is found in its first rows, where these can only mean one thing, or is named."""
+What a file's marks are is found in its first rows, where these can only mean one thing, or is
+named."""
 from __future__ import annotations
 
 import re
@@ -17,8 +19,9 @@ from pit_tools.decimals import plain as plain_decimal
 from pit_tools.errors import UserError
 
 # Texts that mostly say that nothing is known, in any case.
-MISSING = ("", "na", "n/a", "nan", "null", "nil", "none", "-", "--", "---", "*", "**", "?", ".", "#n/a", "#na", "missing", "absent",
-           "unknown", "void", "no data", "nodata", "blank", "1.#qnan", "-1.#ind", "1.#ind", "-nan")
+MISSING = ("", "na", "n/a", "nan", "null", "nil", "none", "-", "--", "---", "*", "**", "?", ".",
+           "#n/a", "#na", "missing", "absent", "unknown", "void", "no data", "nodata", "blank",
+           "1.#qnan", "-1.#ind", "1.#ind", "-nan")
 
 # What may stand between thousands and is no decimal mark: blanks of every kind, and apostrophes.
 BLANKS = " \u00a0\u2007\u2009\u202f"
@@ -29,8 +32,8 @@ PLAIN = re.compile(r"[-+]?(\d+\.?\d*|\.\d+)([eE][-+]?\d+)?")
 
 @dataclass
 class Marks:
-    """How the numbers of a file are spelled. `decimal` is a point or a comma, `thousands` what stands between thousands beside
-    blanks and apostrophes; `missing` are texts without case."""
+    """How the numbers of a file are spelled. `decimal` is a point or a comma, `thousands` what
+    stands between thousands beside blanks and apostrophes; `missing` are texts without case."""
 
     decimal: str = "."
     thousands: str = ""
@@ -40,7 +43,8 @@ class Marks:
     unclear_point: str = ""
 
     def plain(self, cell: str, as_percent: bool = False) -> Optional[str]:
-        """A cell as a plain decimal; an empty text where nothing is known; None for no number. `1.2%` is 0.012, or 1.2 as percent."""
+        """A cell as a plain decimal; an empty text where nothing is known; None for no number.
+        `1.2%` is 0.012, or 1.2 as percent."""
         text = cell.strip()
         if text.endswith("%"):
             found = self.plain(text[:-1]) or None
@@ -67,14 +71,17 @@ class Marks:
         return text if PLAIN.fullmatch(text) else None
 
     def spelled(self, cells: pd.Series, as_percent: bool = False) -> Spelled:
-        """Cells as plain decimals. Most are plain already, and are taken as they are; each odd spelling is looked at once."""
+        """Cells as plain decimals. Most are plain already, and are taken as they are; each odd
+        spelling is looked at once."""
         texts, count = cells, len(cells)
         if self.decimal == ",":
             # A point is none of these numbers' marks, or stands between thousands.
-            texts = cells.str.replace(",", ".", regex=False).where(~cells.str.contains(".", regex=False), "")
+            texts = cells.str.replace(",", ".",
+                                      regex=False).where(~cells.str.contains(".", regex=False), "")
         floats = pd.to_numeric(texts, errors="coerce").to_numpy(float).copy()
         odd = ~np.isfinite(floats)
-        missing, wrong, percent = np.zeros(count, bool), np.zeros(count, bool), np.zeros(count, bool)
+        missing, wrong, percent = np.zeros(count,
+                                           bool), np.zeros(count, bool), np.zeros(count, bool)
         if odd.any():
             found = cells[odd]
             percent[odd] = found.str.rstrip().str.endswith("%").to_numpy()
@@ -92,8 +99,9 @@ class Marks:
 
 @dataclass
 class Spelled:
-    """Cells of a column: plain decimals, with a point; their floats, NaN where there is none; where they say that nothing is known;
-    where they are no number; and where they have a sign of percent."""
+    """Cells of a column: plain decimals, with a point; their floats, NaN where there is none; where
+    they say that nothing is known; where they are no number; and where they have a sign of
+    percent."""
 
     texts: pd.Series
     floats: np.ndarray
@@ -102,11 +110,13 @@ class Spelled:
     percent: np.ndarray
 
     def parts(self, places: int) -> np.ndarray:
-        """The decimals as whole numbers of 10**-places, rounded as decimals; 0 where there is none."""
+        """The decimals as whole numbers of 10**-places, rounded as decimals; 0 where there is
+        none."""
         return parts_of(self.texts, places, self.floats)[0]
 
 
-def marks_of(columns: Iterable[pd.Series], *, decimal: str = "", thousands: str = "", missing: Sequence[str] = ()) -> Marks:
+def marks_of(columns: Iterable[pd.Series], *, decimal: str = "", thousands: str = "",
+             missing: Sequence[str] = ()) -> Marks:
     """The marks of a file, by cells of its columns of numbers; those that are named are taken.
 
     It raises UserError where a mark may be read in two ways, or cells contradict one another."""
@@ -114,7 +124,8 @@ def marks_of(columns: Iterable[pd.Series], *, decimal: str = "", thousands: str 
     known = frozenset([*MISSING, *(text.strip().casefold() for text in missing)])
     numbers = tuple(float(text) for text in missing if PLAIN.fullmatch(text.strip()))
     cells = [text for column in columns for text in _telling(column) if "." in text or "," in text]
-    cells = [text for text in cells if text.casefold() not in known and re.fullmatch(rf"[-+(]?[\d.,{BLANKS}{APOSTROPHES}]+[-)]?", text)]
+    cells = [text for text in cells if text.casefold() not in known
+             and re.fullmatch(rf"[-+(]?[\d.,{BLANKS}{APOSTROPHES}]+[-)]?", text)]
     if decimal and decimal not in ".,":
         raise UserError(f"--decimal is a point or a comma, and not `{decimal}`")
     unclear = ""
@@ -130,7 +141,8 @@ def marks_of(columns: Iterable[pd.Series], *, decimal: str = "", thousands: str 
 
 
 def _telling(column: pd.Series) -> list[str]:
-    """Cells that show a column's marks: some of its first ones, and all that are no plain number."""
+    """Cells that show a column's marks: some of its first ones, and all that are no plain
+    number."""
     odd = column[pd.to_numeric(column, errors="coerce").isna()]
     return [text.strip() for text in pd.concat([column.head(500), odd]).unique()]
 
@@ -156,20 +168,24 @@ def _decimal_of(cells: Sequence[str], thousands: str) -> str:
     if thousands and thousands in ".,":
         return "," if thousands == "." else "."
     if len(says) > 1:
-        raise UserError(f"`{says['.']}` has a decimal point, and `{says[',']}` a decimal comma: name one by --decimal, and the other "
-                        "by --thousands")
+        raise UserError(f"`{says['.']}` has a decimal point, and `{says[',']}` a decimal comma: "
+                        "name one by --decimal, and the other by --thousands")
     if not says and unclear:
-        raise UserError(f"`{unclear}` is a number with a decimal comma, or one of thousands: say which by --decimal , or --thousands ,")
+        raise UserError(f"`{unclear}` is a number with a decimal comma, or one of thousands: say "
+                        "which by --decimal , or --thousands ,")
     return next(iter(says), "")
 
 
 def _judge_points(columns: Sequence[pd.Series], known: frozenset[str]) -> None:
-    """Stops where a column has whole numbers up to 999, and points before three digits in all others: so thousands are written."""
+    """Stops where a column has whole numbers up to 999, and points before three digits in all
+    others: so thousands are written."""
     for column in columns:
         cells = [text.strip() for text in column.unique() if text.strip().casefold() not in known]
         with_point = [text for text in cells if "." in text]
         whole = [text for text in cells if "." not in text and text.strip("+-0")]
-        if with_point and whole and all(re.fullmatch(r"[-+]?[1-9]\d{0,2}(\.\d{3})+", text) for text in with_point) and \
-                all(re.fullmatch(r"[-+]?\d{1,3}", text) for text in whole):
-            raise UserError(f"`{with_point[0]}` has a decimal point, or one between thousands, since `{whole[0]}` beside it has none: say which by "
-                            "--decimal . or --thousands .")
+        if (with_point and whole
+                and all(re.fullmatch(r"[-+]?[1-9]\d{0,2}(\.\d{3})+", text) for text in with_point)
+                and all(re.fullmatch(r"[-+]?\d{1,3}", text) for text in whole)):
+            raise UserError(f"`{with_point[0]}` has a decimal point, or one between thousands, "
+                            f"since `{whole[0]}` beside it has none: say which by --decimal . or "
+                            "--thousands .")

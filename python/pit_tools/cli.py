@@ -19,10 +19,13 @@ COMMANDS = {
     "import": "zone files and the records grid and zone, of a package's export",
     "plan": "a first plan, from words with units",
     "slopes": "the walls that the cones of a plan give, for each K and by height",
+    "compile": "`pitc compile` with a bar of what it has read and written",
     "survey": "what was understood of an instance, as text and as a page with pictures",
     "back": "a pit or a schedule as coordinates, or on the rows of the export",
     "report": "ore, waste, metal and value of a pit, by bench and destination",
+    "nested": "nested pits by price: tonnes, strip ratio and value of each",
     "section": "sections through pits, drawn",
+    "shell": "pits as surfaces for the package, as DXF, VTK or OBJ",
     "by-zone": "one instance of several plans, each for some zones",
     "texts": "the sections that pitc prints, as files",
     "read": "an instance as arrays and sparse matrices",
@@ -55,28 +58,16 @@ def module_path(command: str) -> str:
     return MODULES.get(command, command.replace("-", "_"))
 
 
-def stands(command: str) -> bool:
-    """Whether the module of a subcommand is there."""
-    folder = os.path.join(os.path.dirname(__file__), "commands")
-    return os.path.exists(os.path.join(folder, module_path(command) + ".py"))
-
-
 def overview() -> str:
     """The help of `pit-tools` itself."""
-    lines = [f"  {name:15} {told}" for name, told in COMMANDS.items() if stands(name)]
-    return "\n".join([
-        "usage: pit-tools COMMAND ..",
-        "",
-        "From a mining package's export to an instance of pitc, and back.",
-        "",
-        "commands:",
-        *lines,
-        "",
-        "`pit-tools COMMAND --help` has its words and an example; `pit-tools --version` tells the",
-        "version, the interpreter and the packages. With --debug a fault of the program itself is told with",
-        "its place. The status is 0 where all is done, 1 what the command calls wrong, 2 where words, an input",
-        "or the system's answer end it, 3 at a fault of the program, and 130 at Ctrl-C.",
-    ])
+    lines = [f"  {name:15} {told}" for name, told in COMMANDS.items()]
+    return "\n".join(["usage: pit-tools COMMAND ..", "", "From a mining package's export to an "
+                      "instance of pitc, and back.", "", "commands:", *lines, "", "`pit-tools "
+                      "COMMAND --help` has its words and an example; `pit-tools --version` tells "
+                      "the", "version, the interpreter and the packages. With --debug a fault of "
+                      "the program itself is told with", "its place. The status is 0 where all is "
+                      "done, 1 what the command calls wrong, 2 where words, an input", "or the "
+                      "system's answer end it, 3 at a fault of the program, and 130 at Ctrl-C."])
 
 
 def version() -> str:
@@ -101,7 +92,8 @@ def parser_of(command: str) -> argparse.ArgumentParser:
         formatter_class=argparse.RawDescriptionHelpFormatter)
     module.add_arguments(parser)
     if hasattr(module, "WRITES"):
-        parser.add_argument("--force", action="store_true", help="replaces files of another kind too")
+        parser.add_argument("--force", action="store_true",
+                            help="replaces files of another kind too")
         parser.epilog = "\n\n".join(filter(None, [parser.epilog, replaced(module.WRITES)]))
     parser.set_defaults(run=module.run, force=False)
     return parser
@@ -109,8 +101,9 @@ def parser_of(command: str) -> argparse.ArgumentParser:
 
 def replaced(kinds: str) -> str:
     """What a command's help says of the files that it replaces."""
-    return f"It replaces {kinds}, as it writes them, and empty files; another file that has such a name is refused,\n" \
-           "but with --force, and one that it reads always. All that it writes comes at the end, or nothing does."
+    return (f"It replaces {kinds}, as it writes them, and empty files; another file that has such "
+            "a name is refused,\nbut with --force, and one that it reads always. All that it "
+            "writes comes at the end, or nothing does.")
 
 
 def joined(words: Sequence[str]) -> list[str]:
@@ -135,7 +128,7 @@ def run(words: Sequence[str]) -> int:
         print(version())
         return 0
     command = words[0]
-    if command not in COMMANDS or not stands(command):
+    if command not in COMMANDS:
         raise UserError(f"no command `{command}`: `pit-tools --help` lists them")
     args = parser_of(command).parse_args(joined(words[1:]))
     with outputs.of_command(args.force):
@@ -155,17 +148,19 @@ def _flush() -> None:
 
 
 def _ready_streams() -> None:
-    """Opens /dev/null where standard input, output or errors are closed: a file that is opened later
-    would stand in their place, and get what is printed. Signs that the terminal has not are spelled."""
+    """Opens /dev/null where standard input, output or errors are closed: a file that is opened
+    later would stand in their place, and get what is printed. Signs that the terminal has not are
+    spelled."""
     for number in range(3):
         try:
             os.fstat(number)
         except OSError:
             os.set_inheritable(os.open(os.devnull, os.O_RDWR), True)
     is_printing = sys.stdout is not None
+    streams = ((sys.stdin, "r"), (sys.stdout, "w"), (sys.stderr, "w"))
     sys.stdin, sys.stdout, sys.stderr = (
-        open(os.devnull, mode, encoding="utf-8") if stream is None else stream
-        for stream, mode in ((sys.stdin, "r"), (sys.stdout, "w"), (sys.stderr, "w")))
+        open(os.devnull, mode, encoding="utf-8")  # pylint: disable=consider-using-with
+        if stream is None else stream for stream, mode in streams)
     if isinstance(sys.stdout, io.TextIOWrapper):
         sys.stdout.reconfigure(errors="backslashreplace")
     if not is_printing:
@@ -179,15 +174,17 @@ def _told(error: BaseException) -> str:
     if isinstance(error, MemoryError):
         return f"there is not memory enough{f': {error}' if str(error) else ''}"
     if isinstance(error, OSError):
-        # A file that is written has its name, so that a full disk without one is that of what is printed.
+        # A file that is written has its name, so that a full disk without one is that of what is
+        # printed.
         named = error.filename or ("standard output" if error.errno in FULL else None)
         place = f"{os.fsdecode(named)}: " if isinstance(named, (str, bytes)) else ""
         return place + (error.strerror or str(error) or "the system refuses it")
     if isinstance(error, ImportError):
         return f"a package of Python is lacking or damaged: {' '.join(str(error).split())}"
     last = traceback.extract_tb(error.__traceback__)[-1]
-    return (f"this is a fault of pit-tools, and none of yours: {type(error).__name__}: {' '.join(str(error).split())[:200]} "
-            f"({os.path.basename(last.filename)}, line {last.lineno}). Please report it with the command line; --debug tells more")
+    return (f"this is a fault of pit-tools, and none of yours: {type(error).__name__}: "
+            f"{' '.join(str(error).split())[:200]} ({os.path.basename(last.filename)}, line "
+            f"{last.lineno}). Please report it with the command line; --debug tells more")
 
 
 def _judge_words(words: Sequence[str]) -> None:
@@ -196,7 +193,8 @@ def _judge_words(words: Sequence[str]) -> None:
         try:
             word.encode("utf-8")
         except UnicodeEncodeError:
-            raise UserError(f"{os.fsencode(word)!r} is no UTF-8: rename the file, or lead to it by a link") from None
+            raise UserError(f"{os.fsencode(word)!r} is no UTF-8: rename the file, or lead to it by "
+                            "a link") from None
 
 
 def _is_own(error: BaseException) -> bool:
@@ -205,14 +203,15 @@ def _is_own(error: BaseException) -> bool:
 
 
 def main(words: Optional[Sequence[str]] = None) -> int:
-    """Runs a command line; answers the status: 0 done, 1 what the command calls wrong, 2 words or an
-    input are refused, 3 a fault of this program, 130 ended by Ctrl-C."""
+    """Runs a command line; answers the status: 0 done, 1 what the command calls wrong, 2 words or
+    an input are refused, 3 a fault of this program, 130 ended by Ctrl-C."""
     words = list(sys.argv[1:] if words is None else words)
     name = " ".join(["pit-tools", *(words[:1] if words and words[0] in COMMANDS else [])])
     try:
         _ready_streams()
         _judge_words(words)
-        status = run([word for word in words if word != DEBUG] if words[:1] != ["python"] else words)
+        status = run([word for word in words if word != DEBUG] if words[:1] != ["python"]
+                     else words)
         _flush()
         return status
     except SystemExit as ended:
@@ -231,7 +230,8 @@ def main(words: Optional[Sequence[str]] = None) -> int:
 
 
 def _with_nothing_left_to_print(status: int) -> int:
-    """The status; what cannot be printed any more is dropped, since Python would tell of it at its end."""
+    """The status; what cannot be printed any more is dropped, since Python would tell of it at its
+    end."""
     try:
         sys.stdout.flush()
     except (OSError, ValueError):

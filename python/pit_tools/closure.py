@@ -3,9 +3,10 @@
     from pit_tools.closure import ultimate_pit
     in_pit = ultimate_pit(mine.upit.values, mine.precedence)         # bool, (n,)
 
-A program of C++ (compiled.py) finds it: a million blocks at K = 1 in a second or two. Where there is
-no compiler, HiGHS of scipy solves the linear program, which takes minutes beyond some ten thousand
-blocks. Both are exact: values are counted in cents. Of several pits of greatest value the smallest is taken by the program; HiGHS may take another.
+A program of C++ (compiled.py) finds it: a million blocks at K = 1 in a second or two. Where there
+is no compiler, HiGHS of scipy solves the linear program, which takes minutes beyond some ten
+thousand blocks. Both are exact: values are counted in cents. Of several pits of greatest value the
+smallest is taken by the program; HiGHS may take another.
 """
 from __future__ import annotations
 
@@ -15,7 +16,7 @@ import numpy as np
 from scipy import optimize, sparse
 
 from pit_tools.compiled import library
-from pit_tools.cones import Places, cone_offsets, size_in_millimetres
+from pit_tools.cones import Places, cone_offsets, precedence_of, size_in_millimetres
 from pit_tools.errors import UserError
 from pit_tools.instance import Blocks, cents
 from pit_tools.plan_file import Plan
@@ -33,7 +34,7 @@ def _pointer(array: np.ndarray) -> ctypes.c_void_p:
     return ctypes.c_void_p(array.ctypes.data)
 
 
-def _called(function: str, *arguments) -> None:
+def _called(function: str, *arguments: object) -> None:
     if getattr(library(), function)(*arguments):
         raise UserError("memory was refused")
 
@@ -59,8 +60,8 @@ def ultimate_pit(values: np.ndarray, precedence: sparse.csr_matrix) -> np.ndarra
 
 def _pit_by_highs(worth: np.ndarray, precedence: sparse.csr_matrix) -> np.ndarray:
     if precedence.nnz > MOST_ARCS_OF_HIGHS:
-        raise UserError(f"{precedence.nnz:,} arcs want the program of C++, and no compiler is there: "
-                        "apt-get install g++")
+        raise UserError(f"{precedence.nnz:,} arcs want the program of C++, and no compiler is "
+                        "there: apt-get install g++")
     arcs = precedence.tocoo()
     count = precedence.nnz
     rows = np.concatenate([np.arange(count)] * 2)
@@ -68,16 +69,16 @@ def _pit_by_highs(worth: np.ndarray, precedence: sparse.csr_matrix) -> np.ndarra
     signs = np.concatenate([np.ones(count), -np.ones(count)])
     waits = sparse.csr_matrix((signs, (rows, columns)), shape=(count, len(worth)))
     scale = max(1, int(np.abs(worth).max(initial=1)))
-    found = optimize.linprog(-worth / scale, waits if count else None, np.zeros(count) if count else None,
-                             bounds=(0, 1), method="highs-ds")
+    found = optimize.linprog(-worth / scale, waits if count else None,
+                             np.zeros(count) if count else None, bounds=(0, 1), method="highs-ds")
     if found.x is None:
         raise UserError(f"HiGHS found no pit: {found.message}")
     return found.x > 0.5
 
 
 def pit_of_plan(values: np.ndarray, blocks: Blocks, plan: Plan) -> tuple[np.ndarray, int]:
-    """The same of blocks whose arcs follow from a plan's cones, without listing all of them: bool (n,),
-    and how many arcs there are that no others imply.
+    """The same of blocks whose arcs follow from a plan's cones, without listing all of them: bool
+    (n,), and how many arcs there are that no others imply.
 
     Raises UserError where memory was refused, or there is no C++ compiler.
     """
@@ -85,21 +86,39 @@ def pit_of_plan(values: np.ndarray, blocks: Blocks, plan: Plan) -> tuple[np.ndar
         raise UserError("no C++ compiler is there: apt-get install g++")
     places, size = Places(blocks), size_in_millimetres(plan.grid)
     reach = [length - 1 for length in places.shape]
-    cones = [cone_offsets(size, zone, min(zone.benches, reach[2]), reach[:2]) for zone in plan.zones]
+    cones = [cone_offsets(size, zone, min(zone.benches, reach[2]), reach[:2])
+             for zone in plan.zones]
     bounds = np.cumsum([0, *map(len, cones)]).astype(np.int64)
     offsets = np.ascontiguousarray(np.concatenate(cones), dtype=np.int32)
     worth, shape = cents(values), np.array(places.shape, dtype=np.int32)
     at = np.ascontiguousarray(np.stack([places.x, places.y, places.z], axis=1), dtype=np.int32)
-    zones, taken = np.ascontiguousarray(blocks.zone, dtype=np.int32), np.ascontiguousarray(places.at)
+    zones = np.ascontiguousarray(blocks.zone, dtype=np.int32)
+    taken = np.ascontiguousarray(places.at)
     in_pit, arcs = np.empty(len(blocks), dtype=np.uint8), ctypes.c_int64()
-    _called("closure_of_cones", ctypes.c_int64(len(blocks)), *map(_pointer, (worth, shape, taken, at, zones)),
-            ctypes.c_int32(len(cones)), *map(_pointer, (bounds, offsets, in_pit)), ctypes.byref(arcs))
+    _called("closure_of_cones", ctypes.c_int64(len(blocks)),
+            _pointer(worth), _pointer(shape), _pointer(taken), _pointer(at), _pointer(zones),
+            ctypes.c_int32(len(cones)), _pointer(bounds), _pointer(offsets), _pointer(in_pit),
+            ctypes.byref(arcs))
     return in_pit.astype(bool), arcs.value
 
 
+def pit_by_cones(values: np.ndarray, blocks: Blocks, plan: Plan) -> np.ndarray:
+    """The pit of blocks whose arcs follow from a plan's cones, bool (n,), by the program of C++ or,
+    where no compiler is there, by HiGHS. There may be no block.
+
+    Raises UserError where memory was refused, or there are more arcs than HiGHS would end with.
+    """
+    if len(blocks) == 0:
+        return np.zeros(0, dtype=bool)
+    if is_compiled():
+        return pit_of_plan(values, blocks, plan)[0]
+    return ultimate_pit(values, precedence_of(blocks, plan))
+
+
 def immediate(precedence: sparse.csr_matrix) -> sparse.csr_matrix:
-    """The arcs without those that others imply, to a predecessor of a predecessor: the same pits and
-    schedules by fewer arcs. Predecessors have to come behind their block, as in files of `pitc`.
+    """The arcs without those that others imply, to a predecessor of a predecessor: the same pits
+    and schedules by fewer arcs. Predecessors have to come behind their block, as in files of
+    `pitc`.
 
     Raises UserError where they do not, where memory was refused, or there is no C++ compiler.
     """
@@ -110,6 +129,7 @@ def immediate(precedence: sparse.csr_matrix) -> sparse.csr_matrix:
     if np.any(arcs.indices <= rows):
         raise UserError("a block comes behind one that it waits for")
     starts, kept = arcs.indptr.astype(np.int64), np.empty(arcs.nnz, dtype=np.uint8)
-    _called("immediate", ctypes.c_int64(arcs.shape[0]), *map(_pointer, (starts, arcs.indices, kept)))
+    _called("immediate", ctypes.c_int64(arcs.shape[0]),
+            *map(_pointer, (starts, arcs.indices, kept)))
     kept = kept.astype(bool)
     return sparse.csr_matrix((arcs.data[kept], (rows[kept], arcs.indices[kept])), shape=arcs.shape)

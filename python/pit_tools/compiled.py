@@ -1,7 +1,7 @@
 """The program of C++, closure.cpp: compiled once, and kept where nobody else can write.
 
-It is kept in the folder `pit-tools` of the user's cache. Where that folder is not the user's own, or
-others may write there, or it cannot be written, the program is compiled for this run alone.
+It is kept in the folder `pit-tools` of the user's cache. Where that folder is not the user's own,
+or others may write there, or it cannot be written, the program is compiled for this run alone.
 """
 from __future__ import annotations
 
@@ -23,7 +23,8 @@ from pit_tools.errors import UserError
 SOURCE = os.path.join(os.path.dirname(__file__), "closure.cpp")
 
 #: What is told where there is no program.
-WITHOUT = "so HiGHS finds pits, which takes minutes beyond some ten thousand blocks, and arcs that others imply stay"
+WITHOUT = ("so HiGHS finds pits, which takes minutes beyond some ten thousand blocks, and arcs "
+           "that others imply stay")
 
 
 def compiler() -> Optional[str]:
@@ -38,14 +39,16 @@ def is_own(path: str, kind: int) -> bool:
         status = os.lstat(path)
     except OSError:
         return False
-    return stat.S_IFMT(status.st_mode) == kind and status.st_uid == os.geteuid() and not status.st_mode & 0o022
+    return (stat.S_IFMT(status.st_mode) == kind and status.st_uid == os.geteuid()
+            and not status.st_mode & 0o022)
 
 
 def _nobody_moves(folder: str) -> bool:
     """Whether no folder above lets others put another one in the place of this one."""
     while True:
         status = os.stat(folder)
-        if status.st_uid not in (0, os.geteuid()) or (status.st_mode & 0o002 and not status.st_mode & stat.S_ISVTX):
+        if status.st_uid not in (0, os.geteuid()) or (status.st_mode & 0o002
+                                                      and not status.st_mode & stat.S_ISVTX):
             return False
         if folder == os.path.dirname(folder):
             return True
@@ -53,7 +56,8 @@ def _nobody_moves(folder: str) -> bool:
 
 
 def cache() -> Optional[str]:
-    """The folder where the program is kept, made where it is not there; None where there is none."""
+    """The folder where the program is kept, made where it is not there; None where there is
+    none."""
     home = os.environ.get("XDG_CACHE_HOME", "")
     if not os.path.isabs(home):
         home = os.path.join(os.path.expanduser("~"), ".cache")
@@ -81,13 +85,15 @@ def _made(path: str) -> bool:
         _told(f"no C++ compiler is there (apt-get install g++), {WITHOUT}")
         return False
     try:
-        done = subprocess.run([program, "-O2", "-std=c++17", "-shared", "-fPIC", "-o", path, SOURCE],
-                              capture_output=True, text=True, errors="replace", check=False)
+        done = subprocess.run([program, "-O2", "-std=c++17", "-shared", "-fPIC", "-o", path,
+                               SOURCE], capture_output=True, text=True, errors="replace",
+                              check=False)
     except OSError as error:
         _told(f"{program}: {error.strerror}, {WITHOUT}")
         return False
     if done.returncode:
-        _told(f"{program} does not compile {SOURCE} ({(done.stderr.strip().splitlines() or ['no word'])[0]}), {WITHOUT}")
+        _told(f"{program} does not compile {SOURCE} "
+              f"({(done.stderr.strip().splitlines() or ['no word'])[0]}), {WITHOUT}")
     return not done.returncode
 
 

@@ -1,4 +1,5 @@
-"""The cones of a plan's zones: which blocks a block waits for, by whole numbers as `pitc` counts them.
+"""The cones of a plan's zones: which blocks a block waits for, by whole numbers as `pitc` counts
+them.
 
 A block waits for those blocks up to K benches above it that lie in the cone of its zone's slopes
 (docs/formats.md). Lengths are millimetres, so that nothing is rounded.
@@ -58,9 +59,9 @@ def cone_offsets(size: Sequence[int], zone: Zone, benches: Optional[int] = None,
 def reach_along(size: Sequence[int], zone: Zone, dz: int) -> tuple[int, int, int, int]:
     """How many blocks away the cone goes to +x, -x, +y and -y, so many benches up."""
     sx, sy, sz = size
-    lengths = (sx, sx, sy, sy)
-    return tuple(min(dz * sz * slope.run // (length * slope.rise), FARTHEST)
-                 for slope, length in zip(zone.slopes, lengths))
+    east, west, north, south = (min(dz * sz * slope.run // (length * slope.rise), FARTHEST)
+                                for slope, length in zip(zone.slopes, (sx, sx, sy, sy)))
+    return east, west, north, south
 
 
 #: How many places a box may have: 4 GB.
@@ -75,10 +76,12 @@ class Places:
         self.most = np.array([axis.max() for axis in (blocks.x, blocks.y, blocks.z)])
         self.shape = tuple((self.most - self.least + 1).tolist())
         if prod(self.shape) > MOST_PLACES:
-            raise UserError(f"the blocks lie in a box of {' x '.join(f'{length:,}' for length in self.shape)} places, and "
+            raise UserError("the blocks lie in a box of "
+                            f"{' x '.join(f'{length:,}' for length in self.shape)} places, and "
                             f"{MOST_PLACES:,} is the most: do two groups of blocks lie far apart?")
         self.blocks = blocks
-        self.x, self.y, self.z = (axis - low for axis, low in zip((blocks.x, blocks.y, blocks.z), self.least))
+        self.x, self.y, self.z = (axis - low
+                                  for axis, low in zip((blocks.x, blocks.y, blocks.z), self.least))
         self.at = np.full(self.shape[::-1], -1, dtype=np.int32)
         self.at[self.z, self.y, self.x] = np.arange(len(blocks), dtype=np.int32)
 

@@ -1,4 +1,5 @@
-"""Where a flatter zone meets a steeper one: slopes and K are those of the lower block, so a flat cone goes on through steep rock."""
+"""Where a flatter zone meets a steeper one: slopes and K are those of the lower block, so a flat
+cone goes on through steep rock."""
 from __future__ import annotations
 
 from dataclasses import dataclass, field
@@ -18,9 +19,10 @@ SIDES = (("east", 0, 1), ("west", 0, -1), ("north", 1, 1), ("south", 1, -1))
 class Contacts:
     """Contacts of zones with steeper ones, all by numbers of zones.
 
-    `begins` has, of a zone below steeper rock, how many benches up that begins at the least; `below`, of a zone and a steeper one
-    above it, how many blocks of the first are fewer than K benches below the second; `beside`, of such pairs, how many blocks have
-    a cone whose edge goes, on a side where the second is steeper, into the second, and not straight above."""
+    `begins` has, of a zone below steeper rock, how many benches up that begins at the least;
+    `below`, of a zone and a steeper one above it, how many blocks of the first are fewer than K
+    benches below the second; `beside`, of such pairs, how many blocks have a cone whose edge goes,
+    on a side where the second is steeper, into the second, and not straight above."""
 
     begins: dict[int, int] = field(default_factory=dict)
     below: dict[tuple[int, int], int] = field(default_factory=dict)
@@ -32,7 +34,8 @@ def differ(zones: Sequence[Zone]) -> bool:
     return len({zone.slopes for zone in zones}) > 1
 
 
-def contacts_of(blocks: Blocks, zones: Sequence[Zone], size: tuple[int, int, int], places: Places) -> Contacts:
+def contacts_of(blocks: Blocks, zones: Sequence[Zone], size: tuple[int, int, int],
+                places: Places) -> Contacts:
     """The contacts of these blocks; `size` is that of a block in millimetres."""
     found = Contacts()
     for zone, one in enumerate(zones):
@@ -51,11 +54,12 @@ def contacts_of(blocks: Blocks, zones: Sequence[Zone], size: tuple[int, int, int
 def _steeper(zones: Sequence[Zone], zone: int, sides: Iterable[int]) -> list[int]:
     """The zones that are steeper than one on any of these sides."""
     own = zones[zone].slopes
-    return [other for other, one in enumerate(zones)
-            if other != zone and any(one.slopes[side].tangent > own[side].tangent for side in sides)]
+    return [other for other, one in enumerate(zones) if other != zone
+            and any(one.slopes[side].tangent > own[side].tangent for side in sides)]
 
 
-def _look_above(found: Contacts, blocks: Blocks, places: Places, zone: int, one: Zone, ids: np.ndarray, others: list[int]) -> None:
+def _look_above(found: Contacts, blocks: Blocks, places: Places, zone: int, one: Zone,
+                ids: np.ndarray, others: list[int]) -> None:
     """Counts the blocks of a zone with steeper rock straight above, up to K benches."""
     seen = {other: np.zeros(len(ids), dtype=bool) for other in others}
     for dz in range(1, one.benches + 1):
@@ -65,12 +69,14 @@ def _look_above(found: Contacts, blocks: Blocks, places: Places, zone: int, one:
             found.begins[zone] = dz
         for other in others if dz < one.benches else ():
             seen[other] |= zones == other
-    found.below.update({(zone, other): int(taken.sum()) for other, taken in seen.items() if taken.any()})
+    found.below.update({(zone, other): int(taken.sum())
+                        for other, taken in seen.items() if taken.any()})
 
 
-def _beside(blocks: Blocks, zones: Sequence[Zone], size: tuple[int, int, int], places: Places, zone: int,
-            ids: np.ndarray, benches: int) -> dict[int, np.ndarray]:
-    """Of each steeper zone which of these blocks have a cone whose edge goes into it, up to so many benches."""
+def _beside(blocks: Blocks, zones: Sequence[Zone], size: tuple[int, int, int], places: Places,
+            zone: int, ids: np.ndarray, benches: int) -> dict[int, np.ndarray]:
+    """Of each steeper zone which of these blocks have a cone whose edge goes into it, up to so many
+    benches."""
     seen: dict[int, np.ndarray] = {}
     for side, (_, axis, way) in enumerate(SIDES):
         others = _steeper(zones, zone, [side])

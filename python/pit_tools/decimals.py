@@ -1,4 +1,5 @@
-"""Decimals held as whole numbers, as `pitc` holds them: texts to numbers and back without binary fractions.
+"""Decimals held as whole numbers, as `pitc` holds them: texts to numbers and back without binary
+fractions.
 
 A decimal with `places` decimals is an int64 of so many parts: 2700.5 t with 3 places is 2700500 kg.
 """
@@ -12,7 +13,8 @@ import pandas as pd
 
 from pit_tools.errors import UserError
 
-# What a float of 53 bits may be off of the decimal that was written, relative to it, with some room.
+# What a float of 53 bits may be off of the decimal that was written, relative to it, with some
+# room.
 ROOM = 1e-14
 
 # Numbers of parts beyond this, as of -1e30, are held as this: no file of pitc has them.
@@ -20,8 +22,8 @@ MOST = 1e18
 
 
 def rounded(text: Union[str, Decimal, int], places: int) -> int:
-    """One decimal as a number of parts, rounded half away from zero. It raises ValueError for a text
-    that is no number."""
+    """One decimal as a number of parts, rounded half away from zero. It raises ValueError for a
+    text that is no number."""
     try:
         value = Decimal(text)
         return int(value.scaleb(places).quantize(Decimal(1), rounding=ROUND_HALF_UP))
@@ -29,15 +31,18 @@ def rounded(text: Union[str, Decimal, int], places: int) -> int:
         raise ValueError(f"`{text}` is no number") from None
 
 
-def parts_of(texts: pd.Series, places: int, floats: Optional[np.ndarray] = None) -> tuple[np.ndarray, np.ndarray]:
-    """Decimals, as texts with a point, as whole numbers of 10**-places, rounded half away from zero.
+def parts_of(texts: pd.Series, places: int,
+             floats: Optional[np.ndarray] = None) -> tuple[np.ndarray, np.ndarray]:
+    """Decimals, as texts with a point, as whole numbers of 10**-places, rounded half away from
+    zero.
 
-    Each is rounded by a float where that is far enough from the middle of two numbers for the float's
-    error to say nothing, and by a decimal where it is not: so the answer is always that of decimals.
+    Each is rounded by a float where that is far enough from the middle of two numbers for the
+    float's error to say nothing, and by a decimal where it is not: so the answer is always that of
+    decimals.
 
     It answers two arrays of the same length: int64, and bool, where a text is no number (there the
-    first is 0; a missing text, as None, is none too). `floats` are those of the texts, where these are
-    known already; where one is NaN, the text is taken for none."""
+    first is 0; a missing text, as None, is none too). `floats` are those of the texts, where these
+    are known already; where one is NaN, the text is taken for none."""
     if floats is None:
         floats = pd.to_numeric(texts, errors="coerce").to_numpy(np.float64, na_value=np.nan)
     scaled = floats * 10.0 ** places
@@ -54,12 +59,13 @@ def parts_of(texts: pd.Series, places: int, floats: Optional[np.ndarray] = None)
 
 
 def texts_of(parts: Union[np.ndarray, Sequence[int]], places: int) -> np.ndarray:
-    """Whole numbers of 10**-places as texts with exactly so many decimals, an object array of str."""
-    parts = np.asarray(parts, np.int64)
+    """Whole numbers of 10**-places as texts with exactly so many decimals, an object array of
+    str."""
+    numbers = np.asarray(parts, np.int64)
     if not places:
-        return parts.astype(str).astype(object)
-    sign = np.where(parts < 0, "-", "")
-    whole, rest = np.divmod(np.abs(parts), 10 ** places)
+        return numbers.astype(str).astype(object)
+    sign = np.where(numbers < 0, "-", "")
+    whole, rest = np.divmod(np.abs(numbers), 10 ** places)
     texts = np.char.add(np.char.add(sign, whole.astype(str)), ".")
     return np.char.add(texts, np.char.zfill(rest.astype(str), places)).astype(object)
 

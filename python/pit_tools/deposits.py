@@ -17,8 +17,8 @@ SHAPES = ("lens", "pipe", "vein")
 #: The zones in the order of the plan's records.
 ZONES = ("oxide", "west", "east")
 
-#: The numbers of blocks of the deposit along x, y and z where no size is given. Places in a deposit of another
-#: size are those of this one, scaled.
+#: The numbers of blocks of the deposit along x, y and z where no size is given. Places in a deposit
+#: of another size are those of this one, scaled.
 SIZE = (24, 18, 12)
 
 MOST_SEED = 1_000_000
@@ -28,9 +28,8 @@ class _Chances:
     """A fixed sequence of whole numbers."""
 
     def __init__(self, seed: Optional[int]):
-        is_drawn = seed is not None
         self.state, self.factor, self.step, self.cycle = \
-            (seed, 48271, 0, 2147483647) if is_drawn else (2013, 1103, 12345, 1048573)
+            (2013, 1103, 12345, 1048573) if seed is None else (seed, 48271, 0, 2147483647)
 
     def below(self, end: int) -> int:
         """The next number from 0 to end - 1."""
@@ -59,8 +58,9 @@ class Ore:
     def drawn(cls, shape: str, chances: _Chances) -> "Ore":
         for _ in range(8):
             chances.below(1)
-        return cls(shape, 7000 + chances.below(9000), 6000 + chances.below(6000), 6000 + chances.below(5000),
-                   2 + chances.below(5), 60 + chances.below(140), 12 + chances.below(24))
+        return cls(shape, 7000 + chances.below(9000), 6000 + chances.below(6000),
+                   6000 + chances.below(5000), 2 + chances.below(5), 60 + chances.below(140),
+                   12 + chances.below(24))
 
     def off(self, x: int, y: int, z: int) -> int:
         """How far a place is from the middle of the ore, squared, in millionths."""
@@ -74,7 +74,8 @@ class Ore:
         return along * along + 2 * across * across + 6 * above * above
 
     def grade(self, x: int, y: int, z: int, chances: _Chances) -> int:
-        """The grade in millionths of a g/t: high near the middle of the ore, and never below zero."""
+        """The grade in millionths of a g/t: high near the middle of the ore, and never below
+        zero."""
         left = self.reach * 1_000_000 - self.off(x, y, z)
         if left > 0:
             return left * self.rich // 1000 + chances.below(400_000)
@@ -83,8 +84,9 @@ class Ore:
 
 @dataclass(frozen=True)
 class Deposit:
-    """A deposit. `size` is how many blocks of 20 x 20 x 10 m it has along x, y and z; a seed, 1 to a million,
-    moves the ore and draws its width and grade, and with none the deposit is always the same.
+    """A deposit. `size` is how many blocks of 20 x 20 x 10 m it has along x, y and z; a seed, 1 to
+    a million, moves the ore and draws its width and grade, and with none the deposit is always the
+    same.
 
     Raises UserError where a shape, a seed or a size is none."""
 
@@ -107,10 +109,10 @@ class Deposit:
 
     def plan(self) -> str:
         """The text of the plan."""
-        records = [f"name,{self.name}", "grid,1000,2000,300,20,20,10", "zone,1,1,2", "zone,3,2,1,1,5,4,5,4,3",
-                   "zone,3,2,3", "mill,mill,920,5800000,1650", "leach,heap,5800000,620,0.2,300,0.6,480,1.2,560",
-                   "dump,dump,180", "periods,4", "rate,0.08", "resource,crusher,mill,heap",
-                   "resource,fleet,mill,heap,dump"]
+        records = [f"name,{self.name}", "grid,1000,2000,300,20,20,10", "zone,1,1,2",
+                   "zone,3,2,1,1,5,4,5,4,3", "zone,3,2,3", "mill,mill,920,5800000,1650",
+                   "leach,heap,5800000,620,0.2,300,0.6,480,1.2,560", "dump,dump,180", "periods,4",
+                   "rate,0.08", "resource,crusher,mill,heap", "resource,fleet,mill,heap,dump"]
         for period in range(4):
             records.append(f"limit,crusher,{period},L,{self._share_of(2_500_000)}")
             most = self._share_of(6_000_000 + 500_000 * period)
@@ -134,7 +136,8 @@ class Deposit:
                         continue
                     zone = 0 if z12 >= 8 else 1 if x12 < 12 else 2
                     kilograms = (9_600_000 if zone == 0 else 10_800_000) + chances.below(400_000)
-                    grade = ore.grade(24000 * x // wide, 18000 * y // deep, 12000 * z // high, chances)
+                    grade = ore.grade(24000 * x // wide, 18000 * y // deep, 12000 * z // high,
+                                      chances)
                     yield zone, (f"{1000 + 20 * x},{2000 + 20 * y},{300 + 10 * z},"
                                  f"{kilograms // 1000}.{kilograms % 1000:03d},"
                                  f"{grade // 1_000_000}.{grade % 1_000_000:06d},"
@@ -148,7 +151,8 @@ class Deposit:
         return ["".join(part) for part in lines]
 
     def write(self, folder: str = ".") -> list[str]:
-        """Writes NAME.plan and the zone files NAME-oxide.csv and so on; answers the names of all."""
+        """Writes NAME.plan and the zone files NAME-oxide.csv and so on; answers the names of
+        all."""
         names = [f"{self.name}.plan", *(f"{self.name}-{zone}.csv" for zone in ZONES)]
         with outputs.together():
             for name, text in zip(names, [self.plan(), *self.zone_texts()]):

@@ -1,4 +1,5 @@
-"""The words that say what an export's columns are, and the formulas that they are for its header."""
+"""The words that say what an export's columns are, and the formulas that they are for its
+header."""
 from __future__ import annotations
 
 from dataclasses import dataclass, field
@@ -14,18 +15,21 @@ from pit_tools.unnamed_columns import Unnamed, unnamed_in
 from pit_tools.units import factor_of, is_factor, is_money_a_tonne, named_in
 
 # What each word is in, for the unit behind it.
-KINDS = {"x": "length", "y": "length", "z": "length", "i": "", "j": "", "k": "", "tonnes": "mass", "density": "density",
-         "waste_density": "density", "volume": "volume", "share": "share", "ore_share": "share", "waste_share": "share", "grade": "grade",
-         "size_x": "length", "size_y": "length", "size_z": "length"}
+KINDS = {"x": "length", "y": "length", "z": "length", "i": "", "j": "", "k": "", "tonnes": "mass",
+         "density": "density", "waste_density": "density", "volume": "volume", "share": "share",
+         "ore_share": "share", "waste_share": "share", "grade": "grade", "size_x": "length",
+         "size_y": "length", "size_z": "length"}
 
 
 @dataclass
 class Words:
-    """What is said of an export; an empty word is not said. Names are those of the options of `pit-tools import`.
+    """What is said of an export; an empty word is not said. Names are those of the options of
+    `pit-tools import`.
 
-    `x` to `grade` are columns or formulas, with a unit behind them; `sub_size` has three of them; `zone` names columns; `where`
-    are filters; `density_by` and `zones` are tables; `below` has pairs of a zone and one above it, as `flat:steep`. The others say how
-    the text is written, what the grid is, and what to do."""
+    `x` to `grade` are columns or formulas, with a unit behind them; `sub_size` has three of them;
+    `zone` names columns; `where` are filters; `density_by` and `zones` are tables; `below` has
+    pairs of a zone and one above it, as `flat:steep`. The others say how the text is written, what
+    the grid is, and what to do."""
 
     x: str = ""
     y: str = ""
@@ -95,7 +99,8 @@ class Words:
         if self.sub_size:
             cells = self.sub_size.split(",")
             if len(cells) != 3:
-                raise UserError(f"--sub-size: give three columns, as XINC,YINC,ZINC, and not `{self.sub_size}`")
+                raise UserError("--sub-size: give three columns, as XINC,YINC,ZINC, and not "
+                                f"`{self.sub_size}`")
             texts.update(zip(("size_x", "size_y", "size_z"), cells))
         return texts
 
@@ -108,34 +113,42 @@ class Words:
         if self.x and self.i:
             raise UserError("give coordinates (--x) or indices (--i), not both")
         if self.is_listed and not (self.blocks and self.first and self.size):
-            raise UserError("give --x, --y and --z; or --i, --j and --k with --first and --size; or, for rows without either, --blocks, "
-                            "--first and --size")
+            raise UserError("give --x, --y and --z; or --i, --j and --k with --first and --size; "
+                            "or, for rows without either, --blocks, --first and --size")
         if self.is_indexed and not (self.first and self.size):
             raise UserError("indices need --first, the centroid of the first block, and --size")
         for flag, axis in (("--from-top", self.from_top), ("--from-north", self.from_north)):
             if axis and not (self.is_indexed and self.blocks):
-                raise UserError(f"{flag} goes with --i, --j and --k, and needs --blocks, how many there are along each axis: rows may lack the "
-                                "last ones, and all others would move")
+                raise UserError(f"{flag} goes with --i, --j and --k, and needs --blocks, how many "
+                                "there are along each axis: rows may lack the last ones, and all "
+                                "others would move")
+        if self.x_bearing is not None and self.y_azimuth is not None:
+            raise UserError("give --x-bearing or --y-azimuth, not both")
+        self._judge_masses()
+
+    def _judge_masses(self) -> None:
+        """The same of what says tonnes and grades."""
         if bool(self.tonnes) == bool(self.density or self.density_by):
             raise UserError("give --tonnes, or a density: --density, --density-by")
         if not self.grade:
             raise UserError("give --grade")
         if bool(self.ore_share) != bool(self.waste_density):
-            raise UserError("give --ore-share and --waste-density together: the rest of a block is waste, and has a mass")
+            raise UserError("give --ore-share and --waste-density together: the rest of a block is "
+                            "waste, and has a mass")
         if self.waste_share and not self.ore_share:
             raise UserError("--waste-share goes with --ore-share: the rest of the block is air")
         if self.ore_share and self.share:
-            raise UserError("--ore-share beside --share can be a part of the block, or of its rock: give --ore-share and --waste-share as parts "
-                            "of the block, in place of --share")
+            raise UserError("--ore-share beside --share can be a part of the block, or of its "
+                            "rock: give --ore-share and --waste-share as parts of the block, in "
+                            "place of --share")
         if self.ore_share and self.tonnes:
             raise UserError("--ore-share goes with --density, which is that of the ore")
-        if self.x_bearing is not None and self.y_azimuth is not None:
-            raise UserError("give --x-bearing or --y-azimuth, not both")
 
 
 @dataclass(frozen=True)
 class Measure:
-    """A formula with what its unit is in the unit of `pitc`; `divides` where it is a volume for a mass."""
+    """A formula with what its unit is in the unit of `pitc`; `divides` where it is a volume for a
+    mass."""
 
     formula: Formula
     factor: Decimal = Decimal(1)
@@ -154,7 +167,8 @@ class Measure:
 
 @dataclass
 class Table:
-    """Rows of texts by which values are found: columns of the export, and of each row their texts (`*` is any) and a value."""
+    """Rows of texts by which values are found: columns of the export, and of each row their texts
+    (`*` is any) and a value."""
 
     columns: list[int]
     rows: list[tuple[list[str], str]]
@@ -211,20 +225,23 @@ def measure_of(text: str, kind: str, names: Sequence[str]) -> tuple[Measure, boo
                 formula_of(front, names)
             except UserError:
                 raise whole from None
-            raise UserError(f"`{unit}` behind `{front}` is no unit of a {kind} that is known, and no formula") from None
+            raise UserError(f"`{unit}` behind `{front}` is no unit of a {kind} that is known, and "
+                            "no formula") from None
         divides = kind == "density" and is_factor(unit)
         return Measure(formula_of(front, names), factor, unit, divides), False
 
 
 def table_of(text: str, value: str, names: Sequence[str]) -> Table:
-    """A table in a file, whose columns are some of the export's and one called `value`; or in words, as `ROCK: ore=2.7, *=2.5`."""
+    """A table in a file, whose columns are some of the export's and one called `value`; or in
+    words, as `ROCK: ore=2.7, *=2.5`."""
     name, colon, rest = text.partition(":")
     if colon and "=" in rest:
         at = column_of(name, names)
         pairs = [pair.rpartition("=") for pair in rest.split(",")]
         return Table([at], [([code_name(key)], found.strip()) for key, _, found in pairs], text)
     try:
-        table = pd.read_csv(text, dtype=str, keep_default_na=False, sep=None, engine="python", encoding="utf-8-sig")
+        table = pd.read_csv(text, dtype=str, keep_default_na=False, sep=None, engine="python",
+                            encoding="utf-8-sig")
     except (OSError, ValueError, pd.errors.ParserError) as error:
         raise UserError(f"{text}: {' '.join(str(error).split())}") from None
     named = [name for name in table.columns if plain_name(name) == value]
@@ -232,7 +249,8 @@ def table_of(text: str, value: str, names: Sequence[str]) -> Table:
         raise UserError(f"{text}: its columns have to be `{value}` and some of the export's")
     given = named[-1]
     keys = [name for name in table.columns if name != given]
-    rows = [([code_name(row[key]) for key in keys], str(row[given]).strip()) for _, row in table.iterrows()]
+    rows = [([code_name(row[key]) for key in keys], str(row[given]).strip())
+            for _, row in table.iterrows()]
     return Table([column_of(key, names) for key in keys], rows, text)
 
 
@@ -243,7 +261,8 @@ def column_of(name: str, names: Sequence[str]) -> int:
 
 
 def columns_of(words: Words, names: Sequence[str]) -> Columns:
-    """The formulas for the columns of a header. It raises Lacking where one has a name that is none of them."""
+    """The formulas for the columns of a header. It raises Lacking where one has a name that is none
+    of them."""
     measures: dict[str, Measure] = {}
     is_money, hits = False, 0
     try:
@@ -273,8 +292,10 @@ def filter_of(text: str, names: Sequence[str]) -> Formula:
     return formula
 
 
-def unit_doubts(columns: Columns, names: Sequence[str], units: Sequence[Sequence[str]]) -> list[str]:
-    """Where a header or a row of units names another unit than the one by which a column is read."""
+def unit_doubts(columns: Columns, names: Sequence[str],
+                units: Sequence[Sequence[str]]) -> list[str]:
+    """Where a header or a row of units names another unit than the one by which a column is
+    read."""
     doubts = []
     for key, measure in columns.measures.items():
         at, kind = measure.plain_column, KINDS[key]
@@ -286,14 +307,16 @@ def unit_doubts(columns: Columns, names: Sequence[str], units: Sequence[Sequence
             try:
                 factor = factor_of(unit, kind) if unit else None
             except UserError as error:
-                doubts.append(f"`{' '.join(text.split())}` of the column {names[at]}: {error}; it is read as {TAKEN[kind]}")
+                doubts.append(f"`{' '.join(text.split())}` of the column {names[at]}: {error}; it "
+                              f"is read as {TAKEN[kind]}")
                 break
             if factor not in (None, 1):
-                doubts.append(f"the column {names[at]} says `{unit}`, and is read as {TAKEN[kind]}: if it is in {unit}, give "
-                              f"--{key.replace('_', '-')} '{names[at]} {unit}'")
+                doubts.append(f"the column {names[at]} says `{unit}`, and is read as "
+                              f"{TAKEN[kind]}: if it is in {unit}, give --{key.replace('_', '-')} "
+                              f"'{names[at]} {unit}'")
                 break
     return doubts
 
 
-TAKEN = {"length": "metres", "mass": "tonnes", "density": "tonnes a cubic metre", "volume": "cubic metres", "grade": "grams a tonne",
-         "share": "a share"}
+TAKEN = {"length": "metres", "mass": "tonnes", "density": "tonnes a cubic metre",
+         "volume": "cubic metres", "grade": "grams a tonne", "share": "a share"}

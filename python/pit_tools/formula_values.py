@@ -1,4 +1,5 @@
-"""Computes what a formula's code gives for the rows of a table, by numpy: each step of the code is looked at, and none is run."""
+"""Computes what a formula's code gives for the rows of a table, by numpy: each step of the code is
+looked at, and none is run."""
 from __future__ import annotations
 
 import ast
@@ -6,32 +7,50 @@ import operator
 import re
 import unicodedata
 from functools import reduce
-from typing import Any, Mapping
+from typing import Any, Callable, Mapping
 
 import numpy as np
 import pandas as pd
 
-FUNCTIONS = {"sqrt": np.sqrt, "abs": np.abs, "exp": np.exp, "log": np.log, "log10": np.log10, "floor": np.floor, "ceil": np.ceil,
-             "sin": np.sin, "cos": np.cos, "min": np.fmin, "max": np.fmax}
+FUNCTIONS: dict[str, Callable[..., Any]] = {
+    "sqrt": np.sqrt, "abs": np.abs, "exp": np.exp, "log": np.log, "log10": np.log10,
+    "floor": np.floor, "ceil": np.ceil, "sin": np.sin, "cos": np.cos, "min": np.fmin,
+    "max": np.fmax}
 
 # How many arguments a function has.
 ARGUMENTS = {**dict.fromkeys(FUNCTIONS, 1), "min": 2, "max": 2, "where": 3, "missing": 1}
 
-OPERATORS = {ast.Add: operator.add, ast.Sub: operator.sub, ast.Mult: operator.mul, ast.Div: operator.truediv,
-             ast.FloorDiv: operator.floordiv, ast.Mod: operator.mod, ast.Pow: operator.pow}
+OPERATORS = {ast.Add: operator.add, ast.Sub: operator.sub, ast.Mult: operator.mul,
+             ast.Div: operator.truediv, ast.FloorDiv: operator.floordiv, ast.Mod: operator.mod,
+             ast.Pow: operator.pow}
 
-COMPARISONS = {ast.Lt: operator.lt, ast.LtE: operator.le, ast.Gt: operator.gt, ast.GtE: operator.ge, ast.Eq: operator.eq,
-               ast.NotEq: operator.ne}
+COMPARISONS = {ast.Lt: operator.lt, ast.LtE: operator.le, ast.Gt: operator.gt, ast.GtE: operator.ge,
+               ast.Eq: operator.eq, ast.NotEq: operator.ne}
 
 
 def code_name(text: str) -> str:
     """A text as codes are compared: without case and blanks, `10.0` as `10`."""
-    folded = " ".join(unicodedata.normalize("NFC", text).replace("\ufeff", "").split()).strip("\"'").strip().casefold()
+    folded = " ".join(unicodedata.normalize("NFC", text).replace("\ufeff", "")
+                      .split()).strip("\"'").strip().casefold()
     return re.sub(r"^(-?\d+)\.0+$", r"\1", folded)
 
 
+def called(node: ast.AST) -> str:
+    """The function that a part of the code calls by its name, or an empty text where it calls
+    none."""
+    return node.func.id if isinstance(node, ast.Call) and isinstance(node.func, ast.Name) else ""
+
+
+def listed(node: ast.expr) -> list[ast.expr]:
+    """What stands in a list. It raises TypeError where the node is none."""
+    if not isinstance(node, (ast.List, ast.Tuple)):
+        raise TypeError("`in` goes with a list, as ('ORE', 'WASTE')")
+    return node.elts
+
+
 class Rows:
-    """Columns by their names in code: `known` has NaN where a cell says that nothing is known, `standing` the numbers as they stand."""
+    """Columns by their names in code: `known` has NaN where a cell says that nothing is known,
+    `standing` the numbers as they stand."""
 
     def __init__(self, known: Mapping[str, np.ndarray], standing: Mapping[str, np.ndarray]) -> None:
         self.known, self.standing = known, standing
@@ -42,10 +61,12 @@ class Rows:
             return self._of(node)
 
     def holds(self, node: ast.AST) -> np.ndarray:
-        """Whether a condition holds: numbers are as they stand, but where it asks whether they are missing."""
-        asked = {one.id for call in ast.walk(node) if isinstance(call, ast.Call) and call.func.id == "missing"
+        """Whether a condition holds: numbers are as they stand, but where it asks whether they are
+        missing."""
+        asked = {one.id for call in ast.walk(node) if called(call) == "missing"
                  for one in ast.walk(call) if isinstance(one, ast.Name)}
-        columns = {name: column if name in asked else self.standing.get(name, column) for name, column in self.known.items()}
+        columns = {name: column if name in asked else self.standing.get(name, column)
+                   for name, column in self.known.items()}
         return np.asarray(Rows(columns, self.standing).value(node), bool)
 
     def _of(self, node: ast.AST) -> Any:
@@ -55,12 +76,15 @@ class Rows:
             return self.known[node.id]
         if isinstance(node, ast.UnaryOp):
             value = self._of(node.operand)
-            return ~np.asarray(value, bool) if isinstance(node.op, ast.Not) else -value if isinstance(node.op, ast.USub) else value
+            return (~np.asarray(value, bool) if isinstance(node.op, ast.Not) else -value
+                    if isinstance(node.op, ast.USub) else value)
         if isinstance(node, ast.BinOp):
             return OPERATORS[type(node.op)](self._of(node.left), self._of(node.right))
         if isinstance(node, ast.BoolOp):
-            join = np.logical_and if isinstance(node.op, ast.And) else np.logical_or
-            return reduce(join, [np.asarray(self._of(one), bool) for one in node.values])
+            holds = [np.asarray(self._of(one), bool) for one in node.values]
+            if isinstance(node.op, ast.And):
+                return reduce(np.logical_and, holds)
+            return reduce(np.logical_or, holds)
         if isinstance(node, ast.Compare):
             return self._compared(node)
         if isinstance(node, ast.IfExp):
@@ -70,17 +94,18 @@ class Rows:
         raise TypeError(f"no formula has {type(node).__name__}")
 
     def _compared(self, node: ast.Compare) -> Any:
-        left, holds = self._of(node.left), True
+        left = self._of(node.left)
+        holds: Any = True
         for sign, side in zip(node.ops, node.comparators):
             if isinstance(sign, (ast.In, ast.NotIn)):
-                found = pd.Series(left).isin([self._of(one) for one in side.elts]).to_numpy()
+                found = pd.Series(left).isin([self._of(one) for one in listed(side)]).to_numpy()
                 return holds & (found if isinstance(sign, ast.In) else ~found)
             right = self._of(side)
             holds, left = holds & np.asarray(COMPARISONS[type(sign)](left, right), bool), right
         return holds
 
     def _called(self, node: ast.Call) -> Any:
-        name = node.func.id
+        name = called(node)
         if name == "where":
             return self._where(*node.args)
         if name == "missing":

@@ -1,8 +1,10 @@
-"""Formulas over the columns of a table: `SG*XINC*YINC*ZINC`, `(AU + CU*0.9)`, `CLASS <= 3 and ROCK != "AIR"`.
+"""Formulas over the columns of a table: `SG*XINC*YINC*ZINC`, `(AU + CU*0.9)`, `CLASS <= 3 and ROCK
+!= "AIR"`.
 
-A column's name stands as its header has it, in any case, also with blanks and signs; the longest name is taken. One that cannot
-stand so stands between backquotes. Behind a formula there may be a unit. `where(CONDITION, THIS, THAT)`, also written as `if(..)`,
-chooses; its condition sees numbers as they stand, -99 too, and `missing(COLUMN)` is one. `formula_values` computes formulas."""
+A column's name stands as its header has it, in any case, also with blanks and signs; the longest
+name is taken. One that cannot stand so stands between backquotes. Behind a formula there may be a
+unit. `where(CONDITION, THIS, THAT)`, also written as `if(..)`, chooses; its condition sees numbers
+as they stand, -99 too, and `missing(COLUMN)` is one. `formula_values` computes formulas."""
 from __future__ import annotations
 
 import ast
@@ -15,10 +17,11 @@ from typing import Any, Callable, Optional, Sequence
 import pandas as pd
 
 from pit_tools.errors import UserError
-from pit_tools.formula_values import ARGUMENTS, COMPARISONS, OPERATORS, Rows
+from pit_tools.formula_values import ARGUMENTS, COMPARISONS, OPERATORS, Rows, called
 
-ALLOWED = (ast.Expression, ast.BinOp, ast.UnaryOp, ast.BoolOp, ast.Compare, ast.Name, ast.Load, ast.Constant, ast.Call, ast.IfExp,
-           ast.List, ast.Tuple, ast.And, ast.Or, ast.Not, ast.USub, ast.UAdd, ast.In, ast.NotIn, *OPERATORS, *COMPARISONS)
+ALLOWED = (ast.Expression, ast.BinOp, ast.UnaryOp, ast.BoolOp, ast.Compare, ast.Name, ast.Load,
+           ast.Constant, ast.Call, ast.IfExp, ast.List, ast.Tuple, ast.And, ast.Or, ast.Not,
+           ast.USub, ast.UAdd, ast.In, ast.NotIn, *OPERATORS, *COMPARISONS)
 
 
 class Lacking(UserError):
@@ -38,7 +41,8 @@ def column_name(at: int) -> str:
 
 
 def plain_name(text: str) -> str:
-    """A column's name as it is compared: without case, quotes and blanks at its ends, line breaks as blanks."""
+    """A column's name as it is compared: without case, quotes and blanks at its ends, line breaks
+    as blanks."""
     text = unicodedata.normalize("NFC", text).replace("\ufeff", "")
     return " ".join(text.split()).strip("\"'").strip().casefold()
 
@@ -64,7 +68,8 @@ def places_of(names: Sequence[str]) -> dict[str, list[int]]:
 
 @dataclass(frozen=True)
 class Formula:
-    """A formula whose columns are named _at0, _at1, .. by their places among the columns of the table."""
+    """A formula whose columns are named _at0, _at1, .. by their places among the columns of the
+    table."""
 
     text: str
     code: str
@@ -73,12 +78,14 @@ class Formula:
     @property
     def plain_column(self) -> Optional[int]:
         """The column that it is, where it is nothing else."""
-        return self.columns[0] if len(self.columns) == 1 and self.code == column_name(self.columns[0]) else None
+        return (self.columns[0]
+                if len(self.columns) == 1 and self.code == column_name(self.columns[0]) else None)
 
     @property
     def divides(self) -> bool:
         """Whether it may have no value, as where it divides by 0."""
-        return any(isinstance(node, (ast.Div, ast.FloorDiv, ast.Mod, ast.Call)) for node in ast.walk(ast.parse(self.code, mode="eval")))
+        return any(isinstance(node, (ast.Div, ast.FloorDiv, ast.Mod, ast.Call))
+                   for node in ast.walk(ast.parse(self.code, mode="eval")))
 
     @property
     def texts(self) -> set[int]:
@@ -92,27 +99,35 @@ class Formula:
 
     @property
     def is_condition(self) -> bool:
-        return any(isinstance(node, ast.Compare) or isinstance(node, ast.Call) and node.func.id == "missing" for node in ast.walk(_body(self.code)))
+        return any(isinstance(node, ast.Compare) or called(node) == "missing"
+                   for node in ast.walk(_body(self.code)))
 
     def value(self, table: pd.DataFrame, standing: Optional[pd.DataFrame] = None) -> pd.Series:
-        """What it gives for the rows of a table with its columns _at0, _at1, .. as numbers, NaN where one is missing; `standing` has
-        them as they stand, for conditions. A term of its outermost sum that is missing adds nothing to the others; where all are
-        missing, so is the sum."""
-        terms = [self._one(code, table, table if standing is None else standing) for code in _terms(self.code)]
+        """What it gives for the rows of a table with its columns _at0, _at1, .. as numbers, NaN
+        where one is missing; `standing` has them as they stand, for conditions. A term of its
+        outermost sum that is missing adds nothing to the others; where all are missing, so is the
+        sum."""
+        terms = [self._one(code, table, table if standing is None else standing)
+                 for code in _terms(self.code)]
         return terms[0] if len(terms) == 1 else pd.concat(terms, axis=1).sum(axis=1, min_count=1)
 
     def holds(self, table: pd.DataFrame, standing: pd.DataFrame) -> Any:
-        """Whether it holds of each row, as an array; texts of the tables are those of `code_name`."""
+        """Whether it holds of each row, as an array; texts of the tables are those of
+        `code_name`."""
         return self._computed(lambda rows: rows.holds(_body(self.code)), table, standing)
 
     def _one(self, code: str, table: pd.DataFrame, standing: pd.DataFrame) -> pd.Series:
-        return pd.Series(self._computed(lambda rows: rows.value(_body(code)), table, standing), index=table.index)
+        return pd.Series(self._computed(lambda rows: rows.value(_body(code)), table, standing),
+                         index=table.index)
 
-    def _computed(self, of: Callable[[Rows], Any], table: pd.DataFrame, standing: pd.DataFrame) -> Any:
+    def _computed(self, of: Callable[[Rows], Any], table: pd.DataFrame,
+                  standing: pd.DataFrame) -> Any:
         try:
-            return of(Rows(*({name: one[name].to_numpy() for name in one} for one in (table, standing))))
+            return of(Rows(*({name: one[name].to_numpy() for name in one}
+                             for one in (table, standing))))
         except (TypeError, ValueError, AttributeError) as error:
-            raise UserError(f"`{self.text}` cannot be computed: {' '.join(str(error).split())}") from None
+            raise UserError(f"`{self.text}` cannot be computed: "
+                            f"{' '.join(str(error).split())}") from None
 
 
 def _body(code: str) -> ast.expr:
@@ -131,10 +146,12 @@ def _terms(code: str) -> list[str]:
 
 
 def formula_of(text: str, names: Sequence[str]) -> Formula:
-    """A formula over these columns. It raises Lacking for a name that is none of them, UserError for one of two columns and for
-    a text that is no formula."""
-    places, columns = places_of(names), []
-    by_length = sorted((name for name in places if not re.fullmatch(r"[\d.]+", name)), key=len, reverse=True)
+    """A formula over these columns. It raises Lacking for a name that is none of them, UserError
+    for one of two columns and for a text that is no formula."""
+    places = places_of(names)
+    columns: list[int] = []
+    by_length = sorted((name for name in places if not re.fullmatch(r"[\d.]+", name)), key=len,
+                       reverse=True)
     code, at, folded = "", 0, unicodedata.normalize("NFC", text)
     low = folded.casefold() if len(folded.casefold()) == len(folded) else folded
     while at < len(folded):
@@ -185,20 +202,24 @@ def _checked(code: str, text: str, names: Sequence[str]) -> str:
     own = {column_name(at) for at in range(len(names))}
     tree = _tree_of(code) or _tree_of(re.sub(r"\bif\s*\(", "where(", code))
     if tree is None:
-        words = [word for word in re.findall(r"[^\W\d]\w*", code) if word not in own and word not in ARGUMENTS and word != "if"]
+        words = [word for word in re.findall(r"[^\W\d]\w*", code)
+                 if word not in own and word not in ARGUMENTS and word != "if"]
         if words:
-            raise Lacking(text.strip() if re.fullmatch(r"[\w ]+", text.strip()) else words[0], names) from None
+            raise Lacking(text.strip() if re.fullmatch(r"[\w ]+", text.strip()) else words[0],
+                          names) from None
         raise UserError(f"`{text}` is no formula")
     calls = {id(node.func) for node in ast.walk(tree) if isinstance(node, ast.Call)}
     for node in ast.walk(tree):
-        if not isinstance(node, ALLOWED):
-            raise UserError(f"`{text}` is no formula: it may have columns, numbers, + - * / ** // %, parentheses and where(CONDITION, THIS, "
-                            "THAT)")
-        if isinstance(node, ast.Call) and isinstance(node.func, ast.Name):
+        is_call = isinstance(node, ast.Call)
+        if not isinstance(node, ALLOWED) or is_call and not called(node):
+            raise UserError(f"`{text}` is no formula: it may have columns, numbers, + - * / ** // "
+                            "%, parentheses and where(CONDITION, THIS, THAT)")
+        if isinstance(node, ast.Call):
             _judge_call(node, text)
         if isinstance(node, ast.Name) and id(node) not in calls and node.id not in own:
             raise Lacking(node.id, names)
-        if isinstance(node, (ast.List, ast.Tuple)) and not all(isinstance(one, ast.Constant) for one in node.elts):
+        if (isinstance(node, (ast.List, ast.Tuple))
+                and not all(isinstance(one, ast.Constant) for one in node.elts)):
             raise UserError(f"`{text}`: a list has numbers or texts alone")
         if isinstance(node, ast.Constant) and not isinstance(node.value, (int, float, str)):
             raise UserError(f"`{text}` is no formula: `{node.value}` is no number")
@@ -214,26 +235,31 @@ def _tree_of(code: str) -> Optional[ast.Expression]:
 
 def _judge_call(node: ast.Call, text: str) -> None:
     """Stops at a function that is none, or has other arguments."""
-    name = node.func.id
+    name = called(node)
     if name not in ARGUMENTS:
         raise UserError(f"`{text}`: no function `{name}`: there are {', '.join(ARGUMENTS)}")
     if len(node.args) != ARGUMENTS[name] or node.keywords:
-        raise UserError(f"`{text}`: {name} has {ARGUMENTS[name]} arguments: where(CONDITION, THIS, THAT), missing(COLUMN)")
+        raise UserError(f"`{text}`: {name} has {ARGUMENTS[name]} arguments: where(CONDITION, THIS, "
+                        "THAT), missing(COLUMN)")
 
 
 def number_columns(formula: Formula) -> tuple[set[int], set[int]]:
-    """The columns that are read as numbers, and those that are compared with texts. It raises UserError where one is both."""
+    """The columns that are read as numbers, and those that are compared with texts. It raises
+    UserError where one is both."""
     numbers: set[int] = set()
     texts: set[int] = set()
     nodes = list(ast.walk(_body(formula.code)))
     for node in nodes:
         if isinstance(node, ast.Compare):
             values = [one for side in (node.left, *node.comparators) for one in ast.walk(side)]
-            with_text = any(isinstance(one, ast.Constant) and isinstance(one.value, str) for one in values)
-            columns = {int(one.id[3:]) for one in values if isinstance(one, ast.Name) and one.id.startswith("_at")}
+            with_text = any(isinstance(one, ast.Constant) and isinstance(one.value, str)
+                            for one in values)
+            columns = {int(one.id[3:])
+                       for one in values if isinstance(one, ast.Name) and one.id.startswith("_at")}
             (texts if with_text else numbers).update(columns)
     for node in nodes:
-        if isinstance(node, ast.Name) and node.id.startswith("_at") and int(node.id[3:]) not in texts:
+        if (isinstance(node, ast.Name) and node.id.startswith("_at")
+                and int(node.id[3:]) not in texts):
             numbers.add(int(node.id[3:]))
     if numbers & texts:
         raise UserError(f"`{formula.text}` compares a column with numbers and with texts")

@@ -1,4 +1,5 @@
-"""The grid of blocks that rows lie on: its sizes, found or given; turned models; parents of sub-blocks.
+"""The grid of blocks that rows lie on: its sizes, found or given; turned models; parents of
+sub-blocks.
 
 Coordinates are whole numbers of thousandths of the export's unit of length, int64."""
 from __future__ import annotations
@@ -21,7 +22,8 @@ BESIDE = 0.1
 
 @dataclass(frozen=True)
 class Axis:
-    """A row of places: the first, their distance, how many there are, and how far rows lie beside at the most, all in thousandths."""
+    """A row of places: the first, their distance, how many there are, and how far rows lie beside
+    at the most, all in thousandths."""
 
     first: int
     step: int
@@ -34,20 +36,61 @@ class Axis:
 
 @dataclass(frozen=True)
 class Turn:
-    """A turn of a model about a point: its +x points `angle` degrees counterclockwise from +x of the coordinates."""
+    """A turn of a model about a point: its +x points `angle` degrees counterclockwise from +x of
+    the coordinates."""
 
     angle: float
     about: tuple[float, float]
+
+    @classmethod
+    def of_record(cls, told: Optional[dict]) -> Optional[Turn]:
+        """A turn as BASE.json and the note of a plan have it. It raises ValueError, KeyError or
+        TypeError for what is none."""
+        if told is None:
+            return None
+        x, y = told["about"]
+        return cls(float(told["angle"]), (float(x), float(y)))
 
     def own(self, x: np.ndarray, y: np.ndarray) -> tuple[np.ndarray, np.ndarray]:
         """Coordinates along the model's own axes."""
         along, across = math.cos(math.radians(self.angle)), math.sin(math.radians(self.angle))
         east, north = x - self.about[0], y - self.about[1]
-        return self.about[0] + east * along + north * across, self.about[1] + north * along - east * across
+        return (self.about[0] + east * along + north * across,
+                self.about[1] + north * along - east * across)
+
+    def undone(self, x: np.ndarray, y: np.ndarray) -> tuple[np.ndarray, np.ndarray]:
+        """The coordinates of places that are told along the model's own axes."""
+        return Turn(-self.angle, self.about).own(x, y)
 
 
-def turn_of(x_bearing: Optional[float], y_azimuth: Optional[float], about: tuple[float, float]) -> Turn:
-    """The turn of a model whose +x has this bearing, or whose +y has this azimuth, degrees clockwise from north."""
+@dataclass(frozen=True)
+class Frame:
+    """The coordinates of an export beside those of its plan: how many of the plan's units of length
+    one along x, y and z is, the turn of a turned model, and what the unit is called."""
+
+    lengths: tuple[float, float, float] = (1.0, 1.0, 1.0)
+    turn: Optional[Turn] = None
+    unit: str = "m"
+
+    @classmethod
+    def of_record(cls, told: dict) -> Frame:
+        """A frame as BASE.json and the note of a plan have it. It raises ValueError, KeyError or
+        TypeError for what is none."""
+        x, y, z = map(float, told["lengths"])
+        return cls((x, y, z), Turn.of_record(told["turn"]), str(told["unit"]))
+
+    def own(self, points: np.ndarray) -> np.ndarray:
+        """The export's coordinates of points in those of the plan, (m, 3)."""
+        found = points / np.array(self.lengths)
+        if self.turn is not None:
+            found[:, 0], found[:, 1] = self.turn.undone(found[:, 0], found[:, 1])
+        return found
+
+
+def turn_of(x_bearing: Optional[float], y_azimuth: Optional[float],
+            about: tuple[float, float]) -> Turn:
+    """The turn of a model whose +x has this bearing, or whose +y has this azimuth, degrees
+    clockwise from north."""
     angle = 90 - x_bearing if x_bearing is not None else -(y_azimuth or 0)
     return Turn((angle + 180) % 360 - 180, about)
 
@@ -57,11 +100,13 @@ def turn_told(turn: Turn) -> str:
     return f"+x at bearing {(90 - turn.angle) % 360:.6g}, +y at azimuth {-turn.angle % 360:.6g}"
 
 
-def axis_of(values: np.ndarray, size: Optional[int], name: str, first: Optional[int] = None) -> Axis:
+def axis_of(values: np.ndarray, size: Optional[int], name: str,
+            first: Optional[int] = None) -> Axis:
     """The places that coordinates lie on, of this size or of one that is found.
 
-    A size is found where the coordinates are those of a grid of which nine tenths of the places are taken, also where each lies
-    beside its place by a little. It raises UserError where there is none, and says what the distances are like."""
+    A size is found where the coordinates are those of a grid of which nine tenths of the places are
+    taken, also where each lies beside its place by a little. It raises UserError where there is
+    none, and says what the distances are like."""
     unique = np.unique(values)
     if size is None:
         size = _size_of(unique, name)
@@ -72,8 +117,10 @@ def axis_of(values: np.ndarray, size: Optional[int], name: str, first: Optional[
     if off[worst] > BESIDE * size:
         beside = np.abs((unique - values[0] + size // 2) % size - size // 2)
         worst = int(beside.argmax())
-        raise UserError(f"{name} {shortest(unique[worst], 3)} is {shortest(beside[worst], 3)} beside the grid of {shortest(size, 3)} through "
-                        f"{shortest(values[0], 3)}: another size of blocks, a turned model, or sub-blocks (--parents)")
+        raise UserError(f"{name} {shortest(int(unique[worst]), 3)} is "
+                        f"{shortest(int(beside[worst]), 3)} beside the grid of {shortest(size, 3)} "
+                        f"through {shortest(int(values[0]), 3)}: another size of blocks, a turned "
+                        "model, or sub-blocks (--parents)")
     least = int(index.min())
     return Axis(origin + least * size, size, int(index.max()) - least + 1, int(off[worst]))
 
@@ -84,7 +131,8 @@ def indices(values: np.ndarray, axis: Axis) -> np.ndarray:
 
 
 def _origin_of(unique: np.ndarray, size: int, first: int) -> int:
-    """A place of the grid: that of the first row, or, where rows lie beside the grid through it, the roundest that is as near to them."""
+    """A place of the grid: that of the first row, or, where rows lie beside the grid through it,
+    the roundest that is as near to them."""
     off = (unique - first + size // 2) % size - size // 2
     middle, half = (int(off.min()) + int(off.max())) / 2, (int(off.max()) - int(off.min())) / 2
     if not off.any():
@@ -107,17 +155,19 @@ def _size_of(unique: np.ndarray, name: str) -> int:
     found = _size_in_noise(unique)
     if found:
         return found
-    raise UserError(f"{name} has {len(unique):,} values, and a grid of {shortest(size, 3)} would have {places:,} places: sub-blocks "
-                    "(--parents), a turned model (--x-bearing, --y-azimuth), or another size (--size)")
+    raise UserError(f"{name} has {len(unique):,} values, and a grid of {shortest(size, 3)} would "
+                    f"have {places:,} places: sub-blocks (--parents), a turned model (--x-bearing, "
+                    "--y-azimuth), or another size (--size)")
 
 
 def _size_in_noise(unique: np.ndarray) -> Optional[int]:
-    """The size of a grid beside whose places coordinates lie by little: neighbours are then near one another or about a size apart. It is
-    the roundest that fits as well as any."""
+    """The size of a grid beside whose places coordinates lie by little: neighbours are then near
+    one another or about a size apart. It is the roundest that fits as well as any."""
     gaps = np.sort(np.diff(unique)).astype(float)
     jump = int(np.argmax(gaps[1:] / gaps[:-1])) if len(gaps) > 1 else 0
     if len(gaps) < 3 or gaps[jump + 1] < 4 * gaps[jump]:
-        edge = gaps[0]                        # no noise that repeats: each value is a place of its own
+        # no noise that repeats: each value is a place of its own
+        edge = gaps[0]
     else:
         edge = gaps[jump + 1]
     groups = np.split(unique, np.flatnonzero(np.diff(unique) >= edge) + 1)
@@ -142,14 +192,14 @@ def _size_in_noise(unique: np.ndarray) -> Optional[int]:
 
 
 def turned_by(x: np.ndarray, y: np.ndarray, z: np.ndarray) -> Optional[float]:
-    """By how many degrees, from 0 to 90, the directions to nearest neighbours of one bench are turned counterclockwise, where they
-    agree; None where they do not, or are along the axes."""
+    """By how many degrees, from 0 to 90, the directions to nearest neighbours of one bench are
+    turned counterclockwise, where they agree; None where they do not, or are along the axes."""
     levels, counts = np.unique(z, return_counts=True)
     on_level = np.flatnonzero(z == levels[counts.argmax()])[:20_000]
     points = np.unique(np.column_stack([x[on_level], y[on_level]]).astype(float), axis=0)
     if len(points) < 4:
         return None
-    distance, near = cKDTree(points).query(points, 2)
+    _, near = cKDTree(points).query(points, 2)
     step = points[near[:, 1]] - points
     angle = np.degrees(np.arctan2(step[:, 1], step[:, 0])) % 90
     quarter = np.exp(4j * np.radians(angle))
@@ -160,14 +210,15 @@ def turned_by(x: np.ndarray, y: np.ndarray, z: np.ndarray) -> Optional[float]:
 
 
 def parents_of(values: np.ndarray, corner: int, size: int, name: str) -> np.ndarray:
-    """The parent that each sub-block lies in, by the least corner of one. It raises UserError for a centroid on a border."""
+    """The parent that each sub-block lies in, by the least corner of one. It raises UserError for a
+    centroid on a border."""
     index, rest = np.divmod(values - corner, size)
     room = max(1, size // 1000)
     at_border = (rest < room) | (rest > size - room)
     if at_border.any():
         value = values[np.flatnonzero(at_border)[0]]
-        raise UserError(f"{name} {shortest(value, 3)} is on the border of two parents of {shortest(size, 3)}: is --corner a centroid, or "
-                        "--parents another size?")
+        raise UserError(f"{name} {shortest(value, 3)} is on the border of two parents of "
+                        f"{shortest(size, 3)}: is --corner a centroid, or --parents another size?")
     return index
 
 
@@ -195,4 +246,5 @@ def sizes_of(text: str, what: str) -> list[int]:
 
 def box_told(axes: Sequence[Axis]) -> str:
     """How many blocks there are along each axis, and their sizes."""
-    return (" x ".join(f"{axis.places:,}" for axis in axes) + " blocks of " + " x ".join(shortest(axis.step, 3) for axis in axes))
+    return (" x ".join(f"{axis.places:,}" for axis in axes) + " blocks "
+            "of " + " x ".join(shortest(axis.step, 3) for axis in axes))

@@ -14,26 +14,31 @@ from pit_tools.errors import UserError
 from pit_tools.gridding import AXES
 
 # Coordinates that mostly say that nothing is known; the last stands for all beyond, as -1e30.
-MARKS = (*(-1000 * (10 ** digits - 1) for digits in range(1, 7)), *(1000 * (10 ** digits - 1) for digits in range(4, 7)), -10 ** 18)
+MARKS = (*(-1000 * (10 ** digits - 1) for digits in range(1, 7)),
+         *(1000 * (10 ** digits - 1) for digits in range(4, 7)), -10 ** 18)
 
 # How many rows at each end may have the least, the greatest or the mean of all.
 ENDS = 8
 
 
 def judge_ends(values: Sequence[np.ndarray], with_cells: Callable[[int], str]) -> None:
-    """Stops where the first or the last rows are the least and the greatest of all columns: rows of numbers about the rows."""
+    """Stops where the first or the last rows are the least and the greatest of all columns: rows of
+    numbers about the rows."""
     count = len(values[0])
     if count < 30:
         return
     for ends in (range(ENDS), range(count - ENDS, count)):
         at_ends = slice(ends[0], ends[-1] + 1)
-        least, most = (np.all([value[at_ends] == found for value, found in zip(values, map(of, values))], axis=0) for of in (np.min, np.max))
+        least, most = (np.all([value[at_ends] == found
+                               for value, found in zip(values, map(of, values))], axis=0)
+                       for of in (np.min, np.max))
         for low in np.flatnonzero(least):
             near = [high for high in np.flatnonzero(most) if 0 < abs(high - low) < 4]
             if near and int(values[0][ends[low]]) not in MARKS:
                 rows = sorted((ends[low], ends[near[-1]]))
-                raise UserError(f"{with_cells(rows[0])} and {with_cells(rows[1])} have the least and the greatest of x, y and z: are they rows of "
-                                "minima, maxima or means, and no blocks? Take them out of the export")
+                raise UserError(f"{with_cells(rows[0])} and {with_cells(rows[1])} have the least "
+                                "and the greatest of x, y and z: are they rows of minima, maxima "
+                                "or means, and no blocks? Take them out of the export")
 
 
 def causes(values: Sequence[np.ndarray], with_cells: Callable[[int], str]) -> Iterable[str]:
@@ -41,23 +46,27 @@ def causes(values: Sequence[np.ndarray], with_cells: Callable[[int], str]) -> It
     marked = _marks_in(values)
     if marked is not None:
         axis, at = marked
-        yield f"{AXES[axis]} is {shortest(values[axis][at], 3)} in {with_cells(at)}: a mark of what is missing? Leave such rows out by --where"
+        yield (f"{AXES[axis]} is {shortest(int(values[axis][at]), 3)} in {with_cells(at)}: a mark "
+               "of what is missing? Leave such rows out by --where")
         return
     dip = dip_of(values)
     if dip is not None:
-        yield (f"Neighbours lie {dip:.2f} degrees off the vertical, so the model dips, turned about a level axis: benches of pitc are level. Have the "
-               "package regularise it to level blocks")
+        yield (f"Neighbours lie {dip:.2f} degrees off the vertical, so the model dips, turned "
+               "about a level axis: benches of pitc are level. Have the package regularise it to "
+               "level blocks")
         return
     levels = len(np.unique(values[2]))
     if levels > 0.2 * len(values[2]) and levels > 100:
-        yield (f"z has {levels:,} values in {len(values[2]):,} rows, as {with_cells(0)}: are these seams or a surface, with a thickness by column? "
-               "pitc takes blocks on level benches: have the package cut them into such")
+        yield (f"z has {levels:,} values in {len(values[2]):,} rows, as {with_cells(0)}: are these "
+               "seams or a surface, with a thickness by column? pitc takes blocks on level "
+               "benches: have the package cut them into such")
         return
     yield from two_grids(values, with_cells)
 
 
 def _marks_in(values: Sequence[np.ndarray]) -> Optional[tuple[int, int]]:
-    """A coordinate that is a mark of what is missing and lies far from all others: its axis and row."""
+    """A coordinate that is a mark of what is missing and lies far from all others: its axis and
+    row."""
     for axis, value in enumerate(values):
         for mark in MARKS:
             is_mark = value == mark
@@ -70,7 +79,8 @@ def _marks_in(values: Sequence[np.ndarray]) -> Optional[tuple[int, int]]:
 
 
 def dip_of(values: Sequence[np.ndarray]) -> Optional[float]:
-    """By how many degrees the directions to nearest neighbours are off the vertical, where they are neither level nor upright."""
+    """By how many degrees the directions to nearest neighbours are off the vertical, where they are
+    neither level nor upright."""
     points = np.column_stack(values).astype(float)
     if len(points) > 50_000:
         near = np.argsort(np.abs(points - np.median(points, axis=0)).max(axis=1))[:50_000]
@@ -92,7 +102,8 @@ def dip_of(values: Sequence[np.ndarray]) -> Optional[float]:
     close = off[np.abs(off - best) < 0.3]
     # A dip has its two directions at right angles, and each row has neighbours along both.
     across = np.abs(off - (90 - best)) < 0.5
-    if len(close) < len(points) or across.sum() < 0.5 * len(points) or (off < 0.3).sum() > 0.1 * len(points):
+    if (len(close) < len(points) or across.sum() < 0.5 * len(points)
+            or (off < 0.3).sum() > 0.1 * len(points)):
         return None
     found = float(np.median(close))
     return min(found, 90 - found)
@@ -106,41 +117,48 @@ def two_grids(values: Sequence[np.ndarray], with_cells: Callable[[int], str]) ->
             continue
         step, first, is_on = found
         at = int(np.flatnonzero(~is_on)[0])
-        yield (f"Most rows lie along {name} on a grid of {shortest(step, 3)} through {shortest(first, 3)}, and {int((~is_on).sum()):,} beside it, as "
-               f"{with_cells(at)}: are there two grids, as an infill, or super-blocks? Export one size of block, or with columns of sizes give "
-               "--parents, which sums up smaller blocks and cuts greater ones")
+        yield (f"Most rows lie along {name} on a grid of {shortest(step, 3)} through "
+               f"{shortest(first, 3)}, and {int((~is_on).sum()):,} beside it, as {with_cells(at)}: "
+               "are there two grids, as an infill, or super-blocks? Export one size of block, or "
+               "with columns of sizes give --parents, which sums up smaller blocks and cuts "
+               "greater ones")
         return
 
 
 def _most_on(value: np.ndarray) -> Optional[tuple[int, int, np.ndarray]]:
-    """The greatest distance of coordinates at which more than half the rows, and not all, lie on one grid: it, a place of the grid, and
-    which rows are on it."""
+    """The greatest distance of coordinates at which more than half the rows, and not all, lie on
+    one grid: it, a place of the grid, and which rows are on it."""
     unique, counts = np.unique(value, return_counts=True)
     gaps = np.unique(np.diff(unique))
-    tried = sorted({int(gap) * many for gap in gaps[:20] for many in (1, 2, 3, 4)} | {int(unique[at + 2] - unique[at]) for at in range(min(20, len(unique) - 2))},
+    tried = sorted({int(gap) * many for gap in gaps[:20] for many in (1, 2, 3, 4)}
+                   | {int(unique[at + 2] - unique[at]) for at in range(min(20, len(unique) - 2))},
                    reverse=True)
     for step in tried:
         if step < 100 or (int(unique[-1]) - int(unique[0])) // step < 3:
             continue
         rest = unique % step
-        sums = {int(one): int(counts[rest == one].sum()) for one in np.unique(rest)} if len(np.unique(rest)) < 200 else {}
+        sums = ({int(one): int(counts[rest == one].sum()) for one in np.unique(rest)}
+                if len(np.unique(rest)) < 200 else {})
         if not sums:
             continue
-        best = max(sums, key=lambda one: sums[one])
+        best = max(sums, key=sums.__getitem__)
         on = unique[rest == best]
-        if len(value) / 2 < sums[best] < len(value) and len(on) >= 0.9 * ((int(on[-1]) - int(on[0])) // step + 1):
+        if (len(value) / 2 < sums[best] < len(value)
+                and len(on) >= 0.9 * ((int(on[-1]) - int(on[0])) // step + 1)):
             return step, int(on[0]), value % step == best
     return None
 
 
-def judge_neighbours(places: Sequence[np.ndarray], steps: Sequence[int], with_cells: Callable[[int], str]) -> None:
-    """Stops where rows of a thin box have neighbours two places away, and few at one: blocks are greater than the grid that was found,
-    as where blocks of two sizes lie among one another."""
+def judge_neighbours(places: Sequence[np.ndarray], steps: Sequence[int],
+                     with_cells: Callable[[int], str]) -> None:
+    """Stops where rows of a thin box have neighbours two places away, and few at one: blocks are
+    greater than the grid that was found, as where blocks of two sizes lie among one another."""
     many = [int(place.max()) + 1 for place in places]
     if len(places[0]) * 2 > many[0] * many[1] * many[2]:
         return
     strides = [1, many[0], many[0] * many[1]]
-    key = sum(place.astype(np.int64) * stride for place, stride in zip(places, strides))
+    key = np.sum([place.astype(np.int64) * stride for place, stride in zip(places, strides)],
+                 axis=0)
     taken = np.unique(key)
     for axis, name in enumerate(AXES):
         if many[axis] < 4:
@@ -152,20 +170,24 @@ def judge_neighbours(places: Sequence[np.ndarray], steps: Sequence[int], with_ce
             at = np.minimum(np.searchsorted(taken, wanted), len(taken) - 1)
             beside[far] = taken[at] == wanted
         if beside[1].mean() < 0.5 * beside[2].mean():
-            inside = np.flatnonzero(places[axis] + 1 < many[axis])
-            row = int(inside[np.flatnonzero(~beside[1])[0]])
-            raise UserError(f"rows lie along {name} on a grid of {shortest(steps[axis], 3)}, and most have their next {shortest(2 * steps[axis], 3)} away, as "
-                            f"{with_cells(row)}: are there two grids, super-blocks, or sub-blocks among blocks? Export one size of block, or with columns "
-                            "of sizes give --parents, which sums up smaller blocks and cuts greater ones")
+            rows = np.flatnonzero(places[axis] + 1 < many[axis])
+            row = int(rows[np.flatnonzero(~beside[1])[0]])
+            raise UserError(f"rows lie along {name} on a grid of {shortest(steps[axis], 3)}, and "
+                            f"most have their next {shortest(2 * steps[axis], 3)} away, as "
+                            f"{with_cells(row)}: are there two grids, super-blocks, or sub-blocks "
+                            "among blocks? Export one size of block, or with columns of sizes "
+                            "give --parents, which sums up smaller blocks and cuts greater ones")
 
 
 def likelier_order(rock: np.ndarray, blocks: Sequence[int], order: Sequence[str]) -> Optional[str]:
-    """Of a list, another order of the axes in which rock has far fewer borders with what is none than in this one; None where there is
-    none. `rock` says of each row, in the order of the list, whether it is rock."""
+    """Of a list, another order of the axes in which rock has far fewer borders with what is none
+    than in this one; None where there is none. `rock` says of each row, in the order of the list,
+    whether it is rock."""
     borders = {}
     for axes in permutations("xyz"):
         box = rock.reshape([blocks["xyz".index(axis)] for axis in reversed(axes)])
-        borders[",".join(axes)] = sum(int((np.diff(box.astype(np.int8), axis=axis) != 0).sum()) for axis in range(3))
+        borders[",".join(axes)] = sum(int((np.diff(box.astype(np.int8), axis=axis) != 0).sum())
+                                      for axis in range(3))
     given = ",".join(cell.lstrip("-") for cell in order)
     best = min(borders, key=lambda one: borders[one])
     return best if borders[best] * 3 < borders[given] * 2 else None

@@ -1,4 +1,5 @@
-"""Tonnes of rows: read, or by densities, volumes and shares; and what others of an export's columns say of them."""
+"""Tonnes of rows: read, or by densities, volumes and shares; and what others of an export's columns
+say of them."""
 from __future__ import annotations
 
 from typing import Callable, Optional
@@ -9,31 +10,43 @@ from pit_tools.errors import UserError
 from pit_tools.export_words import Words
 from pit_tools.import_reading import Reading
 from pit_tools.import_report import Report
+from pit_tools.import_sizes import Parts
 
 # How much parts of a block may add up to beyond it, since they are rounded.
 ROUNDED = 0.005
 
 
 class Masses:
-    """Tonnes of the rows. `taken` gives a column of what was read, a row for each part of the export's rows; `volume` are cubic metres of
-    each row's block; `unit_of` is the unit that stands behind a word."""
+    """Tonnes of the rows. `taken` gives a column of what was read, a row for each part of the
+    export's rows; `volume` are cubic metres of each row's block; `unit_of` is the unit that stands
+    behind a word."""
 
-    def __init__(self, words: Words, reading: Reading, report: Report, taken: Callable[[str], Optional[np.ndarray]], volume: np.ndarray,
-                 many: Optional[np.ndarray], number: Optional[np.ndarray], with_cells: Callable[[int], str], unit_of: Callable[[str], str]) -> None:
-        self.words, self.reading, self.report, self.taken, self.volume = words, reading, report, taken, volume
-        self.many, self.number, self.with_cells, self.unit_of = many, number, with_cells, unit_of
-        self.grade = taken("grade")
+    def __init__(self, words: Words, reading: Reading, report: Report,
+                 taken: Callable[[str], Optional[np.ndarray]], volume: np.ndarray,
+                 cut: Optional[Parts], with_cells: Callable[[int], str],
+                 unit_of: Callable[[str], str]) -> None:
+        self.words, self.reading, self.report, self.taken, self.volume = (words, reading, report,
+                                                                          taken, volume)
+        self.cut, self.with_cells, self.unit_of = cut, with_cells, unit_of
+        self.grade = self.column("grade")
         self.density: Optional[np.ndarray] = None
         self.fine = reading.fine["tonnes"]
+
+    def column(self, key: str) -> np.ndarray:
+        """A column that was read. It raises KeyError where it was not."""
+        found = self.taken(key)
+        if found is None:
+            raise KeyError(key)
+        return found
 
     def tonnes(self) -> np.ndarray:
         """Tonnes in parts, -1 where missing."""
         found = self.taken("tonnes")
         if found is not None:
-            return found if self.many is None else np.where(found < 0, -1, found // self.many + (self.number < found % self.many))
-        density = self.density = self.taken("density")
+            return found if self.cut is None else _shared(found, self.cut)
+        density = self.density = self.column("density")
         if self.words.tonnes:
-            mass = density if self.many is None else density / self.many
+            mass = density if self.cut is None else density / self.cut.many
         else:
             mass = self.by_density(density)
         share = self.shares("share")
@@ -43,37 +56,42 @@ class Masses:
         return np.where(known & (parts > 0), parts, -1)
 
     def by_density(self, density: np.ndarray) -> np.ndarray:
-        """Tonnes of each row. Of a percent model the rest of a block is waste, or air beside waste of which the share is known; its grade
-        is that of ore and waste together."""
+        """Tonnes of each row. Of a percent model the rest of a block is waste, or air beside waste
+        of which the share is known; its grade is that of ore and waste together."""
         share = self.shares("ore_share")
         if share is None:
             return density * self.volume
-        waste = self.taken("waste_density")
-        rest, share = self.waste_shares(share), np.nan_to_num(share)
-        ore = np.nan_to_num(density) * share
-        whole = ore + np.where(rest > 0, np.nan_to_num(waste) * rest, 0)
+        rest, of_ore = self.waste_shares(share), np.nan_to_num(share)
+        ore = np.nan_to_num(density) * of_ore
+        whole = ore + np.where(rest > 0, np.nan_to_num(self.column("waste_density")) * rest, 0)
         with np.errstate(divide="ignore", invalid="ignore"):
-            mixed = np.where((self.grade >= 0) & (whole > 0), np.rint(self.grade * ore / whole), -1).astype(np.int64)
-        self.grade = np.where((share == 0) & (whole > 0), 0, mixed)
-        self.report.facts.append(f"{int(((share > 0) & (rest > 0)).sum()):,} blocks are part ore and part waste: tonnes and grades are of both")
+            mixed = np.where((self.grade >= 0) & (whole > 0), np.rint(self.grade * ore / whole),
+                             -1).astype(np.int64)
+        self.grade = np.where((of_ore == 0) & (whole > 0), 0, mixed)
+        self.report.facts.append(f"{int(((of_ore > 0) & (rest > 0)).sum()):,} blocks are part ore "
+                                 "and part waste: tonnes and grades are of both")
         return np.where(whole > 0, whole * self.volume, np.nan)
 
     def waste_shares(self, ore: np.ndarray) -> np.ndarray:
-        """The share of waste beside that of ore, which may be missing; all that is not ore, where none is named."""
-        waste = self.shares("waste_share")
-        if waste is None:
+        """The share of waste beside that of ore, which may be missing; all that is not ore, where
+        none is named."""
+        known = self.shares("waste_share")
+        if known is None:
             self.judge_rests(np.nan_to_num(ore))
             return 1 - np.nan_to_num(ore)
-        waste = np.nan_to_num(waste)
+        waste = np.nan_to_num(known)
         over = np.nan_to_num(ore) + waste > 1 + ROUNDED
         if over.any():
-            raise UserError(f"{self.with_cells(int(np.flatnonzero(over)[0]))}: ore and waste are more than the whole block, as of {int(over.sum()):,} rows")
+            raise UserError(f"{self.with_cells(int(np.flatnonzero(over)[0]))}: ore and waste are "
+                            f"more than the whole block, as of {int(over.sum()):,} rows")
         air = np.nan_to_num(ore) + waste < 1 - ROUNDED
-        self.report.facts.append(f"{int((air & (np.nan_to_num(ore) + waste > 0)).sum()):,} blocks are air in part")
+        self.report.facts.append(f"{int((air & (np.nan_to_num(ore) + waste > 0)).sum()):,} blocks "
+                                 "are air in part")
         return waste
 
     def judge_rests(self, ore: np.ndarray) -> None:
-        """Stops where a column of waste or air that nobody named says that a block's rest is not all waste."""
+        """Stops where a column of waste or air that nobody named says that a block's rest is not
+        all waste."""
         unnamed = self.reading.unnamed
         for number, column in enumerate(unnamed.rests):
             rest = self.taken(f"rest_{number}")
@@ -81,13 +99,17 @@ class Masses:
             if rest is None or not np.isfinite(rest).any():
                 continue
             rest = rest / 100 if np.nanmax(rest) > 1.000001 else rest
-            wrong = (ore > 0) & ((rest > ROUNDED) if "air" in name.casefold() else (rest >= 0) & (ore + rest < 1 - ROUNDED))
+            wrong = (ore > 0) & ((rest > ROUNDED) if "air" in name.casefold() else (rest >= 0)
+                                 & (ore + rest < 1 - ROUNDED))
             if np.nanmax(rest) <= 1.000001 and wrong.any():
-                raise UserError(f"{self.with_cells(int(np.flatnonzero(wrong)[0]))}: by {name} a part of the block is air, as of {int(wrong.sum()):,} rows, and "
-                                "--ore-share alone takes all but the ore for waste: give --waste-share too, and the rest is air")
+                raise UserError(f"{self.with_cells(int(np.flatnonzero(wrong)[0]))}: by {name} a "
+                                f"part of the block is air, as of {int(wrong.sum()):,} rows, and "
+                                "--ore-share alone takes all but the ore for waste: give "
+                                "--waste-share too, and the rest is air")
 
     def shares(self, key: str) -> Optional[np.ndarray]:
-        """Shares from 0 to 1; those of a hundred are known by their greatest, where no unit says it."""
+        """Shares from 0 to 1; those of a hundred are known by their greatest, where no unit says
+        it."""
         share = self.taken(key)
         if share is None:
             return None
@@ -101,15 +123,19 @@ class Masses:
         return np.minimum(share, 1)
 
     def by_other(self) -> Optional[np.ndarray]:
-        """Tonnes of each row by the column that nobody named: by the density beside tonnes, or the tonnes beside a density; by the volume,
-        where that is all."""
+        """Tonnes of each row by the column that nobody named: by the density beside tonnes, or the
+        tonnes beside a density; by the volume, where that is all."""
         weight, volume = self.taken("own_weight"), self.taken("own_volume")
-        many = 1 if self.many is None else self.many
-        if weight is None and volume is None:
-            return None
+        many = 1 if self.cut is None else self.cut.many
         if weight is None:
-            return self.density * volume / many
+            return None if volume is None or self.density is None else self.density * volume / many
         if self.words.tonnes:
             # Densities above 100 are kilograms a cubic metre.
-            return weight * (0.001 if np.nanmedian(weight) > 100 else 1) * self.volume if np.isfinite(weight).any() else None
+            return (weight * (0.001 if np.nanmedian(weight) > 100 else 1) * self.volume
+                    if np.isfinite(weight).any() else None)
         return weight / many
+
+
+def _shared(tonnes: np.ndarray, cut: Parts) -> np.ndarray:
+    """Tonnes of the parts of rows that are cut: whole numbers that differ by one at the most."""
+    return np.where(tonnes < 0, -1, tonnes // cut.many + (cut.number < tonnes % cut.many))

@@ -10,7 +10,8 @@ import pandas as pd
 from pit_tools.decimals import plain, shortest
 from pit_tools.errors import UserError
 from pit_tools.export_words import Measure, columns_of
-from pit_tools.gridding import Axis, Turn, axis_of, box_told, indices, sizes_of, thousandths, turn_of, turn_told, turned_by
+from pit_tools.gridding import (Axis, Frame, Turn, axis_of, box_told, indices, sizes_of,
+                                thousandths, turn_of, turn_told, turned_by)
 from pit_tools.import_causes import causes, judge_ends, judge_neighbours, likelier_order
 from pit_tools.import_doubts import Doubts
 from pit_tools.import_masses import Masses
@@ -31,14 +32,15 @@ class Placing:
     """Puts rows on the grid, leaves out what is no rock, and tells of it."""
 
     def __init__(self, reading: Reading, sources: list[Source], report: Report) -> None:
-        self.reading, self.sources, self.report, self.words = reading, sources, report, reading.words
+        self.reading, self.sources, self.report, self.words = (reading, sources, report,
+                                                               reading.words)
         self.turn: Optional[Turn] = None
         self.factors = [1.0, 1.0, 1.0]
         self.sizes: Optional[Sizes] = None
         self.parts: Optional[Parts] = None
         # where rows of sub-blocks are, one number for each centroid
         self.spot: Optional[np.ndarray] = None
-        self.record, self.file = reading.joined("record"), reading.joined("file")
+        self.record, self.file = reading.column("record"), reading.column("file")
         self.count = len(self.record)
 
     def line(self, at: int) -> str:
@@ -51,12 +53,14 @@ class Placing:
         return f"{self.line(at)} ({', '.join(cells[:12])}{more})"
 
     def imported(self) -> Imported:
+        """The export as blocks of a grid. It raises UserError where it is none."""
         report = self.report
         axes, places = self.placed()
         rows = self.rows_of(axes, places)
         if self.words.is_listed:
             self.judge_order(rows)
-        records = pd.DataFrame({"file": self.file, "record": self.record, **{name: rows[name].to_numpy() for name in ("ix", "iy", "iz")}})
+        records = pd.DataFrame({"file": self.file, "record": self.record,
+                                **{name: rows[name].to_numpy() for name in ("ix", "iy", "iz")}})
         self.tell_rows()
         rows = self.without_repeats(rows)
         rows, air = self.without_air(rows)
@@ -74,52 +78,62 @@ class Placing:
         self.tell_grid(rows, axes)
         Doubts(rows, air, axes, self.factors, zones, report, self.reading, self.with_cells).look()
         rows = rows[["ix", "iy", "iz", "tonnes", "grade", "zone"]]
-        return Imported(self.words, self.sources, grid, axes, self.turn, zones, rows.reset_index(drop=True), records, report, benches)
+        return Imported(self.words, self.sources, grid, axes, self.frame, zones,
+                        rows.reset_index(drop=True), records, report, benches)
 
     def taken(self, name: str) -> Optional[np.ndarray]:
-        """A column of what was read, a row for each part of the export's rows; None where it was not read of all."""
+        """A column of what was read, a row for each part of the export's rows; None where it was
+        not read of all."""
         column = self.reading.joined(name)
         if column is None or len(column) != self.count:
             return None
         return column if self.parts is None else column[self.parts.row]
 
     def rows_of(self, axes: Sequence[Axis], places: Sequence[np.ndarray]) -> pd.DataFrame:
-        """A row for each part: its place, tonnes, grade, zone and number, and its tonnes by a column that nobody named."""
+        """A row for each part: its place, tonnes, grade, zone and number, and its tonnes by a
+        column that nobody named."""
         parts, count = self.parts, self.count
         if parts is not None:
             self.record, self.file = self.record[parts.row], self.file[parts.row]
-        is_cut = parts is not None and len(parts.row) > count
-        if is_cut:
-            cut = parts.number[parts.many > 1]
-            self.report.facts.append(f"{int((cut == 0).sum()):,} rows take several places, and are cut into {len(cut):,} parts of equal tonnes")
+        cut = parts if parts is not None and len(parts.row) > count else None
+        if cut is not None:
+            numbers = cut.number[cut.many > 1]
+            self.report.facts.append(f"{int((numbers == 0).sum()):,} rows take several places, and "
+                                     f"are cut into {len(numbers):,} parts of equal tonnes")
         volume = self.volumes(axes, len(self.record))
-        masses = Masses(self.words, self.reading, self.report, self.taken, volume, parts.many if is_cut else None, parts.number if is_cut else None,
-                        self.with_cells, lambda key: self.measure_of(key).unit)
+        masses = Masses(self.words, self.reading, self.report, self.taken, volume, cut,
+                        self.with_cells, self.unit_of)
         tonnes = masses.tonnes()
         # Parts of a block whose volumes are not known have no tonnes by a density.
         other = None if self.words.is_merged and self.sizes is None else masses.by_other()
-        rows = pd.DataFrame({"ix": places[0], "iy": places[1], "iz": places[2], "tonnes": tonnes, "grade": masses.grade,
-                             "zone": self.taken("zone"), "row": np.arange(len(tonnes))})
+        rows = pd.DataFrame({"ix": places[0], "iy": places[1], "iz": places[2], "tonnes": tonnes,
+                             "grade": masses.grade, "zone": self.taken("zone"),
+                             "row": np.arange(len(tonnes))})
         if other is not None:
             rows["other"] = other
-        if self.words.parents and self.sizes is not None:
-            self.judge_volumes(rows, axes)
+        if (self.words.parents and self.sizes is not None and parts is not None
+                and self.spot is not None):
+            self.judge_volumes(rows, axes, self.sizes, parts, self.spot)
         return rows
 
-    def judge_volumes(self, rows: pd.DataFrame, axes: Sequence[Axis]) -> None:
+    def judge_volumes(self, rows: pd.DataFrame, axes: Sequence[Axis], sizes: Sizes, parts: Parts,
+                      spot: np.ndarray) -> None:
         """Stops where rows of a place have more volume than it, but rows that stand twice."""
-        sized = self.sizes.volumes(self.factors)
-        sized = sized[self.parts.row] / self.parts.many if len(self.parts.row) > self.count else sized
-        again = is_again(rows, self.spot)
+        sized = sizes.volumes(self.factors)
+        sized = sized[parts.row] / parts.many if len(parts.row) > self.count else sized
+        again = is_again(rows, spot)
         codes, _ = pd.factorize(key_of(rows))
         sums = np.bincount(codes, np.where(again, 0, np.nan_to_num(sized)))
-        whole = axes[0].step * axes[1].step * axes[2].step / 1e9 * self.factors[0] * self.factors[1] * self.factors[2]
+        whole = (axes[0].step * axes[1].step * axes[2]
+                 .step / 1e9 * self.factors[0] * self.factors[1] * self.factors[2])
         over = np.flatnonzero(sums > 1.02 * whole)
         if len(over):
             within = np.flatnonzero((codes == over[0]) & ~again)
-            raise UserError(f"the sub-blocks of {len(over):,} parents have more than their volume, one {figure(sums[over[0]] / whole)} of it: "
-                            f"{self.with_cells(int(within[0]))} and {self.with_cells(int(within[1]))} are two of these: do exports overlap, or are "
-                            f"{self.sizes.names} no sizes?")
+            raise UserError(f"the sub-blocks of {len(over):,} parents have more than their volume, "
+                            f"one {figure(sums[over[0]] / whole)} of it: "
+                            f"{self.with_cells(int(within[0]))} and "
+                            f"{self.with_cells(int(within[1]))} are two of these: do exports "
+                            f"overlap, or are {sizes.names} no sizes?")
 
     # The grid.
 
@@ -135,7 +149,7 @@ class Placing:
             if self.sizes is not None:
                 judge_sizes(self.sizes, axes, self.with_cells)
             return axes, places
-        values = [self.reading.joined(key) for key in COORDINATES]
+        values = [self.reading.column(key) for key in COORDINATES]
         judge_ends(values, self.with_cells)
         if words.is_turned:
             values[:2] = self.turned(values)
@@ -151,39 +165,61 @@ class Placing:
         return axes, places
 
     def axes_of(self, values: Sequence[np.ndarray]) -> list[Axis]:
-        """The grid that coordinates lie on. It raises UserError with what may be the cause where there is none."""
+        """The grid that coordinates lie on. It raises UserError with what may be the cause where
+        there is none."""
         words = self.words
-        sizes: list[Optional[int]] = list(sizes_of(words.size, "--size")) if words.size else [None] * 3
-        firsts: list[Optional[int]] = list(thousandths(words.first, "--first")) if words.first else [None] * 3
+        sizes: list[Optional[int]] = (list(sizes_of(words.size, "--size")) if words.size
+                                      else [None] * 3)
+        firsts: list[Optional[int]] = (list(thousandths(words.first, "--first")) if words.first
+                                       else [None] * 3)
         try:
-            axes = [axis_of(values[axis], sizes[axis], "xyz"[axis], firsts[axis]) for axis in range(3)]
+            axes = [axis_of(values[axis], sizes[axis], "xyz"[axis], firsts[axis])
+                    for axis in range(3)]
         except UserError as error:
             if self.sizes is not None:
-                raise UserError(f"{error}. {self.sizes.names} has sizes along x of {sizes_told(self.sizes.along[0])}: --parents X,Y,Z, with the size that "
-                                "blocks are to have, sums up smaller ones and cuts greater ones") from None
-            why = self.turn_hint(values) or ("" if words.size else "".join(f". {cause}" for cause in causes(values, self.with_cells)))
+                raise UserError(f"{error}. {self.sizes.names} has sizes along x of "
+                                f"{sizes_told(self.sizes.along[0])}: --parents X,Y,Z, with the "
+                                "size that blocks are to have, sums up smaller ones and cuts "
+                                "greater ones") from None
+            why = self.turn_hint(values) or ("" if words.size else "".join(
+                f". {cause}" for cause in causes(values, self.with_cells)))
             raise UserError(f"{error}{why}") from None
-        if self.reading.unclear_point and not words.decimal and min(axis.step for axis in axes) < 500:
-            raise UserError(f"{box_told(axes)} m: has `{self.reading.unclear_point}` a decimal point, or "
-                            "one between thousands? Say which by --decimal . or --thousands .")
+        if (self.reading.unclear_point and not words.decimal
+                and min(axis.step for axis in axes) < 500):
+            raise UserError(f"{box_told(axes)} m: has `{self.reading.unclear_point}` a decimal "
+                            "point, or one between thousands? Say which by --decimal . or "
+                            "--thousands .")
         return axes
 
     def sizes_of_rows(self) -> Optional[Sizes]:
-        """The sizes that rows have of their own: by columns that are named, or that the header names as sizes."""
+        """The sizes that rows have of their own: by columns that are named, or that the header
+        names as sizes."""
         unnamed = self.reading.unnamed
-        along = [self.reading.joined("size_" + axis) for axis in COORDINATES]
-        if along[0] is not None:
+        along = self.of_axes("size_")
+        if along:
             units = [self.measure_of("size_" + axis) for axis in COORDINATES]
-            factors = [float(one.factor) / own if one.unit else 1.0 for one, own in zip(units, self.factors)]
-            return Sizes([size * factor for size, factor in zip(along, factors)], self.words.sub_size, True)
-        along = [self.reading.joined("own_size_" + axis) for axis in COORDINATES]
-        if along[0] is None or not all(np.isfinite(size).any() for size in along):
+            factors = [float(one.factor) / own if one and one.unit else 1.0
+                       for one, own in zip(units, self.factors)]
+            return Sizes([size * factor for size, factor in zip(along, factors)],
+                         self.words.sub_size, True)
+        along = self.of_axes("own_size_")
+        if not along or not all(np.isfinite(size).any() for size in along):
             return None
         return Sizes([size * 1000 for size in along], unnamed.told(unnamed.sizes), False)
+
+    def of_axes(self, front: str) -> list[np.ndarray]:
+        """A column for each axis, or none where they were not read."""
+        found = [self.reading.joined(front + axis) for axis in COORDINATES]
+        return [column for column in found if column is not None]
 
     def measure_of(self, key: str) -> Optional[Measure]:
         text = self.words.formulas().get(key)
         return columns_of(self.words, self.sources[0].names).measures[key] if text else None
+
+    def unit_of(self, key: str) -> str:
+        """The unit that stands behind a word, or none."""
+        measure = self.measure_of(key)
+        return measure.unit if measure else ""
 
     def turned(self, values: list[np.ndarray]) -> list[np.ndarray]:
         """x and y along the model's own axes."""
@@ -193,24 +229,28 @@ class Placing:
             try:
                 about = (float(cells[0]), float(cells[1]))
             except (ValueError, IndexError):
-                raise UserError(f"--about: give x and y of the point that stays, as 1000,2000, and not `{words.about}`") from None
+                raise UserError("--about: give x and y of the point that stays, as 1000,2000, and "
+                                f"not `{words.about}`") from None
         else:
             about = (values[0][0] / 1000, values[1][0] / 1000)
         self.turn = turn_of(words.x_bearing, words.y_azimuth, about)
-        self.report.facts.append(f"turned about {about[0]:g}, {about[1]:g}: the model's {turn_told(self.turn)}; slopes of +x, -x, +y and -y "
-                                 "are along its own axes")
+        self.report.facts.append(f"turned about {about[0]:g}, {about[1]:g}: the model's "
+                                 f"{turn_told(self.turn)}; slopes of +x, -x, +y and -y are along "
+                                 "its own axes")
         own = self.turn.own(values[0] / 1000, values[1] / 1000)
         return [np.rint(one * 1000).astype(np.int64) for one in own]
 
-    def turn_hint(self, values: list[np.ndarray]) -> str:
+    def turn_hint(self, values: Sequence[np.ndarray]) -> str:
         """What the directions to neighbours say, where no grid fits."""
         angle = turned_by(values[0], values[1], values[2])
         if angle is None:
             return ""
         if self.turn:
-            return f". So turned, neighbours still lie {angle:.2f} degrees off the axes: is it the bearing of +x, or the azimuth of +y?"
-        return (f". Neighbours lie at bearings {90 - angle:.2f} and {180 - angle:.2f}, so the model is turned: give --x-bearing with that "
-                "of its +x, or --y-azimuth with that of its +y")
+            return (f". So turned, neighbours still lie {angle:.2f} degrees off the axes: is it "
+                    "the bearing of +x, or the azimuth of +y?")
+        return (f". Neighbours lie at bearings {90 - angle:.2f} and {180 - angle:.2f}, so the "
+                "model is turned: give --x-bearing with that of its +x, or --y-azimuth with that "
+                "of its +y")
 
     def judge_blocks(self, axes: Sequence[Axis]) -> None:
         """Compares the numbers of blocks with those that were given."""
@@ -221,32 +261,39 @@ class Placing:
         if all(one <= other for one, other in zip(found, given)):
             return
         turned = self.turn and found[0] <= given[1] and found[1] <= given[0]
-        hint = ": x and y are swapped, so the turn is a quarter off: the bearing of +x is not the azimuth of +y" if turned else ""
-        raise UserError(f"rows take {' x '.join(map(str, found))} blocks, and --blocks says {' x '.join(map(str, given))}{hint}")
+        hint = (": x and y are swapped, so the turn is a quarter off: the bearing of +x is not the "
+                "azimuth of +y" if turned else "")
+        raise UserError(f"rows take {' x '.join(map(str, found))} blocks, and --blocks says "
+                        f"{' x '.join(map(str, given))}{hint}")
 
     def listed(self) -> tuple[list[Axis], list[np.ndarray]]:
         """The places of rows that have no coordinates, by their order."""
         words, count = self.words, self.reading.counts["records"]
         blocks = [size // 1000 for size in sizes_of(words.blocks, "--blocks")]
         if count != blocks[0] * blocks[1] * blocks[2]:
-            raise UserError(f"{count:,} rows, and --blocks says {blocks[0] * blocks[1] * blocks[2]:,}: rows without coordinates have to be all "
-                            "that there are")
+            raise UserError(f"{count:,} rows, and --blocks says "
+                            f"{blocks[0] * blocks[1] * blocks[2]:,}: rows without coordinates have "
+                            "to be all that there are")
         if len(self.sources) > 1:
             raise UserError("rows without coordinates are read from one export alone")
         number = self.record - self.reading.first_record
         order = [cell.strip() for cell in words.order.split(",")]
         if sorted(cell.lstrip("-") for cell in order) != ["x", "y", "z"]:
-            raise UserError(f"--order names the axes, the one that runs first before the others, as x,y,z or x,y,-z, and not `{words.order}`")
+            raise UserError("--order names the axes, the one that runs first before the others, "
+                            f"as x,y,z or x,y,-z, and not `{words.order}`")
         places: list[np.ndarray] = [np.array([])] * 3
         for cell in order:
             axis = "xyz".index(cell.lstrip("-"))
             number, places[axis] = np.divmod(number, blocks[axis])
             if cell.startswith("-"):
                 places[axis] = blocks[axis] - 1 - places[axis]
-        ways = {"x": "x upward", "y": "y upward", "z": "z upward", "-x": "x downward", "-y": "y downward", "-z": "z downward"}
-        self.report.facts.append("places by the order of rows: " + ", then ".join(ways[cell] for cell in order))
+        ways = {"x": "x upward", "y": "y upward", "z": "z upward", "-x": "x downward",
+                "-y": "y downward", "-z": "z downward"}
+        self.report.facts.append("places by the order of "
+                                 "rows: " + ", then ".join(ways[cell] for cell in order))
         firsts, sizes = thousandths(words.first, "--first"), sizes_of(words.size, "--size")
-        return [Axis(first, size, many, 0) for first, size, many in zip(firsts, sizes, blocks)], places
+        return [Axis(first, size, many, 0)
+                for first, size, many in zip(firsts, sizes, blocks)], places
 
     def judge_order(self, rows: pd.DataFrame) -> None:
         """Looks whether rock would hang together far better in another order."""
@@ -256,36 +303,43 @@ class Placing:
         order = [cell.strip() for cell in self.words.order.split(",")]
         found = likelier_order(rock, blocks, order)
         if found:
-            self.report.doubts.append(f"in the order {self.words.order} rock and air lie scattered, and in the order {found} they hang together: is it "
-                                      f"--order {found}, or with signs, as {found.replace('z', '-z')}?")
+            self.report.doubts.append(f"in the order {self.words.order} rock and air lie "
+                                      f"scattered, and in the order {found} they hang together: is "
+                                      f"it --order {found}, or with signs, as "
+                                      f"{found.replace('z', '-z')}?")
 
     def indexed(self) -> tuple[list[Axis], list[np.ndarray]]:
         """The places of rows by their indices."""
         words, axes, places = self.words, [], []
         firsts, sizes = thousandths(words.first, "--first"), sizes_of(words.size, "--size")
-        columns = [self.reading.joined(key) for key in "ijk"]
+        columns = [self.reading.column(key) for key in "ijk"]
         leasts = [int(column.min()) // 1000 for column in columns]
         start = words.index_from if words.index_from is not None else min(leasts)
         if words.index_from is None and (min(leasts) not in (0, 1) or {0, 1} <= set(leasts)):
-            raise UserError(f"the least indices are {', '.join(map(str, leasts))}: say by --index-from whether the first block has 0 or 1")
+            raise UserError(f"the least indices are {', '.join(map(str, leasts))}: say by "
+                            "--index-from whether the first block has 0 or 1")
         for axis, column in enumerate(columns):
             off = column % 1000 != 0
             if off.any():
                 at = int(np.flatnonzero(off)[0])
-                raise UserError(f"{self.line(at)}: the index {'ijk'[axis]} is {shortest(column[at], 3)}, no whole number: a coordinate?")
+                raise UserError(f"{self.line(at)}: the index {'ijk'[axis]} is "
+                                f"{shortest(int(column[at]), 3)}, no whole number: a coordinate?")
             place = column // 1000 - start
             many = int(place.max()) + 1
             if words.blocks:
                 many = sizes_of(words.blocks, "--blocks")[axis] // 1000
             if int(place.min()) < 0 or int(place.max()) >= many:
-                raise UserError(f"the index {'ijk'[axis]} is from {int(place.min()) + start} to {int(place.max()) + start}, and not from {start} "
-                                f"to {many - 1 + start}")
+                raise UserError(f"the index {'ijk'[axis]} is from {int(place.min()) + start} to "
+                                f"{int(place.max()) + start}, and not from {start} to "
+                                f"{many - 1 + start}")
             if axis == 2 and words.from_top:
                 place = many - 1 - place
-                self.report.facts.append(f"benches count from the top: {many - 1 + start} is the lowest, at z = {shortest(firsts[2], 3)}")
+                self.report.facts.append(f"benches count from the top: {many - 1 + start} is the "
+                                         f"lowest, at z = {shortest(firsts[2], 3)}")
             if axis == 1 and words.from_north:
                 place = many - 1 - place
-                self.report.facts.append(f"rows count from the north: {many - 1 + start} is the southernmost, at y = {shortest(firsts[1], 3)}")
+                self.report.facts.append(f"rows count from the north: {many - 1 + start} is the "
+                                         f"southernmost, at y = {shortest(firsts[1], 3)}")
             axes.append(Axis(firsts[axis], sizes[axis], many, 0))
             places.append(place)
         self.report.facts.append(f"indices count from {start}")
@@ -297,22 +351,33 @@ class Placing:
         if words.corner:
             corners = thousandths(words.corner, "--corner")
         elif sizes is None:
-            raise UserError("--parents needs --corner, the least corner of a parent, or --sub-size, the columns with the sizes of sub-blocks")
+            raise UserError("--parents needs --corner, the least corner of a parent, or "
+                            "--sub-size, the columns with the sizes of sub-blocks")
         else:
-            corners = [int(np.rint(np.nanmin(value - size / 2))) for value, size in zip(values, sizes.along)]
+            corners = [int(np.rint(np.nanmin(value - size / 2)))
+                       for value, size in zip(values, sizes.along)]
         if sizes is not None and not sizes.are_named:
             self.report.facts.append(f"sizes of rows are those of {sizes.names}")
         for parent in parents:
             if parent % 2:
-                raise UserError(f"--parents: half of {shortest(parent, 3)} has more than 3 decimals")
+                raise UserError(f"--parents: half of {shortest(parent, 3)} has more than 3 "
+                                "decimals")
         self.parts = parts_of(values, sizes, corners, parents, self.with_cells, bool(words.corner))
-        self.spot = pd.factorize(pd.MultiIndex.from_arrays(values))[0][self.parts.row] if len(values[0]) else None
+        self.spot = (pd.factorize(pd.MultiIndex.from_arrays(values))[0][self.parts.row]
+                     if len(values[0]) else None)
         axes, places = [], []
         for axis, place in enumerate(self.parts.places):
             least = int(place.min())
-            axes.append(Axis(corners[axis] + least * parents[axis] + parents[axis] // 2, parents[axis], int(place.max()) - least + 1, 0))
+            axes.append(Axis(corners[axis] + least * parents[axis] + parents[axis] // 2,
+                             parents[axis], int(place.max()) - least + 1, 0))
             places.append(place - least)
         return axes, places
+
+    @property
+    def frame(self) -> Frame:
+        """How the export's coordinates lie beside those of the plan."""
+        x, y, z = self.factors
+        return Frame((x, y, z), self.turn, "ft" if self.words.in_feet or x == 0.3048 else "m")
 
     def grid(self, axes: Sequence[Axis]) -> Grid:
         """The grid in metres."""
@@ -320,14 +385,17 @@ class Placing:
         for axis, factor, name in zip(axes, self.factors, "xyz"):
             step = Decimal(axis.step) * Decimal(str(factor))
             if step != step.to_integral_value():
-                raise UserError(f"blocks of {shortest(axis.step, 3)} along {name} are {plain(step / 1000)} m, which has more than 3 decimals: leave "
+                raise UserError(f"blocks of {shortest(axis.step, 3)} along {name} are "
+                                f"{plain(step / 1000)} m, which has more than 3 decimals: leave "
                                 "all lengths in feet, without a unit, and give --in-feet")
             size.append(step / 1000)
             origin.append((Decimal(axis.first) * Decimal(str(factor))).to_integral_value() / 1000)
             if axis.places > MOST_INDEX + 1:
-                raise UserError(f"{axis.places:,} blocks along {name} are more than the 10,000 of pitc: is {name} the right column?")
+                raise UserError(f"{axis.places:,} blocks along {name} are more than the 10,000 of "
+                                f"pitc: is {name} the right column?")
             if not 1 <= step <= 100_000:
-                raise UserError(f"blocks of {plain(step / 1000)} m along {name}: pitc takes 0.001 to 100 m")
+                raise UserError(f"blocks of {plain(step / 1000)} m along {name}: pitc takes 0.001 "
+                                "to 100 m")
         return Grid((origin[0], origin[1], origin[2]), (size[0], size[1], size[2]))
 
     # The rows.
@@ -343,7 +411,8 @@ class Placing:
             sized = self.sizes.volumes(self.factors) * foot
             return sized if self.parts is None else sized[self.parts.row] / many
         if self.words.parents and not self.words.tonnes:
-            raise UserError("the tonnes of a sub-block need its own volume: give --volume or --sub-size")
+            raise UserError("the tonnes of a sub-block need its own volume: give --volume or "
+                            "--sub-size")
         return np.full(count, self.volume_of(axes))
 
     def volume_of(self, axes: Sequence[Axis]) -> float:
@@ -353,24 +422,29 @@ class Placing:
         return metres[0] * metres[1] * metres[2] * foot
 
     def tell_rows(self) -> None:
+        """Tells how many rows were read, what was left out, and how cells were read."""
         counts, facts = self.reading.counts, self.report.facts
         facts.append(f"{counts['rows'] + counts['filtered']:,} rows read")
-        for what in ("empty lines", "headers that stand again", "lines behind the last row, as totals"):
+        for what in ("empty lines", "headers that stand again",
+                     "lines behind the last row, as totals"):
             if counts[what]:
                 facts.append(f"left out: {counts[what]:,} {what}")
         if self.words.where:
             facts.append(f"left out: {counts['filtered']:,} rows by the filter")
         for name, texts in self.reading.missing.items():
             if set(texts) - {""}:
-                told = ", ".join(f"`{text}`" if text else "empty" for text, _ in texts.most_common(4))
+                told = ", ".join(f"`{text}`" if text else "empty"
+                                 for text, _ in texts.most_common(4))
                 facts.append(f"missing in {name}: {sum(texts.values()):,} cells ({told})")
         for name, shown in self.reading.percents.items():
             facts.append(f"{name} is shown in percent: {shown}")
         for (name, _), spelled in self.reading.spellings.items():
             if len(spelled) > 1:
-                facts.append(f"in {name} a filter takes for one: {', '.join(f'`{text}`' for text in sorted(spelled))}")
+                facts.append(f"in {name} a filter takes for one: "
+                             f"{', '.join(f'`{text}`' for text in sorted(spelled))}")
         if self.reading.unknown_densities:
-            told = ", ".join(f"`{key}` ({many:,} rows)" for key, many in self.reading.unknown_densities.most_common(5))
+            told = ", ".join(f"`{key}` ({many:,} rows)"
+                             for key, many in self.reading.unknown_densities.most_common(5))
             facts.append(f"without a density: {told.replace(chr(9), ' ')}")
 
     def without_air(self, rows: pd.DataFrame) -> tuple[pd.DataFrame, pd.DataFrame]:
@@ -382,16 +456,19 @@ class Placing:
         self.report.facts.append(f"left out: {len(air):,} rows without tonnes (air, holes)")
         barren = (rows["grade"] < 0).to_numpy()
         if self.reading.counts["money"]:
-            self.report.facts.append(f"kept with a return of 0: {int(barren.sum()):,} rows whose return is missing or below 0")
+            self.report.facts.append(f"kept with a return of 0: {int(barren.sum()):,} rows whose "
+                                     "return is missing or below 0")
         else:
-            self.report.facts.append(f"kept with grade 0: {int(barren.sum()):,} rows without a grade")
+            self.report.facts.append(f"kept with grade 0: {int(barren.sum()):,} rows without a "
+                                     "grade")
         rows.loc[barren, "grade"] = 0
         return rows, air
 
     def no_tonnes_told(self) -> str:
         """Why no row may have tonnes."""
         if self.words.density_by:
-            told = ", ".join(f"`{key}` ({many:,} rows)" for key, many in self.reading.unknown_densities.most_common(5))
+            told = ", ".join(f"`{key}` ({many:,} rows)"
+                             for key, many in self.reading.unknown_densities.most_common(5))
             return f"--density-by has none of {told.replace(chr(9), ' ')}"
         return f"is {'--density' if self.words.density else '--tonnes'} the right column?"
 
@@ -400,16 +477,20 @@ class Placing:
         if not self.words.drop_repeats:
             return rows
         again = is_again(rows, key_of(rows) if self.spot is None else self.spot)
-        self.report.facts.append(f"left out: {int(again.sum()):,} rows that are the same as an earlier one")
+        self.report.facts.append(f"left out: {int(again.sum()):,} rows that are the same as an "
+                                 "earlier one")
         return rows[~again]
 
     def one_row_a_block(self, rows: pd.DataFrame, axes: Sequence[Axis]) -> pd.DataFrame:
-        """Sums up the rows of each block, where that is asked for; else it stops where a place stands twice."""
+        """Sums up the rows of each block, where that is asked for; else it stops where a place
+        stands twice."""
         words, key = self.words, key_of(rows)
         spot = key if self.spot is None else self.spot[rows["row"].to_numpy()]
         again = np.zeros(len(rows), bool) if words.drop_repeats else is_again(rows, spot)
-        by_density = not words.tonnes and not words.volume and not (self.sizes is not None and words.is_merged)
-        repeats = Repeats(rows, key, spot, again, self.reading.fine["tonnes"], self.volume_of(axes), self.report, self.with_cells, self.line)
+        by_density = (not words.tonnes and not words.volume
+                      and not (self.sizes is not None and words.is_merged))
+        repeats = Repeats(rows, key, spot, again, self.reading.fine["tonnes"], self.volume_of(axes),
+                          self.report, self.with_cells, self.line)
         repeats.judge(by_density, words.is_merged, bool(words.parents))
         if not words.is_merged:
             return rows
@@ -418,17 +499,23 @@ class Placing:
         summed = np.bincount(pd.factorize(key)[0])
         several = summed > 1
         weights = merged["tonnes"].to_numpy() / 1000 / self.volume_of(axes)
-        told = f"; {int(several.sum()):,} are sums of 2 to {int(summed.max()):,}" if several.any() else ""
+        told = (f"; {int(several.sum()):,} are sums of 2 to {int(summed.max()):,}" if several.any()
+                else "")
         if several.any() and not words.parents and len(weights) == len(summed):
-            told += f", and weigh {figure(weights[several].min())} to {figure(weights[several].max())} t/m3"
-        self.report.facts.append(f"{len(rows):,} {what} {len(merged):,} blocks: tonnes summed, grades by tonnes, the zone with most tonnes{told}")
+            told += (f", and weigh {figure(weights[several].min())} to "
+                     f"{figure(weights[several].max())} t/m3")
+        self.report.facts.append(f"{len(rows):,} {what} {len(merged):,} blocks: tonnes summed, "
+                                 f"grades by tonnes, the zone with most tonnes{told}")
         return merged
 
-    def with_holes(self, rows: pd.DataFrame, air: pd.DataFrame) -> tuple[pd.DataFrame, pd.DataFrame]:
+    def with_holes(self, rows: pd.DataFrame, air: pd.DataFrame) -> tuple[pd.DataFrame,
+                                                                         pd.DataFrame]:
         """Rows without tonnes that lie below rock stay, with 0 tonnes."""
         tops = rows.groupby(["ix", "iy"])["iz"].max().rename("top").reset_index()
         air = air.drop_duplicates(["ix", "iy", "iz"])
-        air = air.merge(tops, "left", ["ix", "iy"]).merge(rows[["ix", "iy", "iz"]].assign(rock=True), "left", ["ix", "iy", "iz"])
+        air = air.merge(tops, "left",
+                        ["ix", "iy"]).merge(rows[["ix", "iy", "iz"]].assign(rock=True), "left",
+                                            ["ix", "iy", "iz"])
         below = ((air["iz"] < air["top"]) & air["rock"].isna()).to_numpy()
         kept = air[below].drop(columns=["top", "rock"])
         self.report.facts.append(f"kept with 0 tonnes: {len(kept):,} holes below rock")
@@ -441,34 +528,45 @@ class Placing:
         zone = rows["zone"].to_numpy()
         if (zone < 0).any():
             at = int(rows["row"].to_numpy()[np.flatnonzero(zone < 0)[0]])
-            raise UserError(f"{self.line(at)}: it has tonnes and no zone, as {int((zone < 0).sum()):,} rows: name their zone by a row `*` of "
+            raise UserError(f"{self.line(at)}: it has tonnes and no zone, as "
+                            f"{int((zone < 0).sum()):,} rows: name their zone by a row `*` of "
                             "--zones, or leave them out by --where")
         codes, firsts = pd.factorize(zone)
         if len(firsts) > MOST_ZONES:
-            raise UserError(f"{len(firsts):,} zones, as `{names[firsts[0]]}` and `{names[firsts[1]]}`, are more than the {MOST_ZONES} of a plan: is "
+            raise UserError(f"{len(firsts):,} zones, as `{names[firsts[0]]}` and "
+                            f"`{names[firsts[1]]}`, are more than the {MOST_ZONES} of a plan: is "
                             "it the column of zones?")
         return rows.assign(zone=codes), [names[number] for number in firsts]
 
-    def split_below(self, rows: pd.DataFrame, zones: list[str], pair: str, benches: dict[str, int]) -> tuple[pd.DataFrame, list[str]]:
-        """Splits a zone by how many benches its blocks lie below the lowest of another in their column: of `flat` three benches below
-        become `flat3`. So the flatter cones of each end where the steeper rock begins."""
+    def split_below(self, rows: pd.DataFrame, zones: list[str], pair: str,
+                    benches: dict[str, int]) -> tuple[pd.DataFrame, list[str]]:
+        """Splits a zone by how many benches its blocks lie below the lowest of another in their
+        column: of `flat` three benches below become `flat3`. So the flatter cones of each end where
+        the steeper rock begins."""
         zone, _, above = (name.strip() for name in pair.partition(":"))
         if zone not in zones or above not in zones:
-            raise UserError(f"--below: give two zones, the flatter one first, as flat:steep; there are {', '.join(zones)}, and not `{pair}`")
-        lowest = rows[rows["zone"] == zones.index(above)].groupby(["ix", "iy"])["iz"].min().rename("contact").reset_index()
+            raise UserError("--below: give two zones, the flatter one first, as flat:steep; there "
+                            f"are {', '.join(zones)}, and not `{pair}`")
+        lowest = (rows[rows["zone"] == zones.index(above)].groupby(["ix", "iy"])["iz"].min()
+                  .rename("contact").reset_index())
         found = rows.merge(lowest, "left", ["ix", "iy"])
-        depth = (found["contact"] - found["iz"]).where(found["zone"] == zones.index(zone)).to_numpy()
+        depth = (found["contact"]
+                 - found["iz"]).where(found["zone"] == zones.index(zone)).to_numpy()
         names = np.array(zones, object)[rows["zone"].to_numpy()]
         is_below = depth > 0
         names[is_below] = [f"{zone}{int(many)}" for many in depth[is_below]]
         taken = {f"{zone}{int(many)}": int(many) for many in np.unique(depth[is_below])}
         if set(taken) & set(zones):
-            raise UserError(f"--below: a zone `{(set(taken) & set(zones)).pop()}` is there already: rename it by --zones")
+            raise UserError(f"--below: a zone `{(set(taken) & set(zones)).pop()}` is there "
+                            "already: rename it by --zones")
         benches.update({name: min(many, MOST_BENCHES) for name, many in taken.items()})
         codes, firsts = pd.factorize(pd.Series(names))
         if len(firsts) > MOST_ZONES:
-            raise UserError(f"--below: {zone} goes down to {max(taken.values())} benches below {above}, which makes more than {MOST_ZONES} zones")
-        self.report.facts.append(f"{zone} is split by benches below {above}: {int(is_below.sum()):,} blocks in {len(taken)} zones, each with its K")
+            raise UserError(f"--below: {zone} goes down to {max(taken.values())} benches below "
+                            f"{above}, which makes more than {MOST_ZONES} zones")
+        self.report.facts.append(f"{zone} is split by benches below {above}: "
+                                 f"{int(is_below.sum()):,} blocks in {len(taken)} zones, each with "
+                                 "its K")
         return rows.assign(zone=codes), list(firsts)
 
     def judge_ranges(self, rows: pd.DataFrame) -> None:
@@ -476,31 +574,36 @@ class Placing:
         tonnes, grade = rows["tonnes"].to_numpy(), rows["grade"].to_numpy()
         if tonnes.max() > MOST_KILOGRAMS:
             at = int(tonnes.argmax())
-            raise UserError(f"{self.line(int(rows['row'].iloc[at]))}: a block has {tonnes[at] / 1000:,.0f} t, and pitc takes 1,000,000: are these "
+            raise UserError(f"{self.line(int(rows['row'].iloc[at]))}: a block has "
+                            f"{tonnes[at] / 1000:,.0f} t, and pitc takes 1,000,000: are these "
                             "kilograms, or is a density in kg/m3?")
         if grade.max() > MOST_GRADE:
             at = int(grade.argmax())
-            raise UserError(f"{self.line(int(rows['row'].iloc[at]))}: a grade is {grade[at] / 1e6:,.0f} g/t, which is more than all metal")
+            raise UserError(f"{self.line(int(rows['row'].iloc[at]))}: a grade is "
+                            f"{grade[at] / 1e6:,.0f} g/t, which is more than all metal")
 
     # What is told.
 
     def tell_zones(self, rows: pd.DataFrame, zones: Sequence[str]) -> None:
+        """Tells rows, tonnes and the mean grade of each zone."""
         unit = "a tonne" if self.reading.counts["money"] else "g/t"
         width = max(map(len, zones))
         for number, name in enumerate(zones):
             part = rows[rows["zone"] == number]
             tonnes = part["tonnes"].to_numpy()
-            mean = float((tonnes * (part["grade"].to_numpy() / 1e6)).sum() / tonnes.sum()) if tonnes.sum() else 0.0
-            self.report.facts.append(f"zone {name:{width}}  {len(part):>9,} rows  {tonnes.sum() / 1000:>16,.1f} t  mean {mean:.4f} {unit}")
+            mean = (float((tonnes * (part["grade"].to_numpy() / 1e6)).sum() / tonnes.sum())
+                    if tonnes.sum() else 0.0)
+            self.report.facts.append(f"zone {name:{width}}  {len(part):>9,} rows  "
+                                     f"{tonnes.sum() / 1000:>16,.1f} t  mean {mean:.4f} {unit}")
 
     def tell_grid(self, rows: pd.DataFrame, axes: Sequence[Axis]) -> None:
         places = axes[0].places * axes[1].places * axes[2].places
-        lengths = "ft" if self.words.in_feet or self.factors[0] == 0.3048 else "m"
-        self.report.facts.append(f"{box_told(axes)} {lengths}; of its {places:,} places {len(rows):,} have a row "
-                                 f"({len(rows) * 100 // places} %)")
+        self.report.facts.append(f"{box_told(axes)} {self.frame.unit}; of its {places:,} places "
+                                 f"{len(rows):,} have a row ({len(rows) * 100 // places} %)")
         for axis, name in zip(axes, COORDINATES):
             if axis.beside > axis.step / 1000:
-                self.report.facts.append(f"{name} is put on the grid: rows lie up to {shortest(axis.beside, 3)} beside it")
+                self.report.facts.append(f"{name} is put on the grid: rows lie up to "
+                                         f"{shortest(axis.beside, 3)} beside it")
 
 
 def key_of(rows: pd.DataFrame) -> np.ndarray:
@@ -510,16 +613,19 @@ def key_of(rows: pd.DataFrame) -> np.ndarray:
 
 
 def _merged(rows: pd.DataFrame, key: np.ndarray, fine: dict[str, int]) -> pd.DataFrame:
-    """One row for each block: tonnes are summed exactly, grades weighed by tonnes, and the zone is the one with most tonnes, the first
-    of equals."""
+    """One row for each block: tonnes are summed exactly, grades weighed by tonnes, and the zone is
+    the one with most tonnes, the first of equals."""
     codes, firsts = pd.factorize(key)
     tonnes = rows["tonnes"].to_numpy()
     mass = np.zeros(len(firsts), np.int64)
     np.add.at(mass, codes, tonnes)
     metal = np.bincount(codes, tonnes.astype(float) * rows["grade"].to_numpy(), len(firsts))
-    table = pd.DataFrame({"block": codes, "zone": rows["zone"].to_numpy(), "tonnes": tonnes, "row": np.arange(len(rows))})
-    sums = table.groupby(["block", "zone"], sort=False).agg(tonnes=("tonnes", "sum"), row=("row", "min")).reset_index()
-    most = sums.sort_values(["block", "tonnes", "row"], ascending=[True, False, True]).drop_duplicates("block")
+    table = pd.DataFrame({"block": codes, "zone": rows["zone"].to_numpy(), "tonnes": tonnes,
+                          "row": np.arange(len(rows))})
+    sums = table.groupby(["block", "zone"],
+                         sort=False).agg(tonnes=("tonnes", "sum"), row=("row", "min")).reset_index()
+    most = sums.sort_values(["block", "tonnes", "row"],
+                            ascending=[True, False, True]).drop_duplicates("block")
     first_rows = rows.iloc[np.unique(codes, return_index=True)[1]]
     found = first_rows[["ix", "iy", "iz", "row"]].copy()
     found["tonnes"] = (mass + 5 * 10 ** (fine["tonnes"] - 4)) // 10 ** (fine["tonnes"] - 3)

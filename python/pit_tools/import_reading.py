@@ -8,6 +8,7 @@ from typing import Optional, Sequence
 import numpy as np
 import pandas as pd
 
+from pit_tools import progress
 from pit_tools.cells import Marks, Spelled, marks_of
 from pit_tools.errors import UserError
 from pit_tools.export_words import Columns, Measure, Table, Words, columns_of, unit_doubts
@@ -23,7 +24,8 @@ FINE = {"tonnes": 6, "grade": 9}
 
 COORDINATES = ("x", "y", "z")
 
-# A number of a formula that is greater than this is a mistake, in metres, tonnes or g/t, and could not be held.
+# A number of a formula that is greater than this is a mistake, in metres, tonnes or g/t, and could
+# not be held.
 MOST = 1e9
 
 
@@ -40,7 +42,8 @@ class Reading:
         self.source_at = 0
         self.first_record = 0
         self.unknown_densities: Counter = Counter()
-        # texts that a filter takes for one, by column and code; a cell with a sign of percent, by column
+        # texts that a filter takes for one, by column and code; a cell with a sign of percent, by
+        # column
         self.spellings: dict[tuple[str, str], set[str]] = {}
         self.percents: dict[str, str] = {}
         self.unnamed = Unnamed()
@@ -52,15 +55,24 @@ class Reading:
             self.pieces.setdefault(name, []).append(values)
 
     def agree_on(self, unnamed: Unnamed, source: Source) -> None:
-        """Keeps what a header has beside what is read. It raises UserError where another export has no such columns of sizes."""
+        """Keeps what a header has beside what is read. It raises UserError where another export has
+        no such columns of sizes."""
         if self.source_at and bool(unnamed.sizes) != bool(self.unnamed.sizes):
-            raise UserError(f"{source.path}: of the exports some have columns of sizes, and others none: export all with the same columns")
+            raise UserError(f"{source.path}: of the exports some have columns of sizes, and others "
+                            "none: export all with the same columns")
         self.unnamed = unnamed
 
     def joined(self, name: str) -> Optional[np.ndarray]:
         """A column of all pieces, or None; the pieces are given up."""
         pieces = self.pieces.pop(name, None)
         return np.concatenate(pieces) if pieces else None
+
+    def column(self, name: str) -> np.ndarray:
+        """The same of a column that each row has. It raises KeyError where it was not read."""
+        found = self.joined(name)
+        if found is None:
+            raise KeyError(name)
+        return found
 
 
 def read_export(path: str, words: Words, reading: Reading, report: Report) -> list[Source]:
@@ -70,7 +82,8 @@ def read_export(path: str, words: Words, reading: Reading, report: Report) -> li
     def resolve(names: Sequence[str]) -> None:
         found[:] = [columns_of(words, names)]
 
-    sources = sources_of(path, resolve, encoding=words.encoding, separator=words.separator, names=words.names, sheet=words.sheet)
+    sources = sources_of(path, resolve, encoding=words.encoding, separator=words.separator,
+                         names=words.names, sheet=words.sheet)
     for source in sources:
         read_source(source, found[0], reading, report)
     return sources
@@ -85,12 +98,13 @@ def read_source(source: Source, columns: Columns, reading: Reading, report: Repo
         if marks is None:
             table = _without_units(table, key, source)
             reading.first_record = int(table.index[0])
-            marks = marks_of((table[at] for at in columns.numeric), decimal=words.decimal, thousands=words.thousands,
-                             missing=words.missing)
+            marks = marks_of((table[at] for at in columns.numeric), decimal=words.decimal,
+                             thousands=words.thousands, missing=words.missing)
             reading.unclear_point = reading.unclear_point or marks.unclear_point
             report.facts.append(source.told())
             report.doubts += unit_doubts(columns, source.names, source.units)
         Piece(table, source, columns, marks, reading).take()
+        progress.tell(f"{reading.counts['rows']:,} rows of {source.path}")
     if marks is not None:
         report.facts += _marks_told(marks)
         if not reading.source_at:
@@ -108,7 +122,8 @@ def _key_column(columns: Columns) -> int:
 
 
 def _without_units(table: pd.DataFrame, key: int, source: Source) -> pd.DataFrame:
-    """The first piece without the rows between the header and the first number, which the source keeps."""
+    """The first piece without the rows between the header and the first number, which the source
+    keeps."""
     if not source.has_header:
         return table
     for at in range(min(len(table), 100)):
@@ -116,13 +131,14 @@ def _without_units(table: pd.DataFrame, key: int, source: Source) -> pd.DataFram
             if at:
                 source.units = [_row_of(table.iloc[row], len(source.names)) for row in range(at)]
             return table.iloc[at:]
-    raise UserError(f"{source.path}: no row below the header in line {source.header_line} has a number in the column "
-                    f"{source.names[key]}")
+    raise UserError(f"{source.path}: no row below the header in line {source.header_line} has a "
+                    f"number in the column {source.names[key]}")
 
 
 def _is_counted(row: pd.Series) -> bool:
     """Whether a row has the numbers of the columns, counted from 0 or 1."""
-    return len(row) > 3 and any(all(str(cell).strip() == str(at + start) for at, cell in row.items()) for start in (0, 1))
+    return len(row) > 3 and any(all(str(cell).strip() == str(at + start)
+                                    for at, cell in row.items()) for start in (0, 1))
 
 
 def _row_of(row: pd.Series, width: int) -> list[str]:
@@ -133,15 +149,17 @@ def _marks_told(marks: Marks) -> list[str]:
     told = []
     if marks.decimal == ",":
         told.append("numbers have a decimal comma")
-    between = {mark: name for mark, name in ((".", "points"), (",", "commas"), ("'", "apostrophes"), ("’", "apostrophes"))}
-    seen = sorted({between.get(mark, "no-break spaces" if mark in "\u00a0\u202f" else "blanks") for mark in marks.seen})
+    between = {".": "points", ",": "commas", "'": "apostrophes", "’": "apostrophes"}
+    seen = sorted({between.get(mark, "no-break spaces" if mark in "\u00a0\u202f" else "blanks")
+                   for mark in marks.seen})
     if seen:
         told.append(f"between thousands stand {' and '.join(seen)}")
     return told
 
 
 def _columns_told(columns: Columns, names: Sequence[str]) -> str:
-    parts = [f"{key.replace('_', ' ')} {' '.join(measure.formula.text.split())}" + (f" ({measure.unit})" if measure.unit else "")
+    parts = [f"{key.replace('_', ' ')} {' '.join(measure.formula.text.split())}"
+             + (f" ({measure.unit})" if measure.unit else "")
              for key, measure in columns.measures.items()]
     if columns.zone:
         parts.append("zone " + " and ".join(" ".join(names[at].split()) for at in columns.zone))
@@ -151,8 +169,10 @@ def _columns_told(columns: Columns, names: Sequence[str]) -> str:
 class Piece:
     """Some rows of an export, as texts, and what is made of them."""
 
-    def __init__(self, table: pd.DataFrame, source: Source, columns: Columns, marks: Marks, reading: Reading) -> None:
-        self.table, self.source, self.columns, self.marks, self.reading = table, source, columns, marks, reading
+    def __init__(self, table: pd.DataFrame, source: Source, columns: Columns, marks: Marks,
+                 reading: Reading) -> None:
+        self.table, self.source, self.columns, self.marks, self.reading = (table, source, columns,
+                                                                           marks, reading)
 
     def take(self) -> None:
         """Puts the rows behind those that were read before."""
@@ -171,14 +191,16 @@ class Piece:
         self.take_grade()
         self.take_zone()
         self.reading.counts["rows"] += len(self.table)
-        self.reading.keep(record=self.table.index.to_numpy(np.int64), file=np.full(len(self.table), self.reading.source_at, np.int16))
+        self.reading.keep(record=self.table.index.to_numpy(np.int64),
+                          file=np.full(len(self.table), self.reading.source_at, np.int16))
 
     def line(self, at: int, column: Optional[int] = None) -> str:
         """Where a row of the piece, or a cell of it, stands."""
         return self.source.place_of(int(self.table.index[at]), column)
 
     def drop_lines_that_are_no_rows(self) -> None:
-        """Leaves out rows that are empty where formulas look, the header where it stands again, and totals behind the last row."""
+        """Leaves out rows that are empty where formulas look, the header where it stands again, and
+        totals behind the last row."""
         numeric = self.columns.numeric
         kept = np.zeros(len(self.table), bool)
         for at in numeric:
@@ -193,7 +215,8 @@ class Piece:
             self.table = self.table[~again]
         total = np.zeros(len(self.table), bool)
         for at in range(len(self.table) - 1, max(len(self.table) - 4, -1), -1):
-            cells = [self.table[column].iloc[at].strip() for key in COORDINATES if key in self.columns.measures
+            cells = [self.table[column].iloc[at].strip()
+                     for key in COORDINATES if key in self.columns.measures
                      for column in self.columns.measures[key].formula.columns]
             if not cells or any(is_number_like(cell) for cell in cells):
                 break
@@ -211,9 +234,11 @@ class Piece:
         self.reading.counts["filtered"] += int((~kept).sum())
         self.table = self.table[kept]
 
-    def values(self, formula: Formula, has_negatives: bool, as_percent: bool = False, counted: bool = False) -> tuple[pd.DataFrame, pd.DataFrame]:
-        """The columns of a formula by their names in code: numbers, NaN where a cell is missing, and texts; and the same as they stand.
-        Negative numbers are missing too, but where a measure has such."""
+    def values(self, formula: Formula, has_negatives: bool, as_percent: bool = False,
+               counted: bool = False) -> tuple[pd.DataFrame, pd.DataFrame]:
+        """The columns of a formula by their names in code: numbers, NaN where a cell is missing,
+        and texts; and the same as they stand. Negative numbers are missing too, but where a measure
+        has such."""
         known, standing = {}, {}
         for at in sorted(formula.numbers):
             cells = self.marks.spelled(self.table[at], as_percent)
@@ -224,21 +249,25 @@ class Piece:
             missing = np.isnan(numbers) if has_negatives else ~(numbers >= 0)
             if counted and not has_negatives:
                 self.count_missing(at, missing)
-            standing[column_name(at)], known[column_name(at)] = numbers, np.where(missing, np.nan, numbers)
+            standing[column_name(at)], known[column_name(at)] = (numbers,
+                                                                 np.where(missing, np.nan, numbers))
         for at in sorted(formula.texts):
             known[column_name(at)] = self.codes_of(at)
-        return pd.DataFrame(known, index=self.table.index), pd.DataFrame({**known, **standing}, index=self.table.index)
+        return (pd.DataFrame(known, index=self.table.index),
+                pd.DataFrame({**known, **standing}, index=self.table.index))
 
     def codes_of(self, column: int) -> pd.Series:
         """A column's texts as filters compare them."""
         texts = self.table[column]
         codes = {text: code_name(text) for text in texts.unique()}
         for text, code in codes.items():
-            self.reading.spellings.setdefault((self.source.names[column], code), set()).add(text.strip())
+            self.reading.spellings.setdefault((self.source.names[column], code),
+                                              set()).add(text.strip())
         return texts.map(codes)
 
     def note_percent(self, cells: Spelled, column: int) -> None:
-        """Keeps a cell with a sign of percent. It raises UserError for a number without one in the same column."""
+        """Keeps a cell with a sign of percent. It raises UserError for a number without one in the
+        same column."""
         if not cells.percent.any():
             return
         name, shown = self.source.names[column], self.table[column]
@@ -246,12 +275,17 @@ class Piece:
         with_sign = shown.iloc[int(np.flatnonzero(cells.percent)[0])].strip()
         if bare.any():
             at = int(np.flatnonzero(bare)[0])
-            raise UserError(f"{self.line(at, column)}: the column {name} has `{shown.iloc[at].strip()}`, and others have a sign of percent, as `{with_sign}`")
-        self.reading.percents.setdefault(" ".join(name.split()), f"`{with_sign}` is {self.marks.plain(with_sign)}")
+            raise UserError(f"{self.line(at, column)}: the column {name} has "
+                            f"`{shown.iloc[at].strip()}`, and others have a sign of percent, as "
+                            f"`{with_sign}`")
+        self.reading.percents.setdefault(" ".join(name.split()),
+                                         f"`{with_sign}` is {self.marks.plain(with_sign)}")
 
     def floats(self, measure: Measure, what: str) -> np.ndarray:
-        """A formula's values, in its own unit, NaN where a cell is missing. Negative cells of a measure are marks, as -99."""
-        known, standing = self.values(measure.formula, what in COORDINATES or what in "ijk", measure.is_percent, counted=True)
+        """A formula's values, in its own unit, NaN where a cell is missing. Negative cells of a
+        measure are marks, as -99."""
+        known, standing = self.values(measure.formula, what in COORDINATES or what in "ijk",
+                                      measure.is_percent, counted=True)
         found = measure.formula.value(known, standing).to_numpy(float).copy()
         if not measure.formula.divides:
             self.refuse_vast(np.isinf(found), what)
@@ -261,7 +295,8 @@ class Piece:
     def refuse_vast(self, vast: np.ndarray, what: str) -> None:
         """Stops at the first number of a formula that is too great to be held."""
         if vast.any():
-            raise UserError(f"{self.line(int(np.flatnonzero(vast)[0]))}: {what} is too great a number: is its formula or unit another?")
+            raise UserError(f"{self.line(int(np.flatnonzero(vast)[0]))}: {what} is too great a "
+                            "number: is its formula or unit another?")
 
     def refuse(self, wrong: np.ndarray, column: int) -> None:
         """Stops at the first cell that is no number."""
@@ -270,7 +305,8 @@ class Piece:
         at = int(np.flatnonzero(wrong)[0])
         text = self.table[column].iloc[at].strip()
         name = " ".join(self.source.names[column].split())
-        raise UserError(f"{self.line(at, column)}: the column {name} has `{text}`{_hint(text, self.marks)}")
+        raise UserError(f"{self.line(at, column)}: the column {name} has "
+                        f"`{text}`{_hint(text, self.marks)}")
 
     def count_missing(self, column: int, missing: np.ndarray) -> None:
         """Counts the texts that stand for what is missing."""
@@ -289,8 +325,8 @@ class Piece:
             return cells.parts(3)
         values = self.floats(measure, key)
         if np.isnan(values).any():
-            raise UserError(f"{self.line(int(np.flatnonzero(np.isnan(values))[0]))}: {key} cannot be computed: a cell is missing, or it is "
-                            "divided by 0")
+            raise UserError(f"{self.line(int(np.flatnonzero(np.isnan(values))[0]))}: {key} cannot "
+                            "be computed: a cell is missing, or it is divided by 0")
         self.refuse_vast(np.abs(values) > MOST, key)
         return np.rint(values * 1000).astype(np.int64)
 
@@ -316,15 +352,18 @@ class Piece:
         if cells.percent.any():
             at = int(np.flatnonzero(cells.percent)[0])
             name = " ".join(self.source.names[column].split())
-            advice = f"give the unit, as --grade '{name} %'" if key == "grade" else f"is {name} the right column for --{key.replace('_', '-')}?"
-            raise UserError(f"{self.line(at, column)}: the column {name} has `{self.table[column].iloc[at].strip()}`: {advice}")
+            advice = (f"give the unit, as --grade '{name} %'" if key == "grade"
+                      else f"is {name} the right column for --{key.replace('_', '-')}?")
+            raise UserError(f"{self.line(at, column)}: the column {name} has "
+                            f"`{self.table[column].iloc[at].strip()}`: {advice}")
 
     def in_pitc_units(self, key: str) -> np.ndarray:
         """A measure as floats in the unit of pitc."""
         measure = self.columns.measures[key]
         values = self.floats(measure, key)
         with np.errstate(divide="ignore", invalid="ignore"):
-            values = float(measure.factor) / values if measure.divides else values * float(measure.factor)
+            values = (float(measure.factor) / values if measure.divides
+                      else values * float(measure.factor))
         values[np.isinf(values)] = np.nan
         return values
 
@@ -335,29 +374,35 @@ class Piece:
         for axis in COORDINATES:
             size = self.floats(self.columns.measures["size_" + axis], "size_" + axis)
             if not (size > 0).all():
-                raise UserError(f"{self.line(int(np.flatnonzero(~(size > 0))[0]))}: the size of a sub-block along {axis} is missing or 0")
+                raise UserError(f"{self.line(int(np.flatnonzero(~(size > 0))[0]))}: the size of a "
+                                f"sub-block along {axis} is missing or 0")
             self.reading.keep(**{"size_" + axis: size * 1000})
 
     def take_unnamed(self) -> None:
-        """Columns that nobody named, as floats: NaN where there is no number above 0, but 0 of a share."""
+        """Columns that nobody named, as floats: NaN where there is no number above 0, but 0 of a
+        share."""
         found = self.columns.unnamed
         kept = {"own_size_" + axis: at for axis, at in zip(COORDINATES, found.sizes)}
-        kept.update({name: at for name, at in (("own_weight", found.weight), ("own_volume", found.volume)) if at is not None})
+        kept.update({name: at for name, at in (("own_weight", found.weight),
+                                               ("own_volume", found.volume)) if at is not None})
         for name, at in kept.items():
             numbers = self.marks.spelled(self.table[at]).floats
             self.reading.keep(**{name: np.where(numbers > 0, numbers, np.nan)})
         for number, at in enumerate(found.rests):
-            self.reading.keep(**{f"rest_{number}": self.marks.spelled(self.table[at], as_percent=True).floats})
+            self.reading.keep(
+                **{f"rest_{number}": self.marks.spelled(self.table[at], as_percent=True).floats})
 
     def take_tonnes(self) -> None:
-        """Tonnes in parts, -1 where missing; or, of a density, floats until the volume of a block is known."""
+        """Tonnes in parts, -1 where missing; or, of a density, floats until the volume of a block
+        is known."""
         if "tonnes" in self.columns.measures:
             tonnes, missing = self.measure("tonnes", self.reading.fine["tonnes"])
             if "share" not in self.columns.measures:
                 self.reading.keep(tonnes=np.where(missing | (tonnes == 0), -1, tonnes))
                 return
             # Of a share of the block: tonnes wait for it as densities do for a volume.
-            self.reading.keep(density=np.where(missing | (tonnes == 0), np.nan, tonnes / 10.0 ** self.reading.fine["tonnes"]))
+            self.reading.keep(density=np.where(missing | (tonnes == 0), np.nan,
+                                               tonnes / 10.0 ** self.reading.fine["tonnes"]))
         else:
             self.reading.keep(density=self.densities())
         for key in ("volume", "share", "ore_share", "waste_share", "waste_density"):
@@ -369,35 +414,43 @@ class Piece:
         """Stops where a share is missing of a row that has a mass: it may be whole or none."""
         if "share" not in self.columns.measures:
             return
-        lacking = np.isnan(self.reading.pieces["share"][-1]) & (self.reading.pieces["density"][-1] > 0)
+        lacking = (np.isnan(self.reading.pieces["share"][-1])
+                   & (self.reading.pieces["density"][-1] > 0))
         if lacking.any():
             at = int(np.flatnonzero(lacking)[0])
             measure = self.columns.measures["share"]
             column = sorted(measure.formula.numbers)[0]
             name = " ".join(self.source.names[column].split())
-            whole = 100 if measure.unit or self.marks.spelled(self.table[column]).floats.max(initial=0) > 1 else 1
+            whole = (100 if measure.unit
+                     or self.marks.spelled(self.table[column]).floats.max(initial=0) > 1 else 1)
             unit = f" {measure.unit}" if measure.unit else ""
-            raise UserError(f"{self.line(at)}: the share is missing, {name} being `{self.table[column].iloc[at].strip()}`, as in "
-                            f"{int(lacking.sum()):,} rows that have a mass: where that says whole, give --share 'where(missing({name}), {whole}, "
-                            f"{name}){unit}'; where it says none, 0 in place of {whole}")
+            raise UserError(f"{self.line(at)}: the share is missing, {name} being "
+                            f"`{self.table[column].iloc[at].strip()}`, as in "
+                            f"{int(lacking.sum()):,} rows that have a mass: where that says whole, "
+                            f"give --share 'where(missing({name}), {whole}, {name}){unit}'; where "
+                            f"it says none, 0 in place of {whole}")
 
     def densities(self) -> np.ndarray:
-        """Tonnes a cubic metre, by the column and, where that is missing, by the table of rock codes."""
+        """Tonnes a cubic metre, by the column and, where that is missing, by the table of rock
+        codes."""
         values = np.full(len(self.table), np.nan)
         if "density" in self.columns.measures:
             values = self.in_pitc_units("density")
         if self.columns.densities:
             texts = self.found_in(self.columns.densities)
-            numbers = texts.map({text: _number_or_nan(text) for text in texts.dropna().unique()}).to_numpy(float)
+            numbers = texts.map({text: _number_or_nan(text)
+                                 for text in texts.dropna().unique()}).to_numpy(float)
             lacking = np.isnan(values)
             unknown = lacking & texts.isna().to_numpy()
-            self.reading.unknown_densities.update(self.keys_of(self.columns.densities.columns)[unknown].value_counts().to_dict())
+            self.reading.unknown_densities.update(
+                self.keys_of(self.columns.densities.columns)[unknown].value_counts().to_dict())
             values = np.where(lacking, numbers, values)
         return np.where(values > 0, values, np.nan)
 
     def keys_of(self, columns: Sequence[int]) -> pd.Series:
         """The texts of some columns, as one text each row."""
-        stripped = [self.table[at].map({text: re.sub(r"^(-?\d+)\.0+$", r"\1", text.strip()) for text in self.table[at].unique()}) for at in columns]
+        stripped = [self.table[at].map({text: re.sub(r"^(-?\d+)\.0+$", r"\1", text.strip())
+                                        for text in self.table[at].unique()}) for at in columns]
         keys = stripped[0]
         for other in stripped[1:]:
             keys = keys + "\t" + other
@@ -420,11 +473,12 @@ class Piece:
             names = self.found_in(self.columns.zones).fillna("")
         elif self.columns.zone:
             keys = self.keys_of(self.columns.zone)
-            names = keys.map({key: "-".join(filter(None, key.split("\t"))) for key in keys.unique()})
+            names = keys.map({key: "-".join(filter(None, key.split("\t")))
+                              for key in keys.unique()})
         else:
             names = pd.Series("all", index=self.table.index)
-        numbers = {name: self.reading.zone_numbers.setdefault(name, len(self.reading.zone_numbers)) if name else -1
-                   for name in names.unique()}
+        numbers = {name: self.reading.zone_numbers.setdefault(name, len(self.reading.zone_numbers))
+                   if name else -1 for name in names.unique()}
         self.reading.keep(zone=names.map(numbers).to_numpy(np.int32))
 
 
@@ -440,15 +494,18 @@ def _hint(text: str, marks: Marks) -> str:
     if not text:
         return ", which is empty"
     if text == UNCOMPUTED:
-        return ", a formula that no program has computed: open the workbook in a spreadsheet, and save it"
+        return (", a formula that no program has computed: open the workbook in a spreadsheet, and "
+                "save it")
     if text.startswith("#"):
-        return f", an error of a spreadsheet: mend it there, or give --missing '{text}' where it stands for what is not known"
+        return (f", an error of a spreadsheet: mend it there, or give --missing '{text}' where it "
+                "stands for what is not known")
     if re.match(r"(?i)(bench|level|rl|elevation|z)\b", text):
         return ", a heading between rows and no row: take such lines out"
     if text.startswith("<"):
         return f": if it stands for nothing, give --missing '{text}'"
     if "," in text and marks.decimal == "." and not marks.thousands:
-        return ": if its comma is decimal, give --decimal , and if it stands between thousands, --thousands ,"
+        return (": if its comma is decimal, give --decimal , and if it stands between thousands, "
+                "--thousands ,")
     if re.fullmatch(r"\d{4}-\d\d-\d\d.*|\d+-[A-Za-z]{3}", text):
         return ": a spreadsheet has made a date of a number"
     if marks.thousands and marks.thousands in text:

@@ -9,16 +9,19 @@ from typing import Optional
 
 from pit_tools.errors import UserError
 from pit_tools.export_words import Words
-from pit_tools.gridding import Turn
+from pit_tools.gridding import Frame
 from pit_tools.plan_file import Grid
+from pit_tools.plan_note import PlanNote
 from pit_tools.units import grade_unit_of
 
 
 @dataclass(frozen=True)
 class ImportedFile:
-    """What was imported: the exports and the words by which they were read, the grid with its numbers of blocks, the zones with their
-    files, the turn of a model, None where it is not turned, the K of zones that are so many benches below another, and what was told,
-    and behind LOOK AT. Paths of zone files are those from where BASE.json was read."""
+    """What was imported: the exports and the words by which they were read, the grid with its
+    numbers of blocks, the zones with their files, the frame of the export's coordinates, the K of
+    zones that are so many benches below another, the sums of the exports, none where an older
+    version wrote it, and what was told, and behind LOOK AT. Paths of zone files are those from
+    where BASE.json was read."""
 
     exports: list[str]
     words: Words
@@ -26,8 +29,9 @@ class ImportedFile:
     blocks: tuple[int, int, int]
     zones: list[str]
     files: list[str]
-    turn: Optional[Turn]
+    frame: Frame
     benches: dict[str, int]
+    sums: list[str]
     told: list[str]
     doubts: list[str]
 
@@ -39,7 +43,8 @@ class ImportedFile:
     @property
     def x_bearing(self) -> float:
         """Where the model's +x points, degrees clockwise from north."""
-        return (90 - self.turn.angle) % 360 if self.turn else 90.0
+        turn = self.frame.turn
+        return (90 - turn.angle) % 360 if turn else 90.0
 
 
 def read_imported(path: str) -> ImportedFile:
@@ -47,13 +52,26 @@ def read_imported(path: str) -> ImportedFile:
     with open(path, encoding="utf-8", errors="replace") as file:
         try:
             told = json.load(file)
-            numbers = [[Decimal(cell) for cell in told["grid"][key]] for key in ("origin", "size")]
+            if "turn" in told:
+                raise UserError(f"{path}: an older pit-tools wrote it, without the unit of the "
+                                "export's coordinates: import again")
+            grid = Grid.of([Decimal(cell) for key in ("origin", "size")
+                            for cell in told["grid"][key]])
+            wide, deep, high = told["grid"]["blocks"]
             folder = os.path.dirname(path)
-            turn = told["turn"] and Turn(told["turn"]["angle"], tuple(told["turn"]["about"]))
-            return ImportedFile(told["exports"], Words(**told["words"]), Grid(tuple(numbers[0]), tuple(numbers[1])),
-                                tuple(told["grid"]["blocks"]), [zone["name"] for zone in told["zones"]],
-                                [os.path.join(folder, zone["file"]) for zone in told["zones"]], turn,
-                                {zone["name"]: zone["K"] for zone in told["zones"] if zone.get("K")},
+            return ImportedFile(told["exports"], Words(**told["words"]), grid, (wide, deep, high),
+                                [zone["name"] for zone in told["zones"]],
+                                [os.path.join(folder, zone["file"]) for zone in told["zones"]],
+                                Frame.of_record(told["frame"]),
+                                {zone["name"]: zone["K"]
+                                 for zone in told["zones"] if zone.get("K")},
+                                [str(one) for one in told.get("sums", [])],
                                 list(told.get("told", [])), list(told.get("look_at", [])))
         except (ValueError, KeyError, TypeError, ArithmeticError):
-            raise UserError(f"{path}: it is not what `pit-tools import` writes as BASE.json") from None
+            raise UserError(f"{path}: it is not what `pit-tools import` writes as "
+                            "BASE.json") from None
+
+
+def frame_of(path: Optional[str], note: PlanNote) -> Frame:
+    """The coordinates of an export by its BASE.json, or, without a path, by its plan's note."""
+    return read_imported(path).frame if path else note.frame

@@ -5,19 +5,19 @@ import json
 import os
 import re
 from dataclasses import asdict, dataclass
-from typing import Optional
 
 import pandas as pd
 
-from pit_tools import VERSION, outputs
+from pit_tools import VERSION, outputs, progress
 from pit_tools.decimals import plain
 from pit_tools.errors import UserError
 from pit_tools.export_words import Words
-from pit_tools.gridding import Axis, Turn
+from pit_tools.gridding import Axis, Frame
 from pit_tools.import_report import Report
 from pit_tools.plan_file import Grid, Slope, Zone, zone_record
 from pit_tools.slope_words import K_for
 from pit_tools.source import Source
+from pit_tools.sums import sum_of
 from pit_tools.zone_files import write_zone_file
 
 
@@ -25,16 +25,18 @@ from pit_tools.zone_files import write_zone_file
 class Imported:
     """An export as blocks of a grid.
 
-    `rows` has a row for each block: ix, iy, iz, places of the grid from 0; tonnes in kilograms and grade in millionths of g/t, int64;
-    zone, a number of `zones`. Its order is that of the export. `places` has a row for each record of the export that was read, with
-    its file, its record (the header being 0) and its ix, iy, iz, so that a pit finds the export's rows again. `grid` is in metres, or
-    in feet where the lengths stay in feet. `benches` has the K of zones that are so many benches below another."""
+    `rows` has a row for each block: ix, iy, iz, places of the grid from 0; tonnes in kilograms and
+    grade in millionths of g/t, int64; zone, a number of `zones`. Its order is that of the export.
+    `places` has a row for each record of the export that was read, with its file, its record (the
+    header being 0) and its ix, iy, iz, so that a pit finds the export's rows again. `grid` is in
+    metres, or in feet where the lengths stay in feet. `benches` has the K of zones that are so many
+    benches below another."""
 
     words: Words
     sources: list[Source]
     grid: Grid
     axes: list[Axis]
-    turn: Optional[Turn]
+    frame: Frame
     zones: list[str]
     rows: pd.DataFrame
     places: pd.DataFrame
@@ -42,19 +44,24 @@ class Imported:
     benches: dict[str, int]
 
     def zone_rows(self, zone: int) -> pd.DataFrame:
-        """The rows of a zone as a zone file has them: x, y, z in millimetres, tonnes in kilograms, grade in millionths of g/t."""
+        """The rows of a zone as a zone file has them: x, y, z in millimetres, tonnes in kilograms,
+        grade in millionths of g/t."""
         found = self.rows[self.rows["zone"] == zone]
         columns = {}
         for axis, name in enumerate(("ix", "iy", "iz")):
-            first, step = (int(value * 1000) for value in (self.grid.origin[axis], self.grid.size[axis]))
+            first, step = (int(value * 1000)
+                           for value in (self.grid.origin[axis], self.grid.size[axis]))
             columns["xyz"[axis]] = first + found[name].to_numpy() * step
-        return pd.DataFrame({**columns, "tonnes": found["tonnes"].to_numpy(), "grade": found["grade"].to_numpy()})
+        return pd.DataFrame({**columns, "tonnes": found["tonnes"].to_numpy(),
+                             "grade": found["grade"].to_numpy()})
 
     def records(self) -> list[str]:
-        """The records `grid` and `zone` of a plan, the zones in their order, with slopes of 45 degrees and the K to take for them."""
+        """The records `grid` and `zone` of a plan, the zones in their order, with slopes of 45
+        degrees and the K to take for them."""
         grid = ",".join(["grid", *map(plain, (*self.grid.origin, *self.grid.size))])
         K = K_for(self.axes[2].places)
-        return [grid, *(",".join(zone_record(Zone((Slope(1, 1),) * 4, self.benches.get(name, K)))) for name in self.zones)]
+        return [grid, *(",".join(zone_record(Zone((Slope(1, 1),) * 4, self.benches.get(name, K))))
+                        for name in self.zones)]
 
     def file_names(self, base: str) -> list[str]:
         """The path of each zone's file. It raises UserError where two zones would have one."""
@@ -62,22 +69,28 @@ class Imported:
         for zone in self.zones:
             name = f"{base}-{re.sub('[^A-Za-z0-9_.-]', '_', zone)}.csv"
             if name in names:
-                raise UserError(f"the zones `{names[name]}` and `{zone}` would have one file, {name}: rename one by --zones")
+                raise UserError(f"the zones `{names[name]}` and `{zone}` would have one file, "
+                                f"{name}: rename one by --zones")
             names[name] = zone
         return list(names)
 
     def write(self, base: str) -> list[str]:
-        """Writes the zone files, and BASE.json with the words, the grid, the zones, the turn and what was told. It answers the zone files' paths."""
+        """Writes the zone files, and BASE.json with the words, the grid, the zones, the frame and
+        what was told. It answers the zone files' paths."""
         paths = self.file_names(base)
-        told = {
-            "tool": f"pit-tools {VERSION}", "exports": list(dict.fromkeys(source.path for source in self.sources)),
-            "words": {key: value for key, value in asdict(self.words).items() if value not in ("", (), [], None, False)},
-            "grid": {"origin": [plain(value) for value in self.grid.origin], "size": [plain(value) for value in self.grid.size],
-                     "blocks": [axis.places for axis in self.axes]},
-            "zones": [{"name": name, "file": os.path.basename(path), "K": self.benches.get(name)} for name, path in zip(self.zones, paths)],
-            "turn": {"angle": self.turn.angle, "about": list(self.turn.about)} if self.turn else None,
-            "told": self.report.facts, "look_at": self.report.doubts,
-        }
+        exports = list(dict.fromkeys(source.path for source in self.sources))
+        told = {"tool": f"pit-tools {VERSION}",
+                "exports": exports, "sums": [sum_of(path) for path in exports],
+                "words": {key: value for key, value in asdict(self.words).items()
+                          if value not in ("", (), [], None, False)},
+                "grid": {"origin": [plain(value) for value in self.grid.origin],
+                         "size": [plain(value) for value in self.grid.size],
+                         "blocks": [axis.places for axis in self.axes]},
+                "zones": [{"name": name, "file": os.path.basename(path),
+                           "K": self.benches.get(name)} for name, path in zip(self.zones, paths)],
+                "frame": asdict(self.frame),
+                "told": self.report.facts, "look_at": self.report.doubts}
+        progress.step("writes zone files")
         with outputs.together(source.path for source in self.sources):
             for zone, path in enumerate(paths):
                 write_zone_file(path, self.zone_rows(zone))

@@ -1,15 +1,18 @@
-"""From a mining package's export to zone files: reads rows, puts them on the grid, and tells what was read, left out and odd.
+"""From a mining package's export to zone files: reads rows, puts them on the grid, and tells what
+was read, left out and odd.
 
     from pit_tools.importing import Words, import_export
-    mine = import_export(["export.csv"], Words(x="XC", y="YC", z="ZC", tonnes="T", grade="AU oz/st", zone=["DOMAIN"]))
+    words = Words(x="XC", y="YC", z="ZC", tonnes="T", grade="AU oz/st", zone=["DOMAIN"])
+    mine = import_export(["export.csv"], words)
     print(mine.report.text())
-    mine.rows                                    # a row for each block: ix, iy, iz, kilograms, millionths of g/t, zone
-    mine.write("from")                           # from-ZONE.csv and from.json
+    mine.rows              # a row for each block: ix, iy, iz, kilograms, millionths of g/t, zone
+    mine.write("from")     # from-ZONE.csv and from.json
 """
 from __future__ import annotations
 
 from typing import Sequence
 
+from pit_tools import progress
 from pit_tools.errors import UserError
 from pit_tools.export_words import Words
 from pit_tools.import_placing import Placing
@@ -23,11 +26,14 @@ __all__ = ["Imported", "Report", "Words", "import_export"]
 def import_export(paths: Sequence[str], words: Words) -> Imported:
     """Reads exports, one behind the other, and puts their rows on one grid.
 
-    It raises UserError for what cannot be right, with its cause and, where there is one, its line; what may be wrong is told by the
-    report. Nothing is written."""
+    It raises UserError for what cannot be right, with its cause and, where there is one, its line;
+    what may be wrong is told by the report. Nothing is written."""
     words.judge()
+    progress.step("reads rows")
     reading, report = Reading(words), Report()
     sources = [source for path in paths for source in read_export(path, words, reading, report)]
     if not reading.counts["rows"]:
-        raise UserError(f"{paths[0]}: there is no row below the header" + (" that the filter lets through" if words.where else ""))
+        raise UserError(f"{paths[0]}: there is no row below the "
+                        "header" + (" that the filter lets through" if words.where else ""))
+    progress.step("puts rows on the grid")
     return Placing(reading, sources, report).imported()

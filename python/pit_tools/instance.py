@@ -57,6 +57,10 @@ class Blocks:
     def __len__(self) -> int:
         return len(self.x)
 
+    def taken(self, ids: np.ndarray) -> "Blocks":
+        """Some of the blocks, by their identifiers or a mask, in that order."""
+        return Blocks(*(column[ids] for column in vars(self).values()))
+
     def frame(self) -> pd.DataFrame:
         """A row for each block with columns x, y, z, tonnes, grade, zone; the index is `block`."""
         return pd.DataFrame(vars(self)).rename_axis("block")
@@ -88,7 +92,8 @@ class Uses:
 
 @dataclass(frozen=True)
 class Limit:
-    """What is used of a resource in a period lies from `least` to `most`; either may be infinite."""
+    """What is used of a resource in a period lies from `least` to `most`; either may be
+    infinite."""
 
     resource: int
     period: int
@@ -160,6 +165,13 @@ class Instance:
         return told + (f" cpit {len(self.cpit.uses)}" if self.cpit else "")
 
 
+    def problem(self, kind: str) -> Problem:
+        """The CPIT or the PCPSP, by its kind in letters of either case.
+
+        Raises BadInstance where it was not read."""
+        return present({"cpit": self.cpit, "pcpsp": self.pcpsp}[kind.lower()], kind.upper())
+
+
 _Part = TypeVar("_Part")
 
 
@@ -215,8 +227,9 @@ def _table(piece: bytes, path: str, what: str, kinds: Sequence[_Kind]) -> list[n
         raise BadInstance(f"{path}: no line of {what}, of {len(kinds)} fields: {_shown(piece)}")
     types = {at: np.float64 if isinstance(kind, int) else np.int64 for at, kind in enumerate(kinds)}
     try:
-        table = pd.read_csv(io.BytesIO(piece), sep=r"\s+", header=None, dtype=types, na_filter=False,
-                            names=range(len(kinds)), index_col=False, quoting=csv.QUOTE_NONE)
+        table = pd.read_csv(io.BytesIO(piece), sep=r"\s+", header=None, dtype=types,
+                            na_filter=False, names=range(len(kinds)), index_col=False,
+                            quoting=csv.QUOTE_NONE)
     except (ValueError, OverflowError, pd.errors.ParserError) as error:
         raise BadInstance(f"{path}: {_first_line(error)}") from None
     return [_rounded(table[at].to_numpy(), path, kind) if isinstance(kind, int)
@@ -225,7 +238,7 @@ def _table(piece: bytes, path: str, what: str, kinds: Sequence[_Kind]) -> list[n
 
 def _narrow(whole: np.ndarray, path: str, kind: Type[np.signedinteger]) -> np.ndarray:
     """Whole numbers as a smaller type."""
-    room = np.iinfo(kind)
+    room: np.iinfo[Any] = np.iinfo(kind)
     if len(whole) and not room.min <= whole.min() <= whole.max() <= room.max:
         raise BadInstance(f"{path}: a whole number is not from {room.min} to {room.max}")
     return whole.astype(kind)
@@ -267,7 +280,8 @@ def read_blocks(path: str) -> Blocks:
                 continue
             ids, *columns = _table(piece, path, "a block file", kinds)
             if not np.array_equal(ids, np.arange(count, count + len(ids))):
-                raise BadInstance(f"{path}: no line of a block file: identifiers are not 0, 1, 2, ..")
+                raise BadInstance(f"{path}: no line of a block file: identifiers are not 0, 1, 2, "
+                                  "..")
             count += len(ids)
             parts.append(columns)
     if not parts:
@@ -335,7 +349,8 @@ def read_precedence(path: str, blocks: Optional[int] = None) -> sparse.csr_matri
         if len(predecessors) and not 0 <= predecessors.min() <= predecessors.max() < 2**31:
             raise BadInstance(f"{path}: a predecessor is no block")
         above.append(predecessors.astype(np.int32))
-    starts = np.concatenate([[0], np.cumsum(np.concatenate(counts))]) if counts else np.zeros(1, int)
+    starts = (np.concatenate([[0], np.cumsum(np.concatenate(counts))]) if counts
+              else np.zeros(1, int))
     n = len(starts) - 1
     indices = np.concatenate(above) if above else np.empty(0, np.int32)
     if blocks is not None and n != blocks:
@@ -362,7 +377,8 @@ def count_predecessors(path: str) -> np.ndarray:
             try:
                 fields = np.fromstring(heads, dtype=np.int64, sep=" ").reshape(-1, 2)
             except ValueError:
-                raise BadInstance(f"{path}: no line of the precedence file of these blocks") from None
+                raise BadInstance(f"{path}: no line of the precedence file of these "
+                                  "blocks") from None
             if not np.array_equal(fields[:, 0], np.arange(done, done + len(fields))):
                 raise BadInstance(f"{path}: no line of the precedence file of these blocks")
             done += len(fields)
@@ -393,7 +409,8 @@ class _Model:
         self.header: dict[str, str] = {}
 
     def sections(self) -> Iterator[tuple[str, bytes]]:
-        """Pieces of lines, each with the section that has them. Header lines are taken on the way."""
+        """Pieces of lines, each with the section that has them. Header lines are taken on the
+        way."""
         section = ""
         with _opened(self.path) as file:
             for piece in _pieces(file):
@@ -430,8 +447,8 @@ class _Model:
         """Its NAME. Raises BadInstance where it has none, or one that is none."""
         name = self.header.get("NAME", "")
         if not re.fullmatch(r"[A-Za-z0-9_.-]{1,64}", name, re.ASCII):
-            raise BadInstance(f"{self.path}: NAME is `{name[:64]}`, and has 1 to 64 letters, digits, `_`, "
-                              "`-` and `.`")
+            raise BadInstance(f"{self.path}: NAME is `{name[:64]}`, and has 1 to 64 letters, "
+                              "digits, `_`, `-` and `.`")
         return name
 
 
@@ -462,15 +479,17 @@ def read_outline(path: str, kind: str = "PCPSP") -> Outline:
     return Outline(model.header, values, sum(uses), _limits_of(model, limits))
 
 
-def _lines_in(model: "_Model", piece: bytes, fields: int) -> int:
+def _lines_in(_model: _Model, piece: bytes, _fields: int) -> int:
     """How many lines a piece has."""
-    return piece.count(b"\n") if b"\n\n" not in piece else sum(map(bool, map(bytes.strip, piece.split(b"\n"))))
+    return (piece.count(b"\n") if b"\n\n" not in piece
+            else sum(map(bool, map(bytes.strip, piece.split(b"\n")))))
 
 
 def _uses_part(model: _Model, piece: bytes, fields: int) -> list[np.ndarray]:
     destination: list[_Kind] = [np.int8] * (fields - 3)
     columns = _table(piece, model.path, "coefficients", [np.int32, *destination, np.int8, 6])
-    return columns if fields == 4 else [columns[0], np.zeros(len(columns[0]), np.int8), *columns[1:]]
+    return columns if fields == 4 else [columns[0], np.zeros(len(columns[0]), np.int8),
+                                        *columns[1:]]
 
 
 def _limits_of(model: _Model, pieces: Iterable[bytes]) -> list[Limit]:
@@ -490,15 +509,20 @@ def _limits_of(model: _Model, pieces: Iterable[bytes]) -> list[Limit]:
     return limits
 
 
-def _read_model(path: str, kind: str, take_uses=_uses_part):
-    """A model file: its header, values, what `take_uses` makes of its uses, and the lines of limits."""
+def _read_model(path: str, kind: str, take_uses: Callable[[_Model, bytes, int], Any] = _uses_part
+                ) -> tuple[_Model, np.ndarray, list[Any], list[bytes]]:
+    """A model file: its header, values, what `take_uses` makes of its uses, and the lines of
+    limits."""
     model = _Model(path)
-    values, uses, limits = [], [], []
+    values: list[np.ndarray] = []
+    uses: list[Any] = []
+    limits: list[bytes] = []
     done, destinations = 0, 1
     for section, piece in model.sections():
         if section == OBJECTIVE and not piece:
             if model.header.get("TYPE") != kind:
-                raise BadInstance(f"{path}: TYPE is `{model.header.get('TYPE', '')}` and not {kind}")
+                raise BadInstance(f"{path}: TYPE is `{model.header.get('TYPE', '')}` and not "
+                                  f"{kind}")
             destinations = model.count("NDESTINATIONS") if kind == "PCPSP" else 1
         elif section == OBJECTIVE:
             values.append(_objective_part(model, piece, destinations, done))
@@ -513,7 +537,8 @@ def _read_model(path: str, kind: str, take_uses=_uses_part):
         raise BadInstance(f"{path}: no line of a {kind} file: it has no NAME")
     whole = np.concatenate(values) if values else np.empty((0, destinations))
     if model.count("NBLOCKS") != len(whole):
-        raise BadInstance(f"{path}: NBLOCKS is {model.count('NBLOCKS')}, and {len(whole)} blocks have values")
+        raise BadInstance(f"{path}: NBLOCKS is {model.count('NBLOCKS')}, and {len(whole)} blocks "
+                          "have values")
     return model, whole, uses, limits
 
 
@@ -564,9 +589,10 @@ def _look_at_ranges(problem: Problem, path: str) -> None:
                               f"{limit.resource} {limit.period}")
 
 
-def read_instance(base: str, texts: Sequence[str] = TEXTS, precedence: Optional[str] = None) -> Instance:
-    """The files BASE.blocks and so on, those of `texts`; BASE.upit and BASE.cpit may be lacking. The
-    precedence file is the one at `precedence` where it is given, as that of `pitc_thin`.
+def read_instance(base: str, texts: Sequence[str] = TEXTS,
+                  precedence: Optional[str] = None) -> Instance:
+    """The files BASE.blocks and so on, those of `texts`; BASE.upit and BASE.cpit may be lacking.
+    The precedence file is the one at `precedence` where it is given, as that of `pitc_thin`.
 
     Raises BadInstance where a file is none, or they are of other numbers of blocks.
     """
@@ -580,8 +606,10 @@ def read_instance(base: str, texts: Sequence[str] = TEXTS, precedence: Optional[
         if text in ("upit", "cpit") and not os.path.exists(path):
             continue
         parts["precedence" if text == "prec" else text] = readers[text](path)
-    sizes: dict[str, Callable[[Any], int]] = {"blocks": len, "precedence": lambda part: part.shape[0]}
-    counts = {name: sizes.get(name, lambda part: len(part.values))(part) for name, part in parts.items()}
+    sizes: dict[str, Callable[[Any], int]] = {"blocks": len,
+                                              "precedence": lambda part: part.shape[0]}
+    counts = {name: sizes.get(name, lambda part: len(part.values))(part)
+              for name, part in parts.items()}
     if len(set(counts.values())) > 1:
         told = ", ".join(f"{name} {count}" for name, count in counts.items())
         raise BadInstance(f"{base}: the files are not of as many blocks: {told}")
@@ -594,7 +622,8 @@ def read_instance(base: str, texts: Sequence[str] = TEXTS, precedence: Optional[
 def write_blocks(blocks: Blocks, path: str) -> None:
     """A block file."""
     columns = [(np.arange(len(blocks)), 0), (blocks.x, 0), (blocks.y, 0), (blocks.z, 0),
-               (spelling.scaled(blocks.tonnes, 3), 3), (spelling.scaled(blocks.grade, 6), 6), (blocks.zone, 0)]
+               (spelling.scaled(blocks.tonnes, 3), 3), (spelling.scaled(blocks.grade, 6), 6),
+               (blocks.zone, 0)]
     _write(path, "blocks", spelling.lines_of(columns))
 
 
@@ -634,9 +663,11 @@ def write_problem(problem: Problem, path: str, end: bytes = b"") -> None:
         del keys["NDESTINATIONS"], keys["NGENERAL_SIDE_CONSTRAINTS"]
     head = "".join(f"{key}: {value}\n" for key, value in keys.items()) + f"{OBJECTIVE}:\n"
     limits = "".join(f"{limit.resource} {limit.period} {limit.letter} "
-                     f"{' '.join(map(spelling.shortest, limit.ends))}\n" for limit in problem.limits)
-    _write(path, "model", chain([head.encode()], _objective_lines(problem.values),
-                                [f"{COEFFICIENTS}:\n".encode()], _uses_lines(problem.uses, is_pcpsp), [f"{LIMITS}:\n{limits}".encode(), end]))
+                     f"{' '.join(map(spelling.shortest, limit.ends))}\n"
+                     for limit in problem.limits)
+    _write(path, "model",
+           chain([head.encode()], _objective_lines(problem.values), [f"{COEFFICIENTS}:\n".encode()],
+                 _uses_lines(problem.uses, is_pcpsp), [f"{LIMITS}:\n{limits}".encode(), end]))
 
 
 def _objective_lines(values: np.ndarray) -> Iterator[bytes]:
@@ -658,8 +689,8 @@ def _write(path: str, kind: str, pieces: Iterable[bytes]) -> None:
 
 
 def write_instance(instance: Instance, base: str, end: bytes = b"") -> None:
-    """The parts of an instance that are there, to BASE.blocks and so on: the bytes of `pitc`. They come
-    together, or none does; `end` stands behind each model."""
+    """The parts of an instance that are there, to BASE.blocks and so on: the bytes of `pitc`. They
+    come together, or none does; `end` stands behind each model."""
     with outputs.together():
         if instance.blocks is not None:
             write_blocks(instance.blocks, base + ".blocks")

@@ -7,38 +7,43 @@ from __future__ import annotations
 
 import signal
 from contextlib import contextmanager
-from typing import Iterator
+from typing import Callable, Iterator
 
 SIGNALS = (signal.SIGINT, signal.SIGTERM, signal.SIGHUP)
 
-#: How many steps hold signals back, and the signals that came meanwhile.
-_holds = 0
-_waiting: list[int] = []
+
+class _Held:
+    """How many steps hold signals back, and the signals that came meanwhile."""
+
+    steps = 0
+    waiting: list[int] = []
 
 
 def _raise(number: int) -> None:
-    """Ends as Python does for Ctrl-C, and otherwise with the status that a shell has for a signal."""
+    """Ends as Python does for Ctrl-C, and otherwise with the status that a shell has for a
+    signal."""
     if number == signal.SIGINT:
         raise KeyboardInterrupt
     raise SystemExit(128 + number)
 
 
 def _take(number: int, _frame: object) -> None:
-    if _holds:
-        _waiting.append(number)
+    if _Held.steps:
+        _Held.waiting.append(number)
     else:
         _raise(number)
 
 
 @contextmanager
-def caught() -> Iterator[None]:
-    """Signals that would end the program raise an exception. One that is ignored, as behind nohup,
-    or that the program takes itself stays so; and in a thread beside the first nothing changes."""
+def taken(take: Callable[[int, object], object]) -> Iterator[None]:
+    """Signals that would end the program are handed to a function, as `signal.signal` does it. One
+    that is ignored, as behind nohup, or that the program takes itself stays so; and in a thread
+    beside the first nothing changes."""
     usual = {}
     try:
         for number in SIGNALS:
             if signal.getsignal(number) in (signal.SIG_DFL, signal.default_int_handler):
-                usual[number] = signal.signal(number, _take)
+                usual[number] = signal.signal(number, take)
     except ValueError:
         pass
     try:
@@ -49,15 +54,21 @@ def caught() -> Iterator[None]:
 
 
 @contextmanager
+def caught() -> Iterator[None]:
+    """Signals that would end the program raise an exception."""
+    with taken(_take):
+        yield
+
+
+@contextmanager
 def held() -> Iterator[None]:
     """Signals wait for the end of this step, and raise their exception behind it."""
-    global _holds
-    _holds += 1
+    _Held.steps += 1
     try:
         yield
     finally:
-        _holds -= 1
-        if _waiting and not _holds:
-            first = _waiting[0]
-            _waiting.clear()
+        _Held.steps -= 1
+        if _Held.waiting and not _Held.steps:
+            first = _Held.waiting[0]
+            _Held.waiting.clear()
             _raise(first)

@@ -1,9 +1,9 @@
-"""A small library: ten deposits by seed, with the sums of their instances, pit values, bounds, and the best
-schedules that are known.
+"""A small library: ten deposits by seed, with the sums of their instances, pit values, bounds, and
+the best schedules that are known.
 
-The deposits follow from their seeds, and their instances from these; the tables and the schedules stand in
-the folder `library_data` beside this module, or in a copy of it: TABLE has values and bounds, FOUND when each
-schedule was found, by whom and how, SUMS the sums of the instances.
+The deposits follow from their seeds, and their instances from these; the tables and the schedules
+stand in the folder `library_data` beside this module, or in a copy of it: TABLE has values and
+bounds, FOUND when each schedule was found, by whom and how, SUMS the sums of the instances.
 """
 from __future__ import annotations
 
@@ -19,7 +19,7 @@ from pit_tools import outputs
 from pit_tools.closure import ultimate_pit
 from pit_tools.deposits import ZONES, Deposit
 from pit_tools.errors import UserError
-from pit_tools.instance import TEXTS, Instance, cents, write_instance
+from pit_tools.instance import TEXTS, Instance, cents, present, write_instance
 from pit_tools.plan_file import plan_of
 from pit_tools.schedules import check, read_schedule
 from pit_tools.valuation import blocks_of, instance_of
@@ -32,11 +32,14 @@ SIZE = (8, 6, 5)
 
 #: The seeds with their shapes.
 DEPOSITS = tuple(Deposit(f"{shape}{seed}", seed, SIZE, shape)
-                 for seed, shape in zip(range(1, 11), ("lens", "pipe", "vein", "lens", "vein", "lens", "pipe", "vein", "lens", "vein")))
+                 for seed, shape in zip(range(1, 11), ("lens", "pipe", "vein", "lens", "vein",
+                                                       "lens", "pipe", "vein", "lens", "vein")))
 
-COLUMNS = ("name", "seed", "shape", "size", "blocks", "arcs", "pit_value", "cpit_bound", "pcpsp_bound", "cpit_best", "pcpsp_best")
+COLUMNS = ("name", "seed", "shape", "size", "blocks", "arcs", "pit_value", "cpit_bound",
+           "pcpsp_bound", "cpit_best", "pcpsp_best")
 
-#: The columns of FOUND: a schedule's deposit and kind; the day on which it was found, by whom, and how.
+#: The columns of FOUND: a schedule's deposit and kind; the day on which it was found, by whom, and
+#: how.
 FOUND_COLUMNS = ("name", "kind", "date", "by", "how")
 
 #: What stands between the columns of the tables.
@@ -74,7 +77,8 @@ def table_of(folder: str, name: str) -> pd.DataFrame:
     """TABLE or FOUND of a library, as words. Raises UserError where it is not there."""
     path = os.path.join(folder or FOLDER, name)
     if not os.path.exists(path):
-        raise UserError(f"{folder}: no library, since it has no {name}: `library --write` makes one")
+        raise UserError(f"{folder}: no library, since it has no {name}: `library --write` makes "
+                        "one")
     with outputs.looking():
         return pd.read_csv(path, sep=SEPARATORS[name], dtype=str)
 
@@ -85,7 +89,8 @@ def known(name: str, folder: str = "") -> Known:
     rows = table[table["name"] == name]
     if len(rows) != 1:
         raise UserError(f"the library has no `{name}`: it has {', '.join(table['name'])}")
-    sums = pd.read_csv(os.path.join(folder or FOLDER, "SUMS"), sep=r"\s+", header=None, names=["sum", "file"], dtype=str)
+    sums = pd.read_csv(os.path.join(folder or FOLDER, "SUMS"), sep=r"\s+", header=None,
+                       names=["sum", "file"], dtype=str)
     mine = sums[sums["file"].str.rpartition(".")[0] == name]
     return Known(rows.iloc[0].to_dict(), dict(zip(mine["file"], mine["sum"])))
 
@@ -101,32 +106,36 @@ def faults_of(deposit: Deposit, folder: str, of: str = "") -> Iterator[str]:
     for name, found in sums_of(folder, deposit.name).items():
         if said.sums.get(name) != found:
             yield f"{name} has another sum"
-    in_pit = ultimate_pit(mine.upit.values, mine.precedence)
-    pit = f"{cents(mine.upit.values)[in_pit].sum() / 100:.2f}"
+    values = present(mine.upit, "UPIT").values
+    in_pit = ultimate_pit(values, mine.precedence)
+    pit = f"{cents(values)[in_pit].sum() / 100:.2f}"
     if said.row["pit_value"] != pit:
         yield f"{deposit.name}: the pit is worth {pit}, and the table says {said.row['pit_value']}"
-    for problem in (mine.cpit, mine.pcpsp):
-        kind = problem.kind.lower()
+    for kind in ("cpit", "pcpsp"):
+        problem = mine.problem(kind)
         path = schedule_path(deposit.name, kind, of)
         if ((found_by["name"] == deposit.name) & (found_by["kind"] == kind)).sum() != 1:
             yield f"{deposit.name} {kind}: FOUND has not one line on it"
-        found = check(read_schedule(path, problem), problem, mine.precedence)
-        if not found.holds:
-            yield f"{os.path.basename(path)}: {found.broken[0]}"
-        if f"{found.worth:.2f}" != said.row[f"{kind}_best"]:
-            yield f"{os.path.basename(path)} is worth {found.worth:.2f}, and the table says {said.row[f'{kind}_best']}"
-        if found.worth > float(said.row[f"{kind}_bound"]) + 0.01:
+        checked = check(read_schedule(path, problem), problem, mine.precedence)
+        if not checked.holds:
+            yield f"{os.path.basename(path)}: {checked.broken[0]}"
+        if f"{checked.worth:.2f}" != said.row[f"{kind}_best"]:
+            yield (f"{os.path.basename(path)} is worth {checked.worth:.2f}, and the table says "
+                   f"{said.row[f'{kind}_best']}")
+        if checked.worth > float(said.row[f"{kind}_bound"]) + 0.01:
             yield f"{os.path.basename(path)} is worth more than its bound"
 
 
 def _copy_schedules(name: str, source: str, folder: str) -> None:
     """Copies the schedules of a deposit from one folder to another."""
     for kind in ("cpit", "pcpsp"):
-        outputs.copied(schedule_path(name, kind, source), schedule_path(name, kind, folder), "schedule")
+        outputs.copied(schedule_path(name, kind, source), schedule_path(name, kind, folder),
+                       "schedule")
 
 
 def write_all(folder: str) -> None:
-    """Writes the plans, zone files, instances and schedules, the table and the sums into a folder."""
+    """Writes the plans, zone files, instances and schedules, the table and the sums into a
+    folder."""
     with tempfile.TemporaryDirectory() as made:
         for deposit in DEPOSITS:
             make(deposit, made)
@@ -137,5 +146,6 @@ def write_all(folder: str) -> None:
                 outputs.copied(os.path.join(made, name), os.path.join(folder, name), kind)
             for deposit in DEPOSITS:
                 _copy_schedules(deposit.name, FOLDER, folder)
-            for name, kind in (("TABLE", "table of the library"), ("FOUND", "table of the library"), ("SUMS", "sums")):
+            for name, kind in (("TABLE", "table of the library"), ("FOUND", "table of the library"),
+                               ("SUMS", "sums")):
                 outputs.copied(os.path.join(FOLDER, name), os.path.join(folder, name), kind)

@@ -6,7 +6,7 @@ import re
 import tempfile
 import time
 from dataclasses import dataclass, replace
-from typing import Iterator, Optional, Sequence
+from typing import Any, Iterator, Optional, Sequence
 
 import pandas as pd
 
@@ -15,8 +15,8 @@ from pit_tools.bounds import bounds_of
 from pit_tools.commands.lp import fewer_arcs
 from pit_tools.deposits import Deposit
 from pit_tools.errors import UserError
-from pit_tools.instance import Instance, Problem
-from pit_tools.schedule_search import STEP, Found, Search
+from pit_tools.instance import Instance, Problem, present
+from pit_tools.schedule_search import STEP, Search
 from pit_tools.schedules import Schedule, check, read_schedule, write_schedule
 
 #: The name of a schedule's file, or the same without `-schedule`.
@@ -25,7 +25,8 @@ NAMED = re.compile(r"([a-z]+\d+)\.(cpit|pcpsp)(-schedule)?")
 
 @dataclass(frozen=True)
 class Finding:
-    """A schedule of the library's deposit with a bound, if one is known; when it was found, by whom, and how."""
+    """A schedule of the library's deposit with a bound, if one is known; when it was found, by
+    whom, and how."""
 
     deposit: Deposit
     kind: str  #: `cpit` or `pcpsp`
@@ -34,10 +35,17 @@ class Finding:
     by: str
     how: str
 
+    def given(self) -> Schedule:
+        """Its schedule. Raises UserError where there is none."""
+        if self.schedule is None:
+            raise UserError(f"{self.deposit.name} {self.kind}: no schedule was found by {self.how}")
+        return self.schedule
+
     @property
     def line(self) -> dict[str, str]:
         """Its line of FOUND, of today."""
-        return dict(zip(library.FOUND_COLUMNS, (self.deposit.name, self.kind, time.strftime("%Y-%m-%d"), self.by, self.how)))
+        return dict(zip(library.FOUND_COLUMNS, (self.deposit.name, self.kind,
+                                                time.strftime("%Y-%m-%d"), self.by, self.how)))
 
 
 def named(text: str) -> tuple[Deposit, str]:
@@ -52,7 +60,8 @@ def named(text: str) -> tuple[Deposit, str]:
 
 
 def instance_of(deposit: Deposit, folder: str) -> Instance:
-    """The instance of a deposit of a library. Raises UserError where this tool makes it otherwise."""
+    """The instance of a deposit of a library. Raises UserError where this tool makes it
+    otherwise."""
     with tempfile.TemporaryDirectory() as made:
         mine = library.make(deposit, made)
         if library.sums_of(made, deposit.name) != library.known(deposit.name, folder).sums:
@@ -66,11 +75,13 @@ def at_best_destinations(schedule: Schedule, problem: Problem) -> Schedule:
     return replace(schedule, destination=best[schedule.block])
 
 
-def sought(mine: Instance, deposit: Deposit, kind: str, seconds: float, starts: Sequence[Schedule]) -> Finding:
+def sought(mine: Instance, deposit: Deposit, kind: str, seconds: float,
+           starts: Sequence[Schedule]) -> Finding:
     """What a search of so many seconds finds, from shells and from these."""
-    problem = mine.cpit if kind == "cpit" else mine.pcpsp
-    found: Found = Search(problem, mine.blocks, fewer_arcs(mine.precedence), seconds).run(*starts)
-    return Finding(deposit, kind, found.schedule, found.bound, f"pit-tools {VERSION}", f"a search of {seconds:g} s: {found.how}")
+    blocks = present(mine.blocks, "block file")
+    found = Search(mine.problem(kind), blocks, fewer_arcs(mine.precedence), seconds).run(*starts)
+    return Finding(deposit, kind, found.schedule, found.bound, f"pit-tools {VERSION}",
+                   f"a search of {seconds:g} s: {found.how}")
 
 
 # Taken into a library
@@ -82,49 +93,53 @@ def handed_in(path: str, by: str, how: str, folder: str) -> str:
     Raises UserError where it does not hold, or is worth more than its bound."""
     deposit, kind = named(path)
     mine = instance_of(deposit, folder)
-    schedule = read_schedule(path, mine.cpit if kind == "cpit" else mine.pcpsp)
+    schedule = read_schedule(path, mine.problem(kind))
     return taken(Finding(deposit, kind, schedule, None, by, how), mine, folder)
 
 
 def search_on(word: str, seconds: float, folder: str) -> str:
-    """Seeks a better schedule and a lower bound than a library has, and takes them; answers what it did. A PCPSP begins
-    with the schedule of the CPIT too."""
+    """Seeks a better schedule and a lower bound than a library has, and takes them; answers what it
+    did. A PCPSP begins with the schedule of the CPIT too."""
     deposit, kind = named(word)
     mine = instance_of(deposit, folder)
-    problem = mine.cpit if kind == "cpit" else mine.pcpsp
+    problem = mine.problem(kind)
     with outputs.looking():
         starts = [read_schedule(library.schedule_path(deposit.name, kind, folder), problem)]
         if kind == "pcpsp":
-            starts.append(at_best_destinations(read_schedule(library.schedule_path(deposit.name, "cpit", folder), mine.cpit), problem))
+            starts.append(at_best_destinations(read_schedule(library.schedule_path(
+                deposit.name, "cpit", folder), mine.problem("cpit")), problem))
     return taken(sought(mine, deposit, kind, seconds, starts), mine, folder)
 
 
 def taken(found: Finding, mine: Instance, folder: str) -> str:
-    """Takes what is better of a finding into a library, the schedule, its bound or both; answers what it did."""
+    """Takes what is better of a finding into a library, the schedule, its bound or both; answers
+    what it did."""
     name, kind = found.deposit.name, found.kind
     row = library.known(name, folder).row
     best, bound = float(row[f"{kind}_best"]), float(row[f"{kind}_bound"])
-    worth = _worth(found, mine, bound) if found.schedule else best
+    schedule = found.schedule
+    worth = best if schedule is None else _worth(found, schedule, mine, bound)
     is_better, lower = worth >= best + STEP, max(min(found.bound or bound, bound), worth, best)
     if not is_better and lower > bound - STEP:
         return f"{name} {kind}: {worth:.2f} is not above {best:.2f}"
     changes = {f"{kind}_best": f"{max(worth, best):.2f}", f"{kind}_bound": f"{lower:.2f}"}
     with outputs.together():
-        if is_better:
-            write_schedule(found.schedule, library.schedule_path(name, kind, folder), kind == "pcpsp")
+        if schedule is not None and is_better:
+            write_schedule(schedule, library.schedule_path(name, kind, folder), kind == "pcpsp")
             _change(folder, "FOUND", ("name", "kind"), found.line)
         _change(folder, "TABLE", ("name",), {"name": name, **changes})
     return f"{name} {kind}: {max(worth, best):.2f} in place of {best:.2f}, bound {lower:.2f}"
 
 
-def _worth(found: Finding, mine: Instance, bound: float) -> float:
+def _worth(found: Finding, schedule: Schedule, mine: Instance, bound: float) -> float:
     """What a schedule is worth. Raises UserError where it cannot be."""
-    problem = mine.cpit if found.kind == "cpit" else mine.pcpsp
-    told = check(found.schedule, problem, mine.precedence)
+    told = check(schedule, mine.problem(found.kind), mine.precedence)
     if not told.holds:
-        raise UserError(f"{found.deposit.name} {found.kind}: the schedule does not hold: {told.broken[0]}")
+        raise UserError(f"{found.deposit.name} {found.kind}: the schedule does not hold: "
+                        f"{told.broken[0]}")
     if told.worth > bound + STEP:
-        raise UserError(f"{found.deposit.name} {found.kind}: {told.worth:.2f} is above the bound {bound:.2f}, so one of them is wrong")
+        raise UserError(f"{found.deposit.name} {found.kind}: {told.worth:.2f} is above the bound "
+                        f"{bound:.2f}, so one of them is wrong")
     return told.worth
 
 
@@ -137,7 +152,8 @@ def _change(folder: str, name: str, keys: Sequence[str], cells: dict[str, str]) 
 
 
 def write_table(table: pd.DataFrame, folder: str, name: str) -> None:
-    with outputs.opened(os.path.join(folder or library.FOLDER, name), "table of the library", "utf-8") as file:
+    with outputs.opened(os.path.join(folder or library.FOLDER, name), "table of the library",
+                        "utf-8") as file:
         table.to_csv(file, sep=library.SEPARATORS[name], index=False, lineterminator="\n")
 
 
@@ -147,7 +163,8 @@ def write_table(table: pd.DataFrame, folder: str, name: str) -> None:
 def build(folder: str, seconds: float) -> None:
     """Makes the library anew: tables, sums and schedules."""
     outputs.folder(folder)
-    rows, lines, sums = [], [], {}
+    rows, lines = [], []
+    sums: dict[str, str] = {}
     with tempfile.TemporaryDirectory() as made:
         for deposit in library.DEPOSITS:
             mine = library.make(deposit, made)
@@ -157,7 +174,9 @@ def build(folder: str, seconds: float) -> None:
             lines += [one.line for one in found]
             with outputs.together():
                 for one in found:
-                    write_schedule(one.schedule, library.schedule_path(deposit.name, one.kind, folder), one.kind == "pcpsp")
+                    write_schedule(one.given(),
+                                   library.schedule_path(deposit.name, one.kind, folder),
+                                   one.kind == "pcpsp")
                 write_table(pd.DataFrame(rows)[list(library.COLUMNS)], folder, "TABLE")
                 write_table(pd.DataFrame(lines), folder, "FOUND")
                 with outputs.opened(os.path.join(folder, "SUMS"), "sums", "ascii") as file:
@@ -169,20 +188,24 @@ def _both(mine: Instance, deposit: Deposit, seconds: float) -> Iterator[Finding]
     starts: list[Schedule] = []
     for kind in ("cpit", "pcpsp"):
         found = sought(mine, deposit, kind, seconds, starts)
-        if found.schedule is None:
-            raise UserError(f"{deposit.name} {kind}: no schedule was found in {seconds:g} s")
-        starts = [at_best_destinations(found.schedule, mine.pcpsp)]
+        starts = [at_best_destinations(found.given(), mine.problem("pcpsp"))]
         yield found
 
 
-def _row(mine: Instance, deposit: Deposit, seconds: float, found: Sequence[Finding]) -> dict[str, str]:
-    """The row of TABLE. A bound is the better one of the relaxation, of the search, and of the pit."""
+def _row(mine: Instance, deposit: Deposit, seconds: float,
+         found: Sequence[Finding]) -> dict[str, str]:
+    """The row of TABLE. A bound is the better one of the relaxation, of the search, and of the
+    pit."""
     bounds = bounds_of(mine, seconds)
-    row = {"name": deposit.name, "seed": str(deposit.seed), "shape": deposit.shape, "size": ",".join(map(str, deposit.size)),
-           "blocks": str(len(mine.blocks)), "arcs": str(mine.precedence.nnz), "pit_value": f"{bounds['the ultimate pit']:.2f}"}
+    blocks = present(mine.blocks, "block file")
+    precedence: Any = present(mine.precedence, "precedence file")
+    row = {"name": deposit.name, "seed": str(deposit.seed), "shape": deposit.shape,
+           "size": ",".join(map(str, deposit.size)), "blocks": str(len(blocks)),
+           "arcs": str(precedence.nnz), "pit_value": f"{bounds['the ultimate pit']:.2f}"}
     for one in found:
-        worth = one.schedule.worth(mine.cpit if one.kind == "cpit" else mine.pcpsp)
+        worth = one.given().worth(mine.problem(one.kind))
         limits = [bounds[f"{one.kind.upper()}, relaxed"], one.bound, bounds["the ultimate pit"]]
-        row[f"{one.kind}_bound"] = f"{max(min(value for value in limits if value is not None), worth):.2f}"
+        least = min(value for value in limits if value is not None)
+        row[f"{one.kind}_bound"] = f"{max(least, worth):.2f}"
         row[f"{one.kind}_best"] = f"{worth:.2f}"
     return row

@@ -4,14 +4,14 @@
         with outputs.opened("k1.pit", "pit") as first, outputs.opened("k2.pit", "pit") as second:
             ...
 
-A file is written beside its place, as NAME.unfinished-PROCESS, and put there by a rename when all of
-it lies on the disk. The files of one `together` come together, or none does; an old file is kept
+A file is written beside its place, as NAME.unfinished-PROCESS, and put there by a rename when all
+of it lies on the disk. The files of one `together` come together, or none does; an old file is kept
 meanwhile as NAME.before-PROCESS, and comes back where a later one cannot be put in its place. Both
 names stay where the process is killed, and nowhere else.
 
 Nothing is written over what the command reads, by whichever name or link. A link stays a link: the
-file that it leads to is replaced. A device or a pipe is written through. Of a file with several names
-by hard links the one name gets the new file.
+file that it leads to is replaced. A device or a pipe is written through. Of a file with several
+names by hard links the one name gets the new file.
 """
 from __future__ import annotations
 
@@ -25,7 +25,7 @@ import sys
 import threading
 from contextlib import contextmanager
 from dataclasses import dataclass
-from typing import IO, Callable, Iterable, Iterator, Optional, Tuple, TypeVar
+from typing import IO, Any, Callable, Iterable, Iterator, Optional, Tuple, TypeVar, Union
 
 from pit_tools import interrupts
 from pit_tools.errors import UserError
@@ -47,11 +47,17 @@ KINDS = {
     "schedule": rb"\d+ \d+( [0-9.]+){0,2}\r?\n",
     "program": rb"\\ ",
     "flow": rb"p max ",
+    "table of a report": rb"part,name,",
+    "table of nested pits": rb"factor,",
+    "workbook": rb"PK\x03\x04.{26}docProps/core\.xml.{1,2000}<dc:creator[^>]*>pit-tools<",
     "rows of a pit": rb"[^\n]*\bblock\b[^\n]*\bmined\b",
-    "survey": rb"<!doctype html>\n<html[^>]*><head><meta[^>]*><title>Survey of ",
+    "survey": rb"<!doctype html>\n<html[^>]*><head>(<meta[^>]*>)*<title>Survey of ",
     "PNG picture": rb"\x89PNG",
     "SVG picture": rb"<\?xml",
     "PDF picture": rb"%PDF",
+    "DXF drawing": rb"\s*(999\r?\n[^\n]*\n\s*)*0\r?\nSECTION\r?\n",
+    "VTK file": rb"# vtk DataFile ",
+    "OBJ file": rb"# pit-tools shell\n",
     "compiled program": rb"\x7fELF|\xcf\xfa\xed\xfe",
     "table of the library": rb"name( seed shape |,kind,date,)",
     "sums": rb"\\?[0-9a-f]{64}  ",
@@ -61,11 +67,14 @@ KINDS = {
 }
 
 #: Names that are of one kind, so that no file of another kind takes their place.
-ENDINGS = {".plan": "plan", ".blocks": "blocks", ".prec": "prec", ".upit": "model", ".cpit": "model",
-           ".pcpsp": "model", ".thin": "prec"}
+ENDINGS = {".plan": "plan", ".blocks": "blocks", ".prec": "prec", ".upit": "model",
+           ".cpit": "model", ".pcpsp": "model", ".thin": "prec"}
 
 #: How much of an old file is looked at: more than the longest header.
 FRONT = 1 << 20
+
+#: How much of a name stands in that of an unfinished file: with the rest it has to have 255 bytes.
+NAME_KEPT = 200
 
 #: What a file system answers that has no hard links, or gives none of this file.
 NO_LINKS = (errno.EPERM, errno.EOPNOTSUPP, errno.ENOSYS, errno.EMLINK, errno.EACCES)
@@ -74,11 +83,15 @@ Identity = Tuple[int, int]
 Made = TypeVar("Made")
 
 
-def _identity(path: object) -> Optional[Identity]:
+#: How a file is named to the system.
+Name = Union[str, bytes, "os.PathLike[str]", "os.PathLike[bytes]"]
+
+
+def _identity(path: Name) -> Optional[Identity]:
     """What a regular file is, by whichever of its names; None of all else."""
     try:
-        status = os.stat(path)  # type: ignore[arg-type]
-    except (OSError, ValueError, TypeError):
+        status = os.stat(path)
+    except (OSError, ValueError):
         return None
     return (status.st_dev, status.st_ino) if stat.S_ISREG(status.st_mode) else None
 
@@ -89,47 +102,48 @@ def _identity(path: object) -> Optional[Identity]:
 class _Command:
     """The command that runs: what it has read, and whether it may replace other files."""
 
+    #: The one that runs now, and whether Python calls `_hook` already.
+    now: Optional[_Command] = None
+    is_hooked = False
+
     def __init__(self, force: bool):
         self.force, self.is_looking = force, False
         self.reads: dict[Identity, str] = {}
 
-    def note(self, path: object) -> None:
+    def note(self, path: Name) -> None:
         found = _identity(path)
         if found and not self.is_looking:
-            self.reads.setdefault(found, os.fsdecode(path))  # type: ignore[arg-type]
+            self.reads.setdefault(found, os.fsdecode(path))
 
 
-_command: Optional[_Command] = None
-_is_hooked = False
-
-
-def _hook(event: str, arguments: tuple) -> None:
+def _hook(event: str, arguments: tuple[Any, ...]) -> None:
     """Python calls it for each file that it opens, so that no command forgets one."""
-    if event == "open" and _command is not None:
+    command = _Command.now
+    if event == "open" and command is not None:
         path, _, flags = arguments
         if isinstance(path, (str, bytes, os.PathLike)) and flags & os.O_ACCMODE != os.O_WRONLY:
-            _command.note(path)
+            command.note(path)
 
 
 @contextmanager
 def of_command(force: bool = False) -> Iterator[None]:
-    """Within it each file that is opened to read is one that nothing may be written over, and a file
-    is replaced only by one of its kind, but with `force`."""
-    global _command, _is_hooked
-    if not _is_hooked:
+    """Within it each file that is opened to read is one that nothing may be written over, and a
+    file is replaced only by one of its kind, but with `force`."""
+    if not _Command.is_hooked:
         sys.addaudithook(_hook)
-        _is_hooked = True
-    _command = _Command(force)
+        _Command.is_hooked = True
+    _Command.now = _Command(force)
     try:
         yield
     finally:
-        _command = None
+        _Command.now = None
 
 
 @contextmanager
 def looking() -> Iterator[None]:
     """What is opened within, to see what it is, may be replaced all the same."""
-    command, before = _command, _command is not None and _command.is_looking
+    command = _Command.now
+    before = command is not None and command.is_looking
     if command is not None:
         command.is_looking = True
     try:
@@ -141,9 +155,9 @@ def looking() -> Iterator[None]:
 
 def reads(*paths: str) -> None:
     """Says that the command reads these files too, by another program."""
-    if _command is not None:
+    if _Command.now is not None:
         for path in paths:
-            _command.note(path)
+            _Command.now.note(path)
 
 
 # Where a file goes
@@ -181,16 +195,18 @@ class _Raw(io.FileIO):
         super().__init__(descriptor, "w")
         self.place = place
 
-    def write(self, data):
+    def write(self, data: Any) -> int:
         try:
             return super().write(data)
         except OSError as error:
             raise _named(error, self.place) from None
 
 
-def _over(raw: _Raw, encoding: Optional[str], newline: str) -> IO:
+def _over(raw: _Raw, encoding: Optional[str], newline: str) -> IO[Any]:
     buffered = io.BufferedWriter(raw, 1 << 18)
-    return io.TextIOWrapper(buffered, encoding, newline=newline) if encoding else buffered
+    if encoding:
+        return io.TextIOWrapper(buffered, encoding, newline=newline)
+    return buffered
 
 
 @dataclass
@@ -203,15 +219,16 @@ class _Unfinished:
 
 
 def _beside(target: str, what: str, make: Callable[[str], Made]) -> tuple[str, Made]:
-    """Makes a file beside another one, under a name that is not taken; answers it, and what `make` does."""
+    """Makes a file beside another one, under a name that is not taken; answers it, and what `make`
+    does."""
     above, name = os.path.split(target)
-    path = os.path.join(above, f"{name[:200]}.{what}-{os.getpid()}")
+    path = os.path.join(above, f"{name[:NAME_KEPT]}.{what}-{os.getpid()}")
     for number in range(1, 1000):
         try:
             return path, make(path)
         except FileExistsError:
             # One of the same number that was killed, on this machine or another.
-            path = os.path.join(above, f"{name[:200]}.{what}-{os.getpid()}.{number}")
+            path = os.path.join(above, f"{name[:NAME_KEPT]}.{what}-{os.getpid()}.{number}")
     raise FileExistsError(errno.EEXIST, os.strerror(errno.EEXIST), path)
 
 
@@ -235,9 +252,11 @@ class _Group:
 
     def refuse_read(self, place: str, found: Optional[Identity]) -> None:
         """Refuses to write over a file that is read."""
-        read = {**self.reads, **(_command.reads if _command else {})}.get(found) if found else None
+        known = {**self.reads, **(_Command.now.reads if _Command.now else {})}
+        read = known.get(found) if found else None
         if read is not None:
-            told = "this command reads it" if read == place else f"it is {read}, which this command reads"
+            told = ("this command reads it" if read == place
+                    else f"it is {read}, which this command reads")
             raise UserError(f"{place}: {told}, and it would be written over: give another name")
 
     def begin(self, place: str, kind: str) -> _Raw:
@@ -249,20 +268,22 @@ class _Group:
             raise UserError(f"{place}: two files would have this name")
         self.refuse_read(place, _identity(target))
         if os.path.exists(target):
-            self._judge_old(place, target, kind)
+            self.judge_old(place, target, kind)
         with interrupts.held():
             return self._made_beside(place, target)
 
-    def _judge_old(self, place: str, target: str, kind: str) -> None:
+    def judge_old(self, place: str, target: str, kind: str) -> None:
+        """Refuses to write in place of a file of another kind, or one that may not be written."""
         if not os.access(target, os.W_OK):
             raise PermissionError(errno.EACCES, os.strerror(errno.EACCES), place)
-        if _command is None or _command.force:
+        if _Command.now is None or _Command.now.force:
             return
         with looking(), open(target, "rb") as file:
             front = file.read(FRONT)
         of_name = ENDINGS.get(os.path.splitext(target)[1].lower(), kind)
         if front and (of_name != kind or not re.match(KINDS[kind], front, re.DOTALL)):
-            raise UserError(f"{place}: the file there is of another kind than `{kind}`: --force replaces it")
+            raise UserError(f"{place}: the file there is of another kind than `{kind}`: --force "
+                            "replaces it")
 
     def _made_beside(self, place: str, target: str) -> _Raw:
         old = os.stat(target) if os.path.exists(target) else None
@@ -271,8 +292,8 @@ class _Group:
             path, descriptor = _beside(target, "unfinished", lambda name: _created(name, mode))
         except PermissionError:
             if old:
-                raise UserError(f"{place}: its folder may not be written, where a new file stands until "
-                                "it is whole") from None
+                raise UserError(f"{place}: its folder may not be written, where a new file stands "
+                                "until it is whole") from None
             raise PermissionError(errno.EACCES, os.strerror(errno.EACCES), place) from None
         except OSError as error:
             raise _named(error, place) from None
@@ -303,12 +324,12 @@ class _Group:
             raise error
         for _, kept, _ in done:
             _remove(kept)
-        for folder in {os.path.dirname(one.target) for one in self.files}:
-            _sync_folder(folder)
+        for above in {os.path.dirname(one.target) for one in self.files}:
+            _sync_folder(above)
         self.files.clear()
         self.folders.clear()
 
-    def _undo(self, done: list) -> None:
+    def _undo(self, done: list[tuple[_Unfinished, Optional[str], bool]]) -> None:
         """Brings the old files back, and takes new ones away that nothing stood in place of."""
         for one, kept, was_there in reversed(done):
             if os.path.lexists(one.path):
@@ -321,9 +342,9 @@ class _Group:
     def clear(self) -> None:
         """Takes all away that was begun."""
         self.drop(self.files)
-        for folder in reversed(self.folders):
+        for made in reversed(self.folders):
             try:
-                os.rmdir(folder)
+                os.rmdir(made)
             except OSError:
                 pass
 
@@ -374,10 +395,10 @@ def _synced(descriptor: int, place: str) -> None:
             raise _named(error, place) from None
 
 
-def _sync_folder(folder: str) -> None:
+def _sync_folder(path: str) -> None:
     """Makes the new names last; the files are there already, so a fault of this is none."""
     try:
-        descriptor = os.open(folder, os.O_RDONLY | os.O_DIRECTORY | os.O_CLOEXEC)
+        descriptor = os.open(path, os.O_RDONLY | os.O_DIRECTORY | os.O_CLOEXEC)
     except OSError:
         return
     try:
@@ -426,30 +447,34 @@ def alone() -> Iterator[None]:
 
 
 @contextmanager
-def opened(place: str, kind: str, encoding: Optional[str] = None, newline: str = "\n") -> Iterator[IO]:
-    """A file to be written, of bytes, or of text where an encoding is given. It comes to its place at
-    the end of the `together` around it, or at its own end.
+def opened(place: str, kind: str, encoding: Optional[str] = None,
+           newline: str = "\n") -> Iterator[IO]:
+    """A file to be written, of bytes, or of text where an encoding is given. It comes to its place
+    at the end of the `together` around it, or at its own end.
 
-    Raises UserError where the command reads that file, or another kind of file is there; OSError, with
-    the name, for all that the system refuses.
+    Raises UserError where the command reads that file, or another kind of file is there; OSError,
+    with the name, for all that the system refuses.
     """
     descriptor = _descriptor_of(place)
     if descriptor is not None or _is_written_through(place):
         with _written_through(place, descriptor) as raw:
-            yield from _whole(raw, encoding, newline)
+            with _whole(raw, encoding, newline) as file:
+                yield file
         return
     with together():
         group = _here.group
         raw = group.begin(place, kind)
         mine = group.files[-1]
         try:
-            yield from _whole(raw, encoding, newline)
+            with _whole(raw, encoding, newline) as file:
+                yield file
         except BaseException:
             with interrupts.held():
                 group.drop([mine])
             raise
 
 
+@contextmanager
 def _whole(raw: _Raw, encoding: Optional[str], newline: str) -> Iterator[IO]:
     """Lends a file, and sees that all of it is written."""
     file = _over(raw, encoding, newline)
@@ -477,12 +502,14 @@ def _written_through(place: str, descriptor: Optional[int]) -> Iterator[_Raw]:
         sys.stdout.flush()
     raw = _Raw(os.dup(descriptor), place)
     status = os.fstat(raw.fileno())
-    _Group().refuse_read(place, (status.st_dev, status.st_ino) if stat.S_ISREG(status.st_mode) else None)
+    _Group().refuse_read(place,
+                         (status.st_dev, status.st_ino) if stat.S_ISREG(status.st_mode) else None)
     yield raw
 
 
 @contextmanager
-def opened_or_printed(place: Optional[str], kind: str, encoding: str, newline: str = "\n") -> Iterator[IO]:
+def opened_or_printed(place: Optional[str], kind: str, encoding: str,
+                      newline: str = "\n") -> Iterator[IO]:
     """The same as text, or standard output where no place is given."""
     if place:
         with opened(place, kind, encoding, newline) as file:
@@ -515,7 +542,20 @@ def judged_old(place: str, kind: str) -> None:
     """Refuses early what would be written in place of a file of another kind."""
     target = os.path.realpath(place)
     if os.path.exists(target):
-        _Group()._judge_old(place, target, kind)
+        _Group().judge_old(place, target, kind)
+
+
+def clear_left(places: Iterable[str]) -> None:
+    """Takes away what a killed process left beside these files, which nobody else may write now."""
+    by_folder: dict[str, set[str]] = {}
+    for place in places:
+        above, name = os.path.split(place)
+        by_folder.setdefault(above or ".", set()).add(name[:NAME_KEPT])
+    for above, names in by_folder.items():
+        for left in os.listdir(above):
+            found = re.fullmatch(r"(.*)\.(?:unfinished|before)-\d+(?:\.\d+)?", left)
+            if found and found[1] in names:
+                _remove(os.path.join(above, left))
 
 
 def folder(path: str) -> None:

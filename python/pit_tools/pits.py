@@ -37,8 +37,10 @@ def write_pit(in_pit: np.ndarray, path: str) -> None:
         np.savetxt(file, np.flatnonzero(in_pit), fmt="%d")
 
 
-def told(in_pit: np.ndarray, blocks: Blocks, values: np.ndarray, note: PlanNote = PlanNote()) -> str:
+def told(in_pit: np.ndarray, blocks: Blocks, values: np.ndarray,
+         note: PlanNote = PlanNote()) -> str:
     """What a pit, bool (n,), holds and is worth, in a line, in the currency of a plan's note."""
     worth = int(cents(values)[in_pit].sum())
     kilograms = int(np.rint(blocks.tonnes[in_pit] * 1000).astype(np.int64).sum())
-    return f"{in_pit.sum()} blocks, {kilograms // 1000}.{kilograms % 1000:03d} t, worth {note.money_told(worth)}"
+    return (f"{in_pit.sum()} blocks, {kilograms // 1000}.{kilograms % 1000:03d} t, worth "
+            f"{note.money_told(worth)}")

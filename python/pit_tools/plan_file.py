@@ -7,7 +7,7 @@ import csv
 import re
 from dataclasses import dataclass, field
 from decimal import Decimal
-from typing import Iterable, Optional
+from typing import Iterable, Optional, Sequence, Tuple
 
 from pit_tools.decimals import decimal_of, plain
 from pit_tools.errors import UserError
@@ -26,6 +26,13 @@ class Grid:
 
     origin: tuple[Decimal, Decimal, Decimal]
     size: tuple[Decimal, Decimal, Decimal]
+
+    @classmethod
+    def of(cls, numbers: Sequence[Decimal]) -> Grid:
+        """The grid of six numbers, its centroid and its size. It raises ValueError for fewer or
+        more."""
+        x, y, z, wide, deep, high = numbers
+        return cls((x, y, z), (wide, deep, high))
 
     @property
     def volume(self) -> Decimal:
@@ -48,11 +55,15 @@ class Slope:
         return f"{self.rise}:{self.run}"
 
 
+#: The slopes of +x, -x, +y and -y.
+FourSlopes = Tuple[Slope, Slope, Slope, Slope]
+
+
 @dataclass(frozen=True)
 class Zone:
     """The slopes of +x, -x, +y and -y, and K, the benches that a cone goes up."""
 
-    slopes: tuple[Slope, Slope, Slope, Slope]
+    slopes: FourSlopes
     benches: int
 
     def __str__(self) -> str:
@@ -65,8 +76,8 @@ class Zone:
 @dataclass(frozen=True)
 class Destination:
     """Where rock goes. `kind` is mill, leach or dump; price is cents a kilogram of metal (0 for a
-    dump), cost cents a tonne of rock; bands are pairs of the grade, in g/t, at which one begins, and
-    the recovery from there on, per mille. A mill has one band from 0; a dump has none."""
+    dump), cost cents a tonne of rock; bands are pairs of the grade, in g/t, at which one begins,
+    and the recovery from there on, per mille. A mill has one band from 0; a dump has none."""
 
     kind: str
     name: str
@@ -100,7 +111,8 @@ class Resource:
 
 @dataclass(frozen=True)
 class Limit:
-    """A limit of tonnes in a period: letter L, G or I; `lower` or `upper` is None where there is none."""
+    """A limit of tonnes in a period: letter L, G or I; `lower` or `upper` is None where there is
+    none."""
 
     resource: int
     period: int
@@ -125,7 +137,8 @@ class Plan:
     def limits_of(self, resource: int, period: int) -> Optional[Limit]:
         """The limit of a resource in a period, or None."""
         wanted = (resource, period)
-        return next((limit for limit in self.limits if (limit.resource, limit.period) == wanted), None)
+        return next((limit for limit in self.limits if (limit.resource, limit.period) == wanted),
+                    None)
 
     def records(self) -> list[list[str]]:
         """The records of the plan, in the order in which docs/formats.md lists them."""
@@ -221,6 +234,7 @@ class _Reader:
         self.state(numbers)
 
     def take_zone(self) -> None:
+        """Takes a record `zone`, of one slope or of four."""
         if len(self.cells) not in (4, 10):
             raise self.fault("a zone has p, q, K, or p and q of +x, -x, +y and -y, and K")
         numbers = [self.whole(at) for at in range(1, len(self.cells))]
@@ -232,13 +246,16 @@ class _Reader:
 
     def take_mill(self) -> None:
         bands = ((Decimal(0), self.whole(2)),)
-        self.destinations.append(Destination("mill", self.cells[1], self.whole(3), self.whole(4), bands))
+        self.destinations.append(Destination("mill", self.cells[1], self.whole(3), self.whole(4),
+                                             bands))
 
     def take_leach(self) -> None:
         if len(self.cells) < 6 or len(self.cells) % 2:
-            raise self.fault("a leach has a name, a price, a cost, and pairs of a start and a recovery")
+            raise self.fault("a leach has a name, a price, a cost, and pairs of a start and a "
+                             "recovery")
         bands = tuple((self.number(at), self.whole(at + 1)) for at in range(4, len(self.cells), 2))
-        self.destinations.append(Destination("leach", self.cells[1], self.whole(2), self.whole(3), bands))
+        self.destinations.append(Destination("leach", self.cells[1], self.whole(2), self.whole(3),
+                                             bands))
 
     def take_dump(self) -> None:
         self.destinations.append(Destination("dump", self.cells[1], 0, self.whole(2)))
@@ -260,6 +277,7 @@ class _Reader:
         self.resources.append(Resource(self.cells[1], covers))
 
     def take_limit(self) -> None:
+        """Takes a record `limit`."""
         letter = self.cells[3]
         if letter not in ("L", "G", "I"):
             raise self.fault(f"`{letter}` is none of L, G and I")
@@ -276,9 +294,8 @@ class _Reader:
         lacking += [] if self.destinations else ["mill, leach or dump"]
         if lacking:
             raise UserError(f"{self.source}: no record {', '.join(lacking)}")
-        grid = self.once["grid"]
         return Plan(
-            self.once["name"][0], Grid(tuple(grid[:3]), tuple(grid[3:])), tuple(self.zones),
+            self.once["name"][0], Grid.of(self.once["grid"]), tuple(self.zones),
             tuple(self.destinations), self.once["periods"][0], self.once["rate"][0],
             tuple(self.resources), tuple(self.limits))
 
@@ -309,5 +326,4 @@ def grid_and_zones(path: str) -> tuple[Grid, tuple[Zone, ...]]:
                 reader.take(record)
     if "grid" not in reader.once or not reader.zones:
         raise UserError(f"{path}: the plan has no `grid` or no `zone`")
-    grid = reader.once["grid"]
-    return Grid(tuple(grid[:3]), tuple(grid[3:])), tuple(reader.zones)
+    return Grid.of(reader.once["grid"]), tuple(reader.zones)

@@ -1,7 +1,9 @@
-"""The note beside a plan, PLAN.json: what a planner said that the plan's fixed format has no place for.
+"""The note beside a plan, PLAN.json: what a planner said that the plan's fixed format has no place
+for.
 
-`plan` writes it: the currency, the parts of a cent, the unit of grades, the zones by name with their files, each record in words, and
-what `import` told. `survey`, `pit` and `report` tell by it. It fits one plan, by the sum of its bytes."""
+`plan` writes it: the currency, the parts of a cent, the unit of grades, the zones by name with
+their files, each record in words, and what `import` told. `survey`, `pit` and `report` tell by it.
+It fits one plan, by the sum of its bytes."""
 from __future__ import annotations
 
 import json
@@ -10,8 +12,11 @@ from dataclasses import asdict, dataclass, field
 
 from pit_tools import VERSION, outputs
 from pit_tools.errors import UserError
+from pit_tools.gridding import Frame
 from pit_tools.sums import sum_of
 from pit_tools.units import Measures
+
+NOT_TAKEN = "units, names and the export's coordinates are not taken from it"
 
 
 @dataclass(frozen=True)
@@ -25,8 +30,9 @@ class ZoneSeen:
 
 @dataclass(frozen=True)
 class PlanNote:
-    """`plan` is the sum of the plan, empty where no note is used, and `why_not` says why one that is there is not; `said` has pairs of
-    a record and what it says; `exports` pairs of a file and its sum; `told` and `doubts` are of `import`."""
+    """`plan` is the sum of the plan, empty where no note is used, and `why_not` says why one that
+    is there is not; `said` has pairs of a record and what it says; `exports` pairs of a file and
+    its sum; `told`, `doubts` and the `frame` of coordinates are of `import`."""
 
     plan: str = ""
     measures: Measures = Measures()
@@ -36,10 +42,12 @@ class PlanNote:
     exports: list[tuple[str, str]] = field(default_factory=list)
     told: list[str] = field(default_factory=list)
     doubts: list[str] = field(default_factory=list)
+    frame: Frame = Frame()
     why_not: str = ""
 
     def money_told(self, in_hundredths: int) -> str:
-        """A sum of what the plan counts money in, exact where a cent has one part, with the currency."""
+        """A sum of what the plan counts money in, exact where a cent has one part, with the
+        currency."""
         sign, whole = "-" if in_hundredths < 0 else "", abs(in_hundredths) // self.measures.parts
         return f"{sign}{whole // 100}.{whole % 100:02d}{self.measures.unit}"
 
@@ -68,7 +76,8 @@ def write_note(note: PlanNote, plan_path: str) -> str:
 
 
 def read_note(plan_path: str) -> PlanNote:
-    """The note of a plan, or one that has nothing but, where a note is there and is not used, why not. It raises OSError for the plan."""
+    """The note of a plan, or one that has nothing but, where a note is there and is not used, why
+    not. It raises OSError for the plan."""
     path = path_of_note(plan_path)
     if not os.path.exists(path):
         return PlanNote()
@@ -76,14 +85,20 @@ def read_note(plan_path: str) -> PlanNote:
         with open(path, encoding="utf-8") as file:
             note = _note_of(json.load(file))
     except (OSError, ValueError, KeyError, TypeError, UserError):
-        return PlanNote(why_not=f"{path} is not what `pit-tools plan` writes beside a plan: units and names are not taken from it")
+        return PlanNote(why_not=f"{path} is not what `pit-tools plan` writes beside a plan: "
+                        + NOT_TAKEN)
     if note.plan != sum_of(plan_path):
-        return PlanNote(why_not=f"{path} was written for another plan than {plan_path} is now: units and names are not taken from it")
+        return PlanNote(why_not=f"{path} was written for another plan than {plan_path} is now: "
+                        + NOT_TAKEN)
     return note
 
 
 def _note_of(told: dict) -> PlanNote:
-    pairs = {name: [(str(first), str(second)) for first, second in told[name]] for name in ("said", "exports")}
-    lists = {name: [str(line) for line in told[name]] for name in ("notes", "told", "doubts")}
-    zones = [ZoneSeen(str(zone["name"]), str(zone["file"]), str(zone["sum"])) for zone in told["zones"]]
-    return PlanNote(str(told["plan"]), Measures(**told["measures"]), zones, **pairs, **lists)
+    said, exports = ([(str(first), str(second)) for first, second in told[name]]
+                     for name in ("said", "exports"))
+    notes, lines, doubts = ([str(line) for line in told[name]]
+                            for name in ("notes", "told", "doubts"))
+    zones = [ZoneSeen(str(zone["name"]), str(zone["file"]), str(zone["sum"]))
+             for zone in told["zones"]]
+    return PlanNote(str(told["plan"]), Measures(**told["measures"]), zones, said, notes, exports,
+                    lines, doubts, Frame.of_record(told["frame"]))

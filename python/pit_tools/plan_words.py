@@ -1,7 +1,7 @@
 """A plan from words with units, as `recovery 92 %, cost 16.50 USD/t`; each record is explained.
 
-Money is of any currency; a cent is its hundredth. Where a price is a few cents a kilogram, as of iron ore, all money is counted in
-`parts` of a cent."""
+Money is of any currency; a cent is its hundredth. Where a price is a few cents a kilogram, as of
+iron ore, all money is counted in `parts` of a cent."""
 from __future__ import annotations
 
 import re
@@ -12,12 +12,15 @@ from typing import Callable, Optional, Sequence
 from pit_tools.contacts import Contacts
 from pit_tools.decimals import decimal_of, plain
 from pit_tools.errors import UserError
-from pit_tools.plan_file import (NAME, Destination, Grid, Limit, Plan, Resource, Slope, Zone, destination_record, zone_record)
+from pit_tools.plan_file import (NAME, Destination, FourSlopes, Grid, Limit, Plan, Resource, Zone,
+                                 destination_record, zone_record)
 from pit_tools.slope_words import K_for, degrees_of, judge, slope_of, slopes_of
-from pit_tools.units import GRADES, POUND, SHORT_TON, TROY_OUNCE, Measures, factor_of, is_money_a_tonne, plain_name
+from pit_tools.units import (GRADES, POUND, SHORT_TON, TROY_OUNCE, Measures, factor_of,
+                             is_money_a_tonne, plain_name)
 
 # Kilograms of metal, by the unit behind the stroke of a price.
-METALS = {"oz": TROY_OUNCE / 1000, "g": Decimal("0.001"), "kg": Decimal(1), "lb": POUND, "t": Decimal(1000), "st": SHORT_TON * 1000}
+METALS = {"oz": TROY_OUNCE / 1000, "g": Decimal("0.001"), "kg": Decimal(1), "lb": POUND,
+          "t": Decimal(1000), "st": SHORT_TON * 1000}
 
 # Tonnes of rock, by the unit behind the stroke of a cost.
 ROCKS = {"t": Decimal(1), "st": SHORT_TON}
@@ -33,7 +36,8 @@ MOST_PRICE, MOST_COST = 10 ** 8, 10 ** 7
 
 @dataclass
 class Told:
-    """The records of a plan, each with what it says, what to look at, and what else is to be known."""
+    """The records of a plan, each with what it says, what to look at, and what else is to be
+    known."""
 
     lines: list[tuple[str, str]] = field(default_factory=list)
     doubts: list[str] = field(default_factory=list)
@@ -84,7 +88,8 @@ def _money_by(text: str, units: dict[str, Decimal], what: str, like: str, purse:
     money, stroke, by = amount.unit.partition("/")
     unit = plain_name(by)
     if not stroke or not money or unit not in units:
-        raise UserError(f"{what}: `{text.strip()}`: say for what, as {like}; known are {', '.join(units)}")
+        raise UserError(f"{what}: `{text.strip()}`: say for what, as {like}; known are "
+                        f"{', '.join(units)}")
     purse.take(money, what)
     return amount.value / units[unit]
 
@@ -101,7 +106,8 @@ class Purse:
         if not self.currency:
             self.currency, self.named_by = money, what
         elif money.casefold() != self.currency.casefold():
-            raise UserError(f"{what} is in {money}, and {self.named_by} in {self.currency}: a plan has one currency")
+            raise UserError(f"{what} is in {money}, and {self.named_by} in {self.currency}: a plan "
+                            "has one currency")
 
 
 @dataclass
@@ -113,7 +119,8 @@ class Price:
 
 
 def price_of(text: str, parts: int, purse: Purse) -> Price:
-    """A price of metal: `1804 USD/oz`, with `payable 99.5 %`, `royalty 3 %` and `selling 45 USD/oz` behind commas."""
+    """A price of metal: `1804 USD/oz`, with `payable 99.5 %`, `royalty 3 %` and `selling 45 USD/oz`
+    behind commas."""
     first, *rest = _parts(text) or [""]
     net = _money_by(first, METALS, "--price", "1804 USD/oz", purse)
     said = first
@@ -131,31 +138,36 @@ def price_of(text: str, parts: int, purse: Purse) -> Price:
     cents = net * 100 * parts
     whole = int(cents.quantize(Decimal(1), rounding=ROUND_HALF_UP))
     if not 0 < whole <= MOST_PRICE:
-        raise UserError(f"--price: {said} is {plain(round(cents, 2))} cents a kilogram, and a plan takes 1 to {MOST_PRICE:,}")
+        raise UserError(f"--price: {said} is {plain(round(cents, 2))} cents a kilogram, and a plan "
+                        f"takes 1 to {MOST_PRICE:,}")
     if abs(whole - cents) > cents / 1000:
-        raise UserError(f"--price: {said} is {plain(round(cents, 3))} cents a kilogram, and a plan takes whole ones: count all money in parts "
-                        "of a cent by --parts 100")
+        raise UserError(f"--price: {said} is {plain(round(cents, 3))} cents a kilogram, and a plan "
+                        "takes whole ones: count all money in parts of a cent by --parts 100")
     unit = "cents" if parts == 1 else f"x 1/{parts} cents"
     return Price(whole, f"{said} is {whole:,} {unit} a kilogram of metal")
 
 
 def cost_of(text: str, mining: Decimal, parts: int, what: str, purse: Purse) -> tuple[int, str]:
-    """A cost for a tonne of rock, in parts of a cent, with that of mining, in units of money, and how it comes."""
+    """A cost for a tonne of rock, in parts of a cent, with that of mining, in units of money, and
+    how it comes."""
     cost = _money_by(text, ROCKS, what, "16.50 USD/t", purse)
     cents = (cost + mining) * 100 * parts
     whole = int(cents.quantize(Decimal(1), rounding=ROUND_HALF_UP))
     if not 0 <= whole <= MOST_COST:
-        raise UserError(f"{what}: {plain(cents)} cents a tonne, and a plan takes 0 to {MOST_COST:,}")
+        raise UserError(f"{what}: {plain(cents)} cents a tonne, and a plan takes 0 to "
+                        f"{MOST_COST:,}")
     with_mining = f" and {plain(round(mining, 4))} of mining" if mining else ""
     unit = "cents" if parts == 1 else f"x 1/{parts} cents"
     return whole, f"cost {text.strip()}{with_mining} is {whole:,} {unit} a tonne"
 
 
 def _parts(text: str) -> list[str]:
-    """What stands between commas; those between thousands are none. It raises UserError for a decimal comma."""
+    """What stands between commas; those between thousands are none. It raises UserError for a
+    decimal comma."""
     comma = re.search(r"\d+,\d{1,2}(?!\d)", text)
     if comma:
-        raise UserError(f"`{comma[0]}`: numbers have a decimal point, and a blank stands behind a comma")
+        raise UserError(f"`{comma[0]}`: numbers have a decimal point, and a blank stands behind a "
+                        "comma")
     return [part.strip() for part in re.split(r",(?!\d{3}(?!\d))", text) if part.strip()]
 
 
@@ -171,9 +183,10 @@ def _named(text: str, kind: str) -> tuple[str, list[str]]:
 
 @dataclass
 class Spoken:
-    """The words of a plan; lists may have several. Empty ones are not said. `grade_unit` is that in which grades are told: where it is
-    money a tonne, they are net smelter returns. `K_of` has the K of zones that are so many benches below another, and `x_bearing` says
-    where the model's +x points, degrees clockwise from north."""
+    """The words of a plan; lists may have several. Empty ones are not said. `grade_unit` is that in
+    which grades are told: where it is money a tonne, they are net smelter returns. `K_of` has the K
+    of zones that are so many benches below another, and `x_bearing` says where the model's +x
+    points, degrees clockwise from north."""
 
     name: str = "mine"
     price: str = ""
@@ -198,46 +211,52 @@ class Spoken:
 
 
 def plan_from(words: Spoken, grid: Grid, zones: Sequence[str], benches: int,
-              contacts: Callable[[Sequence[Zone]], Contacts] = lambda zones: Contacts()) -> tuple[Plan, Told]:
-    """A plan of these words for a grid, its zones by name, and the benches of the model; `contacts` finds where zones of unlike slopes
-    meet. It raises UserError for a word that it does not understand or that is out of the range of a plan."""
+              contacts: Callable[[Sequence[Zone]], Contacts] = lambda zones: Contacts()) -> tuple[
+        Plan, Told]:
+    """A plan of these words for a grid, its zones by name, and the benches of the model; `contacts`
+    finds where zones of unlike slopes meet. It raises UserError for a word that it does not
+    understand or that is out of the range of a plan."""
     told = Told()
     if not NAME.fullmatch(words.name):
         raise UserError(f"--name: `{words.name}` has letters, digits, `_`, `-` and `.` alone")
     told.lines.append((f"name,{words.name}", "the name of the instance"))
     cells = ",".join(plain(value) for value in (*grid.origin, *grid.size))
-    told.lines.append((f"grid,{cells}", "the centroid of block 0 0 0, and the size of a block, in metres"))
+    told.lines.append((f"grid,{cells}",
+                       "the centroid of block 0 0 0, and the size of a block, in metres"))
     records = _zones(words, zones, benches, told)
     destinations = _Destinations(words, told).all()
     periods, in_year = _periods(words.periods or "1 year", told)
     rate = _rate(words.rate or "8 %", in_year, told)
-    told.notes += [f"{word} was not given: {taken} is taken" for word, said, taken in
-                   (("--periods", words.periods, "1 year"), ("--rate", words.rate, "8 % a year")) if not said]
+    told.notes += [f"{word} was not given: {taken} is taken"
+                   for word, said, taken in (("--periods", words.periods, "1 year"),
+                                             ("--rate", words.rate, "8 % a year")) if not said]
     resources, limits = _limits(words.limit, destinations, periods, in_year, told)
     _doubts(destinations, told)
     judged = judge(grid, records, zones, words.benches or benches, contacts=contacts(records))
     told.doubts += judged.look_at
     told.notes += judged.notes
-    return Plan(words.name, grid, tuple(records), tuple(destinations), periods, rate, tuple(resources), tuple(limits)), told
+    return Plan(words.name, grid, tuple(records), tuple(destinations), periods, rate,
+                tuple(resources), tuple(limits)), told
 
 
 def _zones(words: Spoken, names: Sequence[str], benches: int, told: Told) -> list[Zone]:
     """A record for each zone, in the order of the zone files."""
-    of_all: Optional[tuple[Slope, Slope, Slope, Slope]] = None
-    of_zone: dict[str, tuple[Slope, Slope, Slope, Slope]] = {}
+    of_all: Optional[FourSlopes] = None
+    of_zone: dict[str, FourSlopes] = {}
     known = {*names, *(_without_benches(name, words) for name in names)}
     for text in words.slope or ["45"]:
         name, colon, slopes = text.partition(":")
         is_name = bool(colon) and name.strip() in known
         if colon and not is_name and not name.strip().isdigit():
             raise UserError(f"--slope: no zone `{name.strip()}`: there are {', '.join(names)}")
-        four = sides_of(slopes if is_name else text, words.x_bearing, told)
+        said = sides_of(slopes if is_name else text, words.x_bearing, told)
         if is_name:
-            of_zone[name.strip()] = four
+            of_zone[name.strip()] = said
         else:
-            of_all = four
+            of_all = said
     if not words.slope:
-        told.doubts.append("slopes are 45 degrees until yours are known: --slope 'ZONE: 50' or 'ZONE: E 56, W 45, N 51, S 51'")
+        told.doubts.append("slopes are 45 degrees until yours are known: --slope 'ZONE: 50' or "
+                           "'ZONE: E 56, W 45, N 51, S 51'")
     zones = []
     for name in names:
         four = of_zone.get(name) or of_zone.get(_without_benches(name, words)) or of_all
@@ -245,11 +264,12 @@ def _zones(words: Spoken, names: Sequence[str], benches: int, told: Told) -> lis
             raise UserError(f"--slope: none for the zone {name}")
         K = words.K_of.get(name) or words.K or K_for(words.benches or benches)
         degrees = sorted({round(degrees_of(slope), 1) for slope in four})
-        said = f"zone {name}: {' to '.join(f'{angle:g}' for angle in {degrees[0]: 0, degrees[-1]: 0})} degrees"
+        line = (f"zone {name}: "
+                f"{' to '.join(f'{angle:g}' for angle in {degrees[0]: 0, degrees[-1]: 0})} degrees")
         if len(set(four)) > 1:
-            said += ", sides +x, -x, +y, -y"
+            line += ", sides +x, -x, +y, -y"
         zones.append(Zone(four, K))
-        told.lines.append((",".join(zone_record(zones[-1])), f"{said}; K = {K}"))
+        told.lines.append((",".join(zone_record(zones[-1])), f"{line}; K = {K}"))
     return zones
 
 
@@ -259,11 +279,13 @@ def _without_benches(name: str, words: Spoken) -> str:
     return name[:-len(str(K))] if K and name.endswith(str(K)) else name
 
 
-def sides_of(text: str, x_bearing: float, told: Told) -> tuple[Slope, Slope, Slope, Slope]:
-    """The four slopes of words, also of sectors of azimuth: `0-90 50, 90-180 45, 180-360 48`, from the middle of the pit to the wall.
-    A side of the model takes the slope of the sector that its bearing lies in, the flatter one where that is on a border."""
+def sides_of(text: str, x_bearing: float, told: Told) -> FourSlopes:
+    """The four slopes of words, also of sectors of azimuth: `0-90 50, 90-180 45, 180-360 48`, from
+    the middle of the pit to the wall. A side of the model takes the slope of the sector that its
+    bearing lies in, the flatter one where that is on a border."""
     parts = [part.strip() for part in text.split(",") if part.strip()]
-    sectors = [re.fullmatch(r"(\d+(?:\.\d+)?)\s*(?:-|to)\s*(\d+(?:\.\d+)?)\s+(\d+(?:\.\d+)?)", part) for part in parts]
+    sectors = [re.fullmatch(r"(\d+(?:\.\d+)?)\s*(?:-|to)\s*(\d+(?:\.\d+)?)\s+(\d+(?:\.\d+)?)", part)
+               for part in parts]
     if not any(sectors):
         return slopes_of(text)
     if not all(sectors):
@@ -271,16 +293,20 @@ def sides_of(text: str, x_bearing: float, told: Told) -> tuple[Slope, Slope, Slo
     ranges = [(float(one[1]), float(one[2]), float(one[3])) for one in sectors if one]
     wide = sum((end - start) % 360 or 360 for start, end, _ in ranges)
     if abs(wide - 360) > 1e-6:
-        raise UserError(f"--slope: the sectors of `{text.strip()}` are {wide:g} degrees wide together, and not 360")
+        raise UserError(f"--slope: the sectors of `{text.strip()}` are {wide:g} degrees wide "
+                        "together, and not 360")
     found = []
     for side, away in (("+x", 0), ("-x", 180), ("+y", -90), ("-y", 90)):
         bearing = (x_bearing + away) % 360
-        slopes = [angle for start, end, angle in ranges if (bearing - start) % 360 <= ((end - start) % 360 or 360)]
+        slopes = [angle for start, end, angle in ranges
+                  if (bearing - start) % 360 <= ((end - start) % 360 or 360)]
         if len(slopes) > 1 and len(set(slopes)) > 1:
-            told.doubts.append(f"the side {side}, at bearing {bearing:g}, is on the border of two sectors: the flatter one is taken")
+            told.doubts.append(f"the side {side}, at bearing {bearing:g}, is on the border of two "
+                               "sectors: the flatter one is taken")
         found.append(slope_of(min(slopes)))
-    told.doubts.append("sectors become the four sides of the zone, and between two sides a slope is between theirs: a model that is turned so "
-                       "that its sides face the sectors' middles fits best")
+    told.doubts.append("sectors become the four sides of the zone, and between two sides a slope "
+                       "is between theirs: a model that is turned so that its sides face the "
+                       "sectors' middles fits best")
     return (found[0], found[1], found[2], found[3])
 
 
@@ -291,21 +317,27 @@ class _Destinations:
         self.words, self.told, self.purse = words, told, Purse()
         if words.is_return:
             self.purse.take(words.grade_unit.partition("/")[0], "the grade")
-        self.mining = _money_by(words.mining, ROCKS, "--mining", "1.80 USD/t", self.purse) if words.mining else Decimal(0)
+        self.mining = _money_by(words.mining, ROCKS, "--mining", "1.80 USD/t",
+                                self.purse) if words.mining else Decimal(0)
         if words.is_return and words.price:
             raise UserError("--price: the grade is a net smelter return, which has its price in it")
         if not words.is_return and not words.price and (words.mill or words.leach):
             raise UserError("--price: what does metal bring? As --price '1804 USD/oz'")
-        self.price = Price(100_000 * words.parts, "a return of 1 a tonne brings 1") if words.is_return else \
-            price_of(words.price, words.parts, self.purse) if words.price else Price(0, "")
+        self.price = (Price(100_000 * words.parts, "a return of 1 a tonne brings 1")
+                      if words.is_return else price_of(words.price, words.parts, self.purse)
+                      if words.price else Price(0, ""))
 
     def all(self) -> list[Destination]:
-        found = [self.mill(text) for text in self.words.mill] + [self.leach(text) for text in self.words.leach]
+        """All destinations, mills first. It raises UserError for two of one name, none, or too
+        many."""
+        found = [self.mill(text) for text in self.words.mill] + [self.leach(text)
+                                                                 for text in self.words.leach]
         found += [self.dump(text) for text in self.words.dump]
         names = [one.name for one in found]
         twice = next((name for name in names if names.count(name) > 1), None)
         if twice:
-            raise UserError(f"two destinations `{twice}`: name them, as --mill 'north: recovery 92 %, cost 16.50 USD/t'")
+            raise UserError(f"two destinations `{twice}`: name them, as --mill 'north: recovery 92 "
+                            "%, cost 16.50 USD/t'")
         if not found:
             raise UserError("no destination: give --mill, --leach or --dump")
         if len(found) > 8:
@@ -314,7 +346,8 @@ class _Destinations:
         return found
 
     def say(self, one: Destination, *said: str) -> Destination:
-        self.told.lines.append((",".join(destination_record(one)), "; ".join(part for part in said if part)))
+        self.told.lines.append(
+            (",".join(destination_record(one)), "; ".join(part for part in said if part)))
         return one
 
     def _break_even(self, one: Destination) -> str:
@@ -327,39 +360,49 @@ class _Destinations:
         return f"{Measures(grade_unit=unit).grade(float(grade)):.4g} {unit}"
 
     def mill(self, text: str) -> Destination:
+        """A mill by its words. It raises UserError where they are none of one."""
         name, parts = _named(text, "mill")
         recovery, cost = self._word(parts, "recovery"), self._word(parts, "cost")
-        share = Decimal(1000) if self.words.is_return and not recovery else share_of(recovery or "", f"--mill: {name}: recovery")
+        share = (Decimal(1000) if self.words.is_return and not recovery
+                 else share_of(recovery or "", f"--mill: {name}: recovery"))
         if share != share.to_integral_value():
             raise UserError(f"--mill: {name}: a recovery has one decimal, as 92.5 %")
-        cents, said = cost_of(cost or "", self.mining, self.words.parts, f"--mill: {name}: cost", self.purse)
+        cents, said = cost_of(cost or "", self.mining, self.words.parts, f"--mill: {name}: cost",
+                              self.purse)
         one = Destination("mill", name, self.price.value, cents, ((Decimal(0), int(share)),))
-        return self.say(one, f"recovers {plain(share / 10)} %", self.price.said, said, self._break_even(one))
+        return self.say(one, f"recovers {plain(share / 10)} %", self.price.said, said,
+                        self._break_even(one))
 
     def leach(self, text: str) -> Destination:
+        """A leach by its words. It raises UserError where they are none of one."""
         name, parts = _named(text, "leach")
         cost = self._word(parts, "cost")
         bands = []
         for part in parts:
             if part.startswith("cost"):
                 continue
-            found = re.fullmatch(rf"(?:recovery\s+)?({NUMBER}\s*%)\s+from\s+({NUMBER})\s*(\S+)", part)
+            found = re.fullmatch(rf"(?:recovery\s+)?({NUMBER}\s*%)\s+from\s+({NUMBER})\s*(\S+)",
+                                 part)
             factor = factor_of(found[3], "grade") if found else None
             if not found or factor is None:
-                raise UserError(f"--leach: {name}: `{part}`: a band is as 30 % from 0.2 g/t; units are {', '.join(GRADES)}")
+                raise UserError(f"--leach: {name}: `{part}`: a band is as 30 % from 0.2 g/t; units "
+                                f"are {', '.join(GRADES)}")
             share = share_of(found[1], f"--leach: {name}")
             bands.append((decimal_of(found[2], name) * factor, int(share)))
         if not bands or bands != sorted(bands) or len({start for start, _ in bands}) < len(bands):
             raise UserError(f"--leach: {name}: bands rise, as 30 % from 0.2 g/t, 48 % from 0.6 g/t")
-        cents, said = cost_of(cost or "", self.mining, self.words.parts, f"--leach: {name}: cost", self.purse)
+        cents, said = cost_of(cost or "", self.mining, self.words.parts, f"--leach: {name}: cost",
+                              self.purse)
         one = Destination("leach", name, self.price.value, cents, tuple(bands))
-        recovers = ", ".join(f"{share / 10:g} % from {self._grade(start)}" for start, share in bands)
+        recovers = ", ".join(f"{share / 10:g} % from {self._grade(float(start))}"
+                             for start, share in bands)
         return self.say(one, f"recovers {recovers}", said, self._break_even(one))
 
     def dump(self, text: str) -> Destination:
         name, parts = _named(text, "dump")
         cost = self._word(parts, "cost") or (parts[0] if len(parts) == 1 else "")
-        cents, said = cost_of(cost, self.mining, self.words.parts, f"--dump: {name}: cost", self.purse)
+        cents, said = cost_of(cost, self.mining, self.words.parts, f"--dump: {name}: cost",
+                              self.purse)
         return self.say(Destination("dump", name, 0, cents), said)
 
     @staticmethod
@@ -373,8 +416,10 @@ def _periods(text: str, told: Told) -> tuple[int, int]:
     found = re.fullmatch(r"\s*(\d+)\s*([a-z-]*?)s?\s*", text)
     unit = found[2] if found and found[2] else "year"
     if not found or unit not in PERIODS or not 1 <= int(found[1]) <= 100:
-        raise UserError(f"--periods: `{text}`: give 1 to 100, as 12 years; known are {', '.join(PERIODS)}")
-    told.lines.append((f"periods,{int(found[1])}", f"{int(found[1])} {unit}{'s' if int(found[1]) > 1 else ''}, counted from 0"))
+        raise UserError(f"--periods: `{text}`: give 1 to 100, as 12 years; known are "
+                        f"{', '.join(PERIODS)}")
+    told.lines.append((f"periods,{int(found[1])}",
+                       f"{int(found[1])} {unit}{'s' if int(found[1]) > 1 else ''}, counted from 0"))
     return int(found[1]), PERIODS[unit]
 
 
@@ -406,18 +451,23 @@ def _limits(texts: Sequence[str], destinations: Sequence[Destination], periods: 
             covered = parts.pop(0).split()
             wrong = [one for one in covered if one not in (*names, "all")]
             if wrong or not covered:
-                raise UserError(f"--limit: {name}: no destination `{' '.join(wrong)}`: there are {', '.join(names)}, or all")
-            covers = tuple(range(len(names))) if "all" in covered else tuple(names.index(one) for one in covered)
+                raise UserError(f"--limit: {name}: no destination `{' '.join(wrong)}`: there are "
+                                f"{', '.join(names)}, or all")
+            covers = (tuple(range(len(names))) if "all" in covered
+                      else tuple(names.index(one) for one in covered))
             if known is None:
                 resources.append(Resource(name, covers))
                 known = len(resources) - 1
                 record = ["resource", name, *(names[at] for at in covers)]
                 free = [one for one in names if one not in record]
-                told.lines.append((",".join(record), f"tonnes to {' and '.join(record[2:])} count" + (f"; {' and '.join(free)} free" if free else "")))
+                told.lines.append((",".join(record), f"tonnes to {' and '.join(record[2:])} "
+                                   "count" + (f"; {' and '.join(free)} free" if free else "")))
         more = _limit(parts, name, known, periods, in_year)
         for one in more:
-            if any((other.resource, other.period) == (one.resource, one.period) for other in limits):
-                raise UserError(f"--limit: {name} has two limits in period {one.period}: give both ends, as 1 Mt to 6 Mt")
+            if any((other.resource, other.period) == (one.resource, one.period)
+                   for other in limits):
+                raise UserError(f"--limit: {name} has two limits in period {one.period}: give both "
+                                "ends, as 1 Mt to 6 Mt")
         limits += more
         _say_limit(name, more, told)
     if len(resources) > 8:
@@ -425,39 +475,49 @@ def _limits(texts: Sequence[str], destinations: Sequence[Destination], periods: 
     return resources, limits
 
 
-def _limit(parts: Sequence[str], name: str, resource: int, periods: int, in_year: int) -> list[Limit]:
+def _limit(parts: Sequence[str], name: str, resource: int, periods: int,
+           in_year: int) -> list[Limit]:
     """The limits of one word, for all periods or for those that it names."""
     spans = [re.fullmatch(r"periods?\s+(\d+)(?:\s*(?:to|-)\s*(\d+))?", part) for part in parts]
     span = next((one for one in spans if one), None)
     rest = [part for part, one in zip(parts, spans) if not one]
     if len(rest) != 1:
-        raise UserError(f"--limit: {name}: say how much, as `at most 2.5 Mt`, `at least 1 Mt` or `1 Mt to 6 Mt`, a year or a period")
+        raise UserError(f"--limit: {name}: say how much, as `at most 2.5 Mt`, `at least 1 Mt` or "
+                        "`1 Mt to 6 Mt`, a year or a period")
     first, last = (int(span[1]), int(span[2] or span[1])) if span else (0, periods - 1)
     if not first <= last < periods:
         raise UserError(f"--limit: {name}: periods are 0 to {periods - 1}")
-    text, by = re.sub(r"\s+a\s+(year|period)$", "", rest[0]), re.search(r"a\s+(year|period)$", rest[0])
+    text, by = re.sub(r"\s+a\s+(year|period)$", "",
+                      rest[0]), re.search(r"a\s+(year|period)$", rest[0])
     divide = in_year if by and by[1] == "year" else 1
     if by is None and in_year > 1:
         raise UserError(f"--limit: {name}: `{rest[0]}` a year or a period? Periods are no years")
+    letter, least, most = _ends_of(text, name, divide)
+    return [Limit(resource, period, letter, least, most) for period in range(first, last + 1)]
+
+
+def _ends_of(text: str, name: str, divide: int) -> tuple[str, Optional[Decimal], Optional[Decimal]]:
+    """The letter of a limit, and the least and the most tonnes of a period."""
     most, least = re.fullmatch(r"at most (.*)", text), re.fullmatch(r"at least (.*)", text)
-    between = re.fullmatch(r"(.*) to (.*)", text)
     if most:
-        letter, ends = "L", (None, _tonnage(most[1], name, divide))
-    elif least:
-        letter, ends = "G", (_tonnage(least[1], name, divide), None)
-    elif between:
-        letter, ends = "I", (_tonnage(between[1], name, divide), _tonnage(between[2], name, divide))
-        if ends[0] > ends[1]:
-            raise UserError(f"--limit: {name}: `{text}` falls")
-    else:
-        raise UserError(f"--limit: {name}: `{text}`: say `at most 2.5 Mt`, `at least 1 Mt` or `1 Mt to 6 Mt`")
-    return [Limit(resource, period, letter, *ends) for period in range(first, last + 1)]
+        return "L", None, _tonnage(most[1], name, divide)
+    if least:
+        return "G", _tonnage(least[1], name, divide), None
+    between = re.fullmatch(r"(.*) to (.*)", text)
+    if not between:
+        raise UserError(f"--limit: {name}: `{text}`: say `at most 2.5 Mt`, `at least 1 Mt` or `1 "
+                        "Mt to 6 Mt`")
+    low, high = (_tonnage(between[at], name, divide) for at in (1, 2))
+    if low > high:
+        raise UserError(f"--limit: {name}: `{text}` falls")
+    return "I", low, high
 
 
 def _tonnage(text: str, name: str, divide: int) -> Decimal:
     amount = amount_of(text, f"--limit: {name}")
     if amount.unit not in TONNAGES:
-        raise UserError(f"--limit: {name}: `{text.strip()}`: the unit is t, kt or Mt (millions of tonnes)")
+        raise UserError(f"--limit: {name}: `{text.strip()}`: the unit is t, kt or Mt (millions of "
+                        "tonnes)")
     return round(amount.value * TONNAGES[amount.unit] / divide, 6)
 
 
@@ -466,18 +526,22 @@ def _say_limit(name: str, limits: Sequence[Limit], told: Told) -> None:
     spans: list[list[Limit]] = []
     for one in limits:
         last = spans[-1][-1] if spans else None
-        if last and (last.letter, last.lower, last.upper, last.period + 1) == (one.letter, one.lower, one.upper, one.period):
+        if last and (last.letter, last.lower, last.upper,
+                     last.period + 1) == (one.letter, one.lower, one.upper, one.period):
             spans[-1].append(one)
         else:
             spans.append([one])
     for span in spans:
         first, last = span[0], span[-1]
-        ends = {"L": [first.upper], "G": [first.lower], "I": [first.lower, first.upper]}[first.letter]
+        ends = {"L": [first.upper], "G": [first.lower],
+                "I": [first.lower, first.upper]}[first.letter]
         cells = [plain(end) for end in ends if end is not None]
         words = {"L": "at most {} t", "G": "at least {} t", "I": "{} to {} t"}[first.letter]
         said = words.format(*(f"{Decimal(cell):,}" for cell in cells))
-        when = f"in period {first.period}" if len(span) == 1 else f"in each period from {first.period} to {last.period}"
-        told.lines.append((f"limit,{name},{first.period},{first.letter},{','.join(cells)}" + (" .." if len(span) > 1 else ""), f"{said} {when}"))
+        when = (f"in period {first.period}" if len(span) == 1
+                else f"in each period from {first.period} to {last.period}")
+        told.lines.append((f"limit,{name},{first.period},{first.letter},{','.join(cells)}"
+                           + (" .." if len(span) > 1 else ""), f"{said} {when}"))
 
 
 def _doubts(destinations: Sequence[Destination], told: Told) -> None:
@@ -487,8 +551,9 @@ def _doubts(destinations: Sequence[Destination], told: Told) -> None:
         told.doubts.append("no dump: waste is charged what ore costs, so the pit is too small")
     for one in destinations:
         if one.kind != "dump" and dumps and one.cost <= min(dump.cost for dump in dumps):
-            told.doubts.append(f"{one.name} costs no more a tonne than {dumps[0].name}: a cost is all that a tonne costs which goes there, with "
-                               "mining and haulage (--mining adds that to each)")
+            told.doubts.append(f"{one.name} costs no more a tonne than {dumps[0].name}: a cost is "
+                               "all that a tonne costs which goes there, with mining and haulage "
+                               "(--mining adds that to each)")
         if one.bands and max(share for _, share in one.bands) < 300:
             told.doubts.append(f"{one.name} recovers less than 30 %")
         if one.kind == "mill" and one.bands[0][1] == 1000 and one.price != 100_000:

@@ -1,15 +1,17 @@
-"""Linear and integer programs of UPIT, CPIT and PCPSP: as sparse matrices, as LP files, and solved by HiGHS.
+"""Linear and integer programs of UPIT, CPIT and PCPSP: as sparse matrices, as LP files, and solved
+by HiGHS.
 
-Variables are what is mined of a block by the end of a period, w_b_t, so that an arc is one row of two
-terms in each period; and those of a PCPSP the shares that go to a destination in a period, y_b_d_t. In
-a CPIT and a PCPSP a block is mined in one period: there x_b_t, what is mined of it in a period, stands
-too and is 0 or 1, since limits on x give solvers more cuts than limits on differences of w. The
-relaxations have no x. A UPIT has one variable a block, x_b, which is 0 or 1 by itself.
+Variables are what is mined of a block by the end of a period, w_b_t, so that an arc is one row of
+two terms in each period; and those of a PCPSP the shares that go to a destination in a period,
+y_b_d_t. In a CPIT and a PCPSP a block is mined in one period: there x_b_t, what is mined of it in a
+period, stands too and is 0 or 1, since limits on x give solvers more cuts than limits on
+differences of w. The relaxations have no x. A UPIT has one variable a block, x_b, which is 0 or 1
+by itself.
 """
 from __future__ import annotations
 
 from dataclasses import dataclass
-from typing import Iterable, Iterator, Optional, Sequence, TextIO, Union
+from typing import IO, Iterable, Iterator, Optional, Sequence, Union
 
 import numpy as np
 from scipy import optimize, sparse
@@ -20,14 +22,17 @@ from pit_tools.schedules import Schedule, schedule_of_shares
 from pit_tools.spelling import shortest
 
 
-#: What rows say: what is mined by the end of a period, of a block and of one that it waits for; what is
-#: mined in a period; what goes to destinations; the limits, in their order; and that a block is mined once.
-ENDS, ARCS, PERIODS, SHARES, LIMITS, ONCE = ROWS = ("ends", "arcs", "periods", "shares", "limits", "once")
+#: What rows say: what is mined by the end of a period, of a block and of one that it waits for;
+#: what is mined in a period; what goes to destinations; the limits, in their order; and that a
+#: block is mined once.
+ENDS, ARCS, PERIODS, SHARES, LIMITS, ONCE = ROWS = ("ends", "arcs", "periods", "shares", "limits",
+                                                    "once")
 
 
 @dataclass(frozen=True)
 class Program:
-    """Maximise objective . v, where lower <= rows v <= upper, 0 <= v <= 1, and v is whole where `whole`."""
+    """Maximise objective . v, where lower <= rows v <= upper, 0 <= v <= 1, and v is whole where
+    `whole`."""
 
     title: str
     objective: np.ndarray  #: (variables,)
@@ -39,7 +44,8 @@ class Program:
     kinds: np.ndarray  #: what each row says, by its place in ROWS, int8 (rows,)
 
     def rows_of(self, kind: str) -> np.ndarray:
-        """The rows of a kind, one of ROWS; those of `limits` stand in the order of the problem's limits.
+        """The rows of a kind, one of ROWS; those of `limits` stand in the order of the problem's
+        limits.
 
         Raises ValueError where it is none.
         """
@@ -47,8 +53,8 @@ class Program:
 
 
 class Names:
-    """The names and places of variables: x12; or w12_3 of block 12 by the end of period 3, x12_3 of block 12 in
-    period 3, and y12_1_3 of its share at destination 1 in period 3."""
+    """The names and places of variables: x12; or w12_3 of block 12 by the end of period 3, x12_3 of
+    block 12 in period 3, and y12_1_3 of its share at destination 1 in period 3."""
 
     def __init__(self, blocks: int, periods: int = 0, destinations: int = 0, has_x: bool = False,
                  has_w: bool = True):
@@ -89,7 +95,8 @@ class Names:
         names = [f"{letter}{block}_{period}" for letter in letters
                  for block in range(self.blocks) for period in range(self.periods)]
         return names + [f"y{block}_{destination}_{period}" for block in range(self.blocks)
-                        for destination in range(self.destinations) for period in range(self.periods)]
+                        for destination in range(self.destinations)
+                        for period in range(self.periods)]
 
 
 def program_of_upit(upit: UltimatePit, precedence: sparse.csr_matrix) -> Program:
@@ -98,8 +105,9 @@ def program_of_upit(upit: UltimatePit, precedence: sparse.csr_matrix) -> Program
     count, n = precedence.nnz, len(upit.values)
     rows = sparse.csr_matrix((np.tile([1.0, -1.0], count), (np.repeat(np.arange(count), 2),
                               np.stack([arcs.row, arcs.col], axis=1).ravel())), shape=(count, n))
-    return Program(f"the ultimate pit of {upit.name}", upit.values.astype(float), rows, np.full(count, -np.inf), np.zeros(count),
-                   np.zeros(n, dtype=bool), Names(n), np.full(count, ROWS.index(ARCS), np.int8))
+    return Program(f"the ultimate pit of {upit.name}", upit.values.astype(float), rows,
+                   np.full(count, -np.inf), np.zeros(count), np.zeros(n, dtype=bool), Names(n),
+                   np.full(count, ROWS.index(ARCS), np.int8))
 
 
 class _Builder:
@@ -112,8 +120,9 @@ class _Builder:
         self.upper: list[np.ndarray] = []
         self.kinds: list[np.ndarray] = []
 
-    def add(self, kind: str, rows: int, entries: Sequence[tuple[np.ndarray, np.ndarray, np.ndarray]],
-            lower: float, upper: float) -> None:
+    def add(self, kind: str, rows: int,
+            entries: Sequence[tuple[np.ndarray, np.ndarray, np.ndarray]], lower: float,
+            upper: float) -> None:
         """Adds so many rows of a kind; the entries' rows count from the first of these."""
         self.kinds.append(np.full(rows, ROWS.index(kind), np.int8))
         self.parts += [(row + self.count, variable, factor) for row, variable, factor in entries]
@@ -125,12 +134,14 @@ class _Builder:
         """All rows, (rows, variables)."""
         row, variable, factor = (np.concatenate(part) for part in zip(*self.parts)) if self.parts \
             else (np.empty(0, int),) * 3
-        return sparse.csr_matrix((factor.astype(float), (row, variable)), shape=(self.count, self.variables))
+        return sparse.csr_matrix((factor.astype(float), (row, variable)),
+                                 shape=(self.count, self.variables))
 
 
-def program_of(problem: Problem, precedence: sparse.csr_matrix, relaxed: bool = False, whole_blocks: bool = False) -> Program:
-    """A CPIT or a PCPSP as a mixed integer program; `relaxed` lets blocks be split over periods, and
-    `whole_blocks` lets no block of a PCPSP be split over destinations."""
+def program_of(problem: Problem, precedence: sparse.csr_matrix, relaxed: bool = False,
+               whole_blocks: bool = False) -> Program:
+    """A CPIT or a PCPSP as a mixed integer program; `relaxed` lets blocks be split over periods,
+    and `whole_blocks` lets no block of a PCPSP be split over destinations."""
     n, periods, has_y = len(problem.values), problem.periods, problem.kind == "PCPSP"
     names = Names(n, periods, problem.destinations if has_y else 0, has_x=not relaxed)
     builder, discounts = _Builder(names.count), problem.discounts()
@@ -153,16 +164,19 @@ def program_of(problem: Problem, precedence: sparse.csr_matrix, relaxed: bool = 
     is_whole[names.first_x:names.first_y] = True
     is_whole[names.first_y:] = whole_blocks and not relaxed
     what = "the relaxed schedule" if relaxed else "the best schedule"
-    return Program(f"{what} of {problem.name}, a {problem.kind}", objective, builder.matrix(), np.concatenate(builder.lower),
-                   np.concatenate(builder.upper), is_whole, names, np.concatenate(builder.kinds))
+    return Program(f"{what} of {problem.name}, a {problem.kind}", objective, builder.matrix(),
+                   np.concatenate(builder.lower), np.concatenate(builder.upper), is_whole, names,
+                   np.concatenate(builder.kinds))
 
 
 def _add_periods(builder: _Builder, names: Names) -> None:
-    """What is mined by the end of a period is what is mined in it and by the end of the one before."""
+    """What is mined by the end of a period is what is mined in it and by the end of the one
+    before."""
     every = np.arange(names.blocks)
     for period in range(names.periods):
         at = every * names.periods + period
-        entries = [(every, at, np.ones(len(every))), (every, names.first_x + at, -np.ones(len(every)))]
+        entries = [(every, at, np.ones(len(every))),
+                   (every, names.first_x + at, -np.ones(len(every)))]
         entries += [(every, at - 1, -np.ones(len(every)))] if period else []
         builder.add(PERIODS, names.blocks, entries, 0.0, 0.0)
 
@@ -213,8 +227,8 @@ def _add_limits(builder: _Builder, problem: Problem, names: Names) -> None:
 
 
 def by_period(program: Program) -> Program:
-    """The same program without w, each being the sum of x up to its period: longer rows, of which some
-    solvers, as cbc, make better cuts. A program without x stays as it is."""
+    """The same program without w, each being the sum of x up to its period: longer rows, of which
+    some solvers, as cbc, make better cuts. A program without x stays as it is."""
     names = program.names
     if not names.has_x:
         return program
@@ -222,7 +236,8 @@ def by_period(program: Program) -> Program:
     ends = sparse.kron(sparse.identity(names.blocks), triangle).tocsr()
     rows = program.rows.tocsc()
     x = slice(names.first_x, names.first_y)
-    left = sparse.hstack([rows[:, :names.first_x] @ ends + rows[:, x], rows[:, names.first_y:]]).tocsr()
+    left = sparse.hstack([rows[:, :names.first_x] @ ends + rows[:, x],
+                          rows[:, names.first_y:]]).tocsr()
     left.eliminate_zeros()
     last = ends[names.periods - 1::names.periods]
     no_y = sparse.csr_matrix((names.blocks, program.rows.shape[1] - names.first_y))
@@ -240,11 +255,12 @@ def by_period(program: Program) -> Program:
 # As a text
 
 
-def write_lp(program: Program, file: TextIO) -> None:
+def write_lp(program: Program, file: IO[str]) -> None:
     """Writes a program in the LP format that most solvers read."""
     names = program.names.list()
     file.write(f"\\ {program.title}\nMaximize\n value:\n")
-    file.writelines(_lines(f"{_term(factor, names[at], 6)}" for at, factor in enumerate(program.objective) if factor))
+    file.writelines(_lines(f"{_term(factor, names[at], 6)}"
+                           for at, factor in enumerate(program.objective) if factor))
     if not program.objective.any():
         file.write(f"  0 {names[0]}\n" if names else "")
     file.write("Subject To\n")
@@ -253,7 +269,8 @@ def write_lp(program: Program, file: TextIO) -> None:
         # Readers, as that of glpsol, want a row in the section.
         file.write(f" l0: 0 {names[0]} <= 0\n")
     file.write("Bounds\n")
-    file.writelines(f" 0 <= {name} <= 1\n" for name, whole in zip(names, program.whole) if not whole)
+    file.writelines(f" 0 <= {name} <= 1\n"
+                    for name, whole in zip(names, program.whole) if not whole)
     if program.whole.any():
         file.write("Binary\n")
         file.writelines(f" {name}\n" for name, whole in zip(names, program.whole) if whole)
@@ -283,9 +300,11 @@ def _row_texts(program: Program, names: list[str]) -> Iterator[str]:
     starts, columns, factors = rows.indptr.tolist(), rows.indices.tolist(), rows.data.tolist()
     lower, upper = program.lower.tolist(), program.upper.tolist()
     for row in range(rows.shape[0]):
-        terms = [_term(factors[at], names[columns[at]]) for at in range(starts[row], starts[row + 1]) if factors[at]]
+        terms = [_term(factors[at], names[columns[at]])
+                 for at in range(starts[row], starts[row + 1]) if factors[at]]
         terms = terms or [f"0 {names[0]}"]
-        text = " " + " ".join(terms) if len(terms) < 9 else "\n" + "".join(_lines(terms)).rstrip("\n")
+        text = (" " + " ".join(terms) if len(terms) < 9
+                else "\n" + "".join(_lines(terms)).rstrip("\n"))
         text = text.replace(" + ", " ", 1) if text.startswith(" + ") else text
         if lower[row] == upper[row]:
             yield f" r{row}:{text} = {shortest(upper[row])}\n"
@@ -301,8 +320,9 @@ def _row_texts(program: Program, names: list[str]) -> Iterator[str]:
 
 @dataclass(frozen=True)
 class Answer:
-    """What HiGHS answered: `status` is `best`, `within the ratio`, `stopped`, or `none`, where there is no solution;
-    `bound` is what no solution is worth more than; `values` are those of the variables, None where none was found."""
+    """What HiGHS answered: `status` is `best`, `within the ratio`, `stopped`, or `none`, where
+    there is no solution; `bound` is what no solution is worth more than; `values` are those of the
+    variables, None where none was found."""
 
     status: str
     value: Optional[float]
@@ -311,14 +331,17 @@ class Answer:
     told: str
 
 
-def solve(program: Program, seconds: Optional[float] = None, ratio: float = 0.0, bounds: Optional[optimize.Bounds] = None) -> Answer:
-    """Solves a program by scipy's HiGHS, up to so many seconds and up to a ratio of the best. Bounds of the variables
-    may be closer than 0 and 1."""
+def solve(program: Program, seconds: Optional[float] = None, ratio: float = 0.0,
+          bounds: Optional[optimize.Bounds] = None) -> Answer:
+    """Solves a program by scipy's HiGHS, up to so many seconds and up to a ratio of the best.
+    Bounds of the variables may be closer than 0 and 1."""
     options = {"mip_rel_gap": ratio, **({"time_limit": seconds} if seconds else {})}
     scale = max(1.0, float(np.abs(program.objective).max(initial=1)))
-    constraints = optimize.LinearConstraint(program.rows, program.lower, program.upper) if program.rows.shape[0] else ()
-    found = optimize.milp(-program.objective / scale, integrality=program.whole.astype(int), bounds=bounds or optimize.Bounds(0, 1),
-                          constraints=constraints, options=options)
+    constraints = optimize.LinearConstraint(program.rows, program.lower,
+                                            program.upper) if program.rows.shape[0] else ()
+    found = optimize.milp(-program.objective / scale, integrality=program.whole.astype(int),
+                          bounds=bounds or optimize.Bounds(0, 1), constraints=constraints,
+                          options=options)
     if found.status == 2:
         return Answer("none", None, None, None, "there is none: limits cannot be met")
     if found.status in (3, 4):
@@ -335,6 +358,8 @@ def solve(program: Program, seconds: Optional[float] = None, ratio: float = 0.0,
     return Answer(status, value, bound, found.x, found.message)
 
 
+# The interface has `problem`, though the names of the variables say all.
+# pylint: disable-next=unused-argument
 def schedule_of(values: np.ndarray, problem: Problem, names: Names) -> Schedule:
     """The schedule that the variables of `program_of` state."""
     n, periods = names.blocks, names.periods

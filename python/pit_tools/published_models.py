@@ -403,4 +403,3 @@ def read_problem(path: str, kind: str, first: int, order: Optional[str], without
     return Problem(kind, model.name(), periods, resources, round(rate, 6), values,
                    uses.uses(first, (len(values), destinations, resources), order),
                    limits.limits(resources, periods))
-

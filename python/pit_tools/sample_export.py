@@ -2,6 +2,7 @@
 from __future__ import annotations
 
 import os
+from math import prod
 from typing import Iterator, Sequence
 
 import numpy as np
@@ -14,7 +15,8 @@ UNKNOWN = 2000
 
 
 def zone_names(paths: Sequence[str]) -> list[str]:
-    """The names of zone files without their ending and what all of them begin with, up to the last hyphen."""
+    """The names of zone files without their ending and what all of them begin with, up to the last
+    hyphen."""
     names = [os.path.splitext(os.path.basename(path))[0] for path in paths]
     front = os.path.commonprefix(names) if len(names) > 1 else ""
     return [name[front.rfind("-") + 1:] for name in names]
@@ -25,22 +27,21 @@ def sample_export(paths: Sequence[str]) -> Iterator[str]:
     rows = read_zone_files(paths)
     names = zone_names(paths)
     ranges = []
-    for axis in "xyz":
-        values = np.unique(rows[axis])
+    for name in "xyz":
+        values = np.unique(rows[name])
         step = int(np.gcd.reduce(np.diff(values))) if len(values) > 1 else 1
         ranges.append(range(int(values[0]), int(values[-1]) + 1, step))
     box = pd.MultiIndex.from_product(ranges[::-1], names=list("zyx")).to_frame(index=False)
     places = box.merge(rows, "left", ["x", "y", "z"])
     top = rows.groupby(["x", "y"])["z"].max().rename("top").reset_index()
     places = places.merge(top, "left", ["x", "y"])
-    volume = 1
-    for axis in ranges:
-        volume *= axis.step
+    volume = prod(axis.step for axis in ranges)
     yield '"BLOCK","XC","YC","ZC","SG","TONNAGE","AU_PPM","DOMAIN","ROCK"'
     yield ",m,m,m,t/m3,t,g/t,,"
     nearest = places.groupby("y")["zone"].ffill().bfill().fillna(0).astype(int)
     for number, row in enumerate(places.itertuples(index=False), 1):
-        place = f"{number},{row.x / 1000 + 1e-7:.10f},{row.y / 1000 - 1e-7:.10f},{row.z / 1000:.10f}"
+        x, y, z = row.x / 1000 + 1e-7, row.y / 1000 - 1e-7, row.z / 1000
+        place = f"{number},{x:.10f},{y:.10f},{z:.10f}"
         if row.tonnes == row.tonnes:
             density = f"{row.tonnes * 1e6 / volume:.4f}"
             grade = "-99" if row.grade < UNKNOWN else f"{row.grade / 1e6 + 1e-10:.12f}"

@@ -1,9 +1,10 @@
-"""A search for good schedules: a start from shells, and better ones by HiGHS in parts of the program.
+"""A search for good schedules: a start from shells, and better ones by HiGHS in parts of the
+program.
 
-Shells are nested pits: the ultimate pit where each tonne that is mined costs something more. Blocks are taken
-shell by shell, and each into the first period whose limits it keeps. From there all blocks but some are held in
-their periods again and again, and HiGHS places those some; last it tries the whole program above what was found,
-which may give a better schedule, and gives a bound.
+Shells are nested pits: the ultimate pit where each tonne that is mined costs something more. Blocks
+are taken shell by shell, and each into the first period whose limits it keeps. From there all
+blocks but some are held in their periods again and again, and HiGHS places those some; last it
+tries the whole program above what was found, which may give a better schedule, and gives a bound.
 """
 from __future__ import annotations
 
@@ -31,8 +32,8 @@ SECONDS_OF_A_PART, BLOCKS_OF_A_PART = 12.0, 60
 
 @dataclass(frozen=True)
 class Found:
-    """The best schedule of a search, None where there is none, what no schedule is worth more than, None where that
-    is not known, and how the schedule was found."""
+    """The best schedule of a search, None where there is none, what no schedule is worth more than,
+    None where that is not known, and how the schedule was found."""
 
     schedule: Optional[Schedule]
     bound: Optional[float]
@@ -40,8 +41,8 @@ class Found:
 
 
 def shells(tonnes: np.ndarray, values: np.ndarray, precedence: sparse.csr_matrix) -> np.ndarray:
-    """The number of the smallest shell that each block is in, (n,), from 0 for the richest; SHELLS + 1 where it is in
-    none. The largest is the ultimate pit."""
+    """The number of the smallest shell that each block is in, (n,), from 0 for the richest; SHELLS
+    + 1 where it is in none. The largest is the ultimate pit."""
     dearest = float((values / np.maximum(tonnes, 1)).max(initial=0))
     shell = np.full(len(values), SHELLS + 1)
     for number in range(SHELLS, -1, -1):
@@ -51,12 +52,15 @@ def shells(tonnes: np.ndarray, values: np.ndarray, precedence: sparse.csr_matrix
 
 
 def from_shells(problem: Problem, blocks: Blocks, precedence: sparse.csr_matrix) -> Schedule:
-    """Blocks shell by shell, those that others wait for first, each into the first period in which no upper limit is
-    passed, at the destination of most value that there is room for. Predecessors have to come behind their block, as
-    in files of `pitc`. Lower limits are not looked at: `check` tells."""
+    """Blocks shell by shell, those that others wait for first, each into the first period in which
+    no upper limit is passed, at the destination of most value that there is room for. Predecessors
+    have to come behind their block, as in files of `pitc`. Lower limits are not looked at: `check`
+    tells."""
     shell = shells(blocks.tonnes, problem.values.max(axis=1), precedence)
-    order = [block for block in np.lexsort((-np.arange(len(shell)), shell)) if shell[block] <= SHELLS]
-    uses = np.stack([problem.use_matrix(resource).toarray() for resource in range(problem.resources)], axis=2)
+    order = [block
+             for block in np.lexsort((-np.arange(len(shell)), shell)) if shell[block] <= SHELLS]
+    uses = np.stack([problem.use_matrix(resource).toarray()
+                     for resource in range(problem.resources)], axis=2)
     preferred = np.argsort(-problem.values, axis=1, kind="stable")
     room = _room(problem)
     taken = np.zeros(len(shell), dtype=bool)
@@ -86,7 +90,8 @@ def _room(problem: Problem) -> np.ndarray:
 class Search:
     """A search for schedules of a CPIT or a PCPSP, up to so many seconds."""
 
-    def __init__(self, problem: Problem, blocks: Blocks, precedence: sparse.csr_matrix, seconds: float, seed: int = 1):
+    def __init__(self, problem: Problem, blocks: Blocks, precedence: sparse.csr_matrix,
+                 seconds: float, seed: int = 1):
         self.problem, self.precedence = problem, precedence
         self.program = program_of(problem, precedence)
         self.places = np.stack([blocks.x, blocks.y, blocks.z], axis=1).astype(float)
@@ -97,13 +102,15 @@ class Search:
         self.blocks, self.size = blocks, float(BLOCKS_OF_A_PART)
 
     def run(self, *starts: Schedule) -> Found:
-        """Takes a tenth of the time for the whole program, three fifths for parts of it, and the rest for the whole
-        program above what was found. Schedules of another hand may be given as starts."""
-        for number, start in enumerate([from_shells(self.problem, self.blocks, self.precedence), *starts]):
+        """Takes a tenth of the time for the whole program, three fifths for parts of it, and the
+        rest for the whole program above what was found. Schedules of another hand may be given as
+        starts."""
+        for number, start in enumerate([from_shells(self.problem, self.blocks, self.precedence),
+                                        *starts]):
             self._take(start, "given" if number else "shells")
         self._whole(self.seconds / 10)
         while self._is_open() and self.best is not None and self._left() > 0.3 * self.seconds:
-            self._part()
+            self._part(self.best)
         if self._is_open():
             self._whole(self._left())
         bound = None if np.isinf(self.bound) else max(self.bound, self.worth)
@@ -120,7 +127,8 @@ class Search:
         worth = schedule.worth(self.problem)
         if worth < self.worth + STEP or not check(schedule, self.problem, self.precedence).holds:
             return False
-        self.how = how if self.best is None or how == "given" else f"{self.how.split(', then')[0]}, then {how}"
+        self.how = (how if self.best is None or how == "given"
+                    else f"{self.how.split(', then')[0]}, then {how}")
         self.best, self.worth = schedule, worth
         return True
 
@@ -131,47 +139,53 @@ class Search:
         scale = max(1.0, float(np.abs(self.program.objective).max(initial=1)))
         row = sparse.csr_matrix(self.program.objective / scale)
         return replace(self.program, rows=sparse.vstack([self.program.rows, row]).tocsr(),
-                       lower=np.append(self.program.lower, (self.worth + STEP) / scale), upper=np.append(self.program.upper, np.inf))
+                       lower=np.append(self.program.lower, (self.worth + STEP) / scale),
+                       upper=np.append(self.program.upper, np.inf))
 
     def _whole(self, seconds: float) -> None:
         """The whole program: where nothing is above the best schedule, that is its bound."""
         answer = solve(self._above(), max(1.0, seconds))
         if answer.values is not None:
-            self._take(schedule_of(answer.values, self.problem, self.program.names), "the whole program")
+            self._take(schedule_of(answer.values, self.problem, self.program.names),
+                       "the whole program")
         if answer.status == "none" and self.best is not None:
             self.bound = self.worth
         elif answer.bound is not None:
             self.bound = min(self.bound, max(answer.bound, self.worth))
 
-    def _part(self) -> None:
-        """Places some blocks anew while all others stay; the next part has more of them where this one came to its end,
-        and fewer where its time was up."""
-        free = self._some()
+    def _part(self, best: Schedule) -> None:
+        """Places some blocks anew while all others stay; the next part has more of them where this
+        one came to its end, and fewer where its time was up."""
+        free = self._some(best)
         seconds = min(SECONDS_OF_A_PART, max(1.0, self._left()))
-        answer = solve(self._above(), seconds, bounds=self._held(free))
-        better = answer.values is not None and self._take(schedule_of(answer.values, self.problem, self.program.names), "parts of the program")
+        answer = solve(self._above(), seconds, bounds=self._held(best, free))
+        better = answer.values is not None and self._take(
+            schedule_of(answer.values, self.problem, self.program.names), "parts of the program")
         if not better:
-            self.size = max(20, min(len(self.places), self.size * (0.9 if answer.status == "stopped" else 1.05)))
+            self.size = max(20, min(len(self.places),
+                                    self.size * (0.9 if answer.status == "stopped" else 1.05)))
 
-    def _some(self) -> np.ndarray:
-        """Which blocks are placed anew, bool (n,): those about one of them, or those of two periods, one behind the
-        other, and about a block."""
+    def _some(self, best: Schedule) -> np.ndarray:
+        """Which blocks are placed anew, bool (n,): those about one of them, or those of two
+        periods, one behind the other, and about a block."""
         count = int(self.size)
         centre = self.places[self.chances.integers(len(self.places))]
         weights = self.chances.uniform(0.5, 2.0, 3)
-        off = (np.abs(self.places - centre) * weights).sum(axis=1) + self.chances.uniform(0, 1, len(self.places))
+        off = ((np.abs(self.places - centre) * weights).sum(axis=1)
+               + self.chances.uniform(0, 1, len(self.places)))
         free = np.zeros(len(self.places), dtype=bool)
         if self.problem.periods > 1 and self.chances.integers(2):
             period = self.chances.integers(self.problem.periods - 1)
-            free[self.best.block[(self.best.period == period) | (self.best.period == period + 1)]] = True
+            free[best.block[(best.period == period) | (best.period == period + 1)]] = True
             count //= 2
         free[np.argsort(off)[:count]] = True
         return free
 
-    def _held(self, free: np.ndarray) -> optimize.Bounds:
-        """Bounds of the variables that hold all other blocks in their periods; destinations stay free."""
+    def _held(self, best: Schedule, free: np.ndarray) -> optimize.Bounds:
+        """Bounds of the variables that hold all other blocks in their periods; destinations stay
+        free."""
         names = self.program.names
-        mined = self.best.mined(names.blocks, names.periods)
+        mined = best.mined(names.blocks, names.periods)
         lower, upper = np.zeros(names.count), np.ones(names.count)
         held = np.repeat(~free, names.periods)
         for first, table in ((0, mined.cumsum(axis=1)), (names.first_x, mined)):

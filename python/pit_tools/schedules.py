@@ -1,7 +1,7 @@
 """Schedules of a CPIT or a PCPSP: their files, what they are worth and use, and whether they hold.
 
-A line of a schedule is a block and its period, and for a PCPSP then its destination; behind that may
-stand the share of the block, 1 where none is given.
+A line of a schedule is a block and its period, and for a PCPSP then its destination; behind that
+may stand the share of the block, 1 where none is given.
 """
 from __future__ import annotations
 
@@ -27,7 +27,8 @@ MOST_ENTRIES = 1 << 28
 
 @dataclass(frozen=True)
 class Schedule:
-    """Lines of a schedule, arrays of m: shares of blocks in periods at destinations (0 in a CPIT)."""
+    """Lines of a schedule, arrays of m: shares of blocks in periods at destinations (0 in a
+    CPIT)."""
 
     block: np.ndarray
     period: np.ndarray
@@ -38,9 +39,11 @@ class Schedule:
         return len(self.block)
 
     @classmethod
-    def of(cls, block: Sequence[int], period: Sequence[int], destination: Optional[Sequence[int]] = None,
+    def of(cls, block: Sequence[int], period: Sequence[int],
+           destination: Optional[Sequence[int]] = None,
            share: Optional[Sequence[float]] = None) -> "Schedule":
-        """The schedule of lines (m,): destination 0 and the whole block, where these are not given."""
+        """The schedule of lines (m,): destination 0 and the whole block, where these are not
+        given."""
         blocks = np.asarray(block, dtype=np.int64)
         return cls(blocks, np.asarray(period, dtype=np.int64),
                    np.zeros(len(blocks), np.int64) if destination is None
@@ -51,29 +54,32 @@ class Schedule:
         """The block, the period, the destination and the share of each place that has lines, the
         share being the sum of theirs."""
         shape = (len(problem.values), problem.periods, problem.destinations)
-        places, lines = np.unique(np.ravel_multi_index((self.block, self.period, self.destination), shape),
-                                  return_inverse=True)
+        places, lines = np.unique(np.ravel_multi_index((self.block, self.period, self.destination),
+                                                       shape), return_inverse=True)
         shares = np.bincount(lines, self.share, len(places))
-        block, period, destination = np.unravel_index(places, shape)
+        block, period, destination = map(np.asarray, np.unravel_index(places, shape))
         return block, period, destination, shares
 
     def mined(self, blocks: int, periods: int) -> np.ndarray:
         """The share of each block that is mined in each period, (blocks, periods)."""
         if blocks * periods > MOST_ENTRIES:
-            raise UserError(f"{blocks:,} blocks in {periods} periods are more than this check holds")
+            raise UserError(f"{blocks:,} blocks in {periods} periods are more than this check "
+                            "holds")
         mined = np.zeros((blocks, periods))
         np.add.at(mined, (self.block, self.period), self.share)
         return mined
 
     def worth(self, problem: Problem) -> float:
         """What it is worth, a value of period t counting 1 / (1 + rate)^t."""
-        return float((self.share * problem.values[self.block, self.destination] * problem.discounts()[self.period]).sum())
+        return float((self.share * problem.values[self.block, self.destination]
+                      * problem.discounts()[self.period]).sum())
 
     def used(self, problem: Problem) -> np.ndarray:
         """What is used of each resource in each period, (resources, periods)."""
         used = np.zeros((problem.resources, problem.periods))
         for resource in range(problem.resources):
-            coefficients = np.asarray(problem.use_matrix(resource)[self.block, self.destination]).ravel()
+            coefficients = (np.asarray(problem.use_matrix(resource)[self.block, self.destination])
+                            .ravel())
             np.add.at(used[resource], self.period, coefficients * self.share)
         return used
 
@@ -81,7 +87,8 @@ class Schedule:
 def read_schedule(path: str, problem: Problem) -> Schedule:
     """A schedule's file for a problem.
 
-    Raises UserError, with the line, where a line has other fields or names no block, period or destination.
+    Raises UserError, with the line, where a line has other fields or names no block, period or
+    destination.
     """
     is_pcpsp = problem.kind == "PCPSP"
     fields = 3 if is_pcpsp else 2
@@ -100,9 +107,11 @@ def read_schedule(path: str, problem: Problem) -> Schedule:
     columns = [numbers[at].to_numpy(float) for at in range(fields + 1)]
     ends = [len(problem.values), problem.periods, problem.destinations][:fields]
     for name, column, end in zip(("block", "period", "destination"), columns, ends):
-        _refuse(path, lines, (column % 1 != 0) | (column < 0) | (column >= end), table, f"no {name} below {end}")
+        _refuse(path, lines, (column % 1 != 0) | (column < 0) | (column >= end), table,
+                f"no {name} below {end}")
     whole = [column.astype(np.int64) for column in columns[:fields]]
-    return Schedule(whole[0], whole[1], whole[2] if is_pcpsp else np.zeros_like(whole[0]), columns[fields])
+    return Schedule(whole[0], whole[1], whole[2] if is_pcpsp else np.zeros_like(whole[0]),
+                    columns[fields])
 
 
 def _refuse(path: str, lines: np.ndarray, bad: np.ndarray, table: pd.DataFrame, told: str) -> None:
@@ -114,8 +123,10 @@ def _refuse(path: str, lines: np.ndarray, bad: np.ndarray, table: pd.DataFrame, 
 def write_schedule(schedule: Schedule, path: str, is_pcpsp: bool) -> None:
     """Writes a schedule; a share stands where it is not 1."""
     with outputs.opened(path, "schedule", "ascii") as file:
-        for block, period, destination, share in zip(schedule.block, schedule.period, schedule.destination, schedule.share):
-            cells = [block, period, *([destination] if is_pcpsp else []), *([] if abs(share - 1) < 1e-9 else [shortest(share, 9)])]
+        for block, period, destination, share in zip(schedule.block, schedule.period,
+                                                     schedule.destination, schedule.share):
+            cells = [block, period, *([destination] if is_pcpsp else []),
+                     *([] if abs(share - 1) < 1e-9 else [shortest(share, 9)])]
             file.write(" ".join(map(str, cells)) + "\n")
 
 
@@ -138,9 +149,10 @@ class Check:
         return not self.broken
 
 
-def check(schedule: Schedule, problem: Problem, precedence: sparse.csr_matrix, relaxed: bool = False) -> Check:
-    """Whether a schedule holds. In a CPIT and a PCPSP a block is mined in one period, in a PCPSP at one or
-    more destinations; `relaxed` lets it be split over periods, as in the relaxations."""
+def check(schedule: Schedule, problem: Problem, precedence: sparse.csr_matrix,
+          relaxed: bool = False) -> Check:
+    """Whether a schedule holds. In a CPIT and a PCPSP a block is mined in one period, in a PCPSP at
+    one or more destinations; `relaxed` lets it be split over periods, as in the relaxations."""
     uses, over = _limits(schedule, problem)
     broken = [*_shares(schedule, problem, relaxed), *_order(schedule, problem, precedence), *over]
     return Check(float(schedule.share.sum()), schedule.worth(problem), uses, broken)
@@ -153,7 +165,8 @@ def _shares(schedule: Schedule, problem: Problem, relaxed: bool) -> Iterator[str
         yield f"block {schedule.block[at]} has the share {schedule.share[at]:g}"
     for block, period, destination, share in zip(*schedule.sums(problem)):
         if share > 1 + ROOM:
-            yield f"block {block} has the share {share:g} in period {period} at destination {destination}"
+            yield (f"block {block} has the share {share:g} in period {period} at destination "
+                   f"{destination}")
     mined = schedule.mined(len(problem.values), problem.periods)
     if not relaxed:
         for block, period in zip(*np.nonzero((mined > ROOM) & (mined < 1 - ROOM))):
@@ -163,7 +176,8 @@ def _shares(schedule: Schedule, problem: Problem, relaxed: bool) -> Iterator[str
         yield f"block {block} is mined {total[block]:g} times"
 
 
-def _order(schedule: Schedule, problem: Problem, precedence: sparse.csr_matrix, piece: int = 1 << 22) -> Iterator[str]:
+def _order(schedule: Schedule, problem: Problem, precedence: sparse.csr_matrix,
+           piece: int = 1 << 22) -> Iterator[str]:
     """What is mined before its predecessors, arcs taken a piece at a time."""
     by_end = schedule.mined(len(problem.values), problem.periods).cumsum(axis=1).astype(np.float32)
     starts = precedence.indptr.astype(np.int64)
@@ -177,7 +191,8 @@ def _order(schedule: Schedule, problem: Problem, precedence: sparse.csr_matrix, 
             if not early.any():
                 continue
             for at in np.flatnonzero(early):
-                if period == 0 or not by_end[lower[at], period - 1] > by_end[upper[at], period - 1] + 2 * ROOM:
+                if period == 0 or not by_end[lower[at],
+                                             period - 1] > by_end[upper[at], period - 1] + 2 * ROOM:
                     yield f"block {lower[at]} is mined in period {period}, before block {upper[at]}"
 
 
@@ -187,8 +202,10 @@ def _limits(schedule: Schedule, problem: Problem) -> tuple[list[str], list[str]]
     broken: list[str] = []
     for limit in problem.limits:
         amount = used[limit.resource, limit.period]
-        line = f"resource {limit.resource}, period {limit.period}: {amount:.3f} t of {limit_told(limit)}"
-        room = [1e-6 * max(1, abs(end)) if np.isfinite(end) else 0 for end in (limit.least, limit.most)]
+        line = (f"resource {limit.resource}, period {limit.period}: {amount:.3f} t of "
+                f"{limit_told(limit)}")
+        room = [1e-6 * max(1, abs(end)) if np.isfinite(end) else 0
+                for end in (limit.least, limit.most)]
         is_kept = limit.least - room[0] <= amount <= limit.most + room[1]
         (uses if is_kept else broken).append(line)
     return uses, broken
@@ -200,8 +217,8 @@ _VARIABLE = re.compile(r"([wxy])(\d+)(?:_(\d+))?(?:_(\d+))?$")
 
 
 def read_variables(path: str) -> dict[tuple, float]:
-    """The variables of a solution of `cbc` or `glpsol --output`, by (letter, numbers..): the first number
-    behind each name. Those that `cbc` leaves out are 0.
+    """The variables of a solution of `cbc` or `glpsol --output`, by (letter, numbers..): the first
+    number behind each name. Those that `cbc` leaves out are 0.
 
     Raises UserError where there is none.
     """
@@ -211,7 +228,8 @@ def read_variables(path: str) -> dict[tuple, float]:
         for line in file:
             for field in line.split():
                 if match := _VARIABLE.match(field):
-                    name = (match[1], *(int(part) for part in match.groups()[1:] if part is not None))
+                    name = (match[1],
+                            *(int(part) for part in match.groups()[1:] if part is not None))
                 elif name is not None:
                     try:
                         found.setdefault(name, float(field))
@@ -219,15 +237,17 @@ def read_variables(path: str) -> dict[tuple, float]:
                     except ValueError:
                         pass
     if not found:
-        raise UserError(f"{path}: no variable of a program that `pit-tools lp` writes: has the solver found a solution?")
+        raise UserError(f"{path}: no variable of a program that `pit-tools lp` writes: has the "
+                        "solver found a solution?")
     return found
 
 
 def schedule_of_variables(found: dict[tuple, float], problem: Problem) -> Schedule:
-    """The schedule that variables w (mined by the end of a period), x (mined in it) and y (shares at destinations)
-    state. In a CPIT x decides where there is one, else w; in a PCPSP y does."""
+    """The schedule that variables w (mined by the end of a period), x (mined in it) and y (shares
+    at destinations) state. In a CPIT x decides where there is one, else w; in a PCPSP y does."""
     n, periods = len(problem.values), problem.periods
-    tables = {"w": np.zeros((n, periods)), "x": np.zeros((n, periods)), "y": np.zeros((n, problem.destinations, periods))}
+    tables = {"w": np.zeros((n, periods)), "x": np.zeros((n, periods)),
+              "y": np.zeros((n, problem.destinations, periods))}
     for (letter, *at), value in found.items():
         table = tables[letter]
         if len(at) != table.ndim or any(number >= end for number, end in zip(at, table.shape)):
@@ -236,11 +256,13 @@ def schedule_of_variables(found: dict[tuple, float], problem: Problem) -> Schedu
     if problem.kind == "PCPSP":
         return schedule_of_shares(tables["y"])
     has_x = any(name[0] == "x" for name in found)
-    return schedule_of_shares((tables["x"] if has_x else np.diff(tables["w"], axis=1, prepend=0))[:, None, :])
+    return schedule_of_shares((tables["x"] if has_x
+                               else np.diff(tables["w"], axis=1, prepend=0))[:, None, :])
 
 
 def schedule_of_shares(shares: np.ndarray) -> Schedule:
-    """The schedule of shares (blocks, destinations, periods); what is within a millionth of 0 or 1 is that."""
+    """The schedule of shares (blocks, destinations, periods); what is within a millionth of 0 or 1
+    is that."""
     shares = np.where(np.abs(shares - np.rint(shares)) < ROOM, np.rint(shares), shares)
     block, destination, period = np.nonzero(shares)
     return Schedule(block, period, destination, shares[block, destination, period])

@@ -1,5 +1,6 @@
-"""Opens an export and finds how it is written: packed, its encoding, its separator, its header, rows of units; a workbook, a GSLIB
-file or a list without a header too. Rows are given as texts, in pieces, by pandas."""
+"""Opens an export and finds how it is written: packed, its encoding, its separator, its header,
+rows of units; a workbook, a GSLIB file or a list without a header too. Rows are given as texts, in
+pieces, by pandas."""
 from __future__ import annotations
 
 import bz2
@@ -14,7 +15,7 @@ import zipfile
 import zlib
 from dataclasses import dataclass, field
 from itertools import islice
-from typing import IO, Any, BinaryIO, Callable, Iterator, Optional, Sequence, TextIO
+from typing import IO, Any, BinaryIO, Callable, Iterator, Optional, Sequence, TextIO, Union
 
 import numpy as np
 import pandas as pd
@@ -29,7 +30,8 @@ CHUNK = 100_000
 # How many bytes are looked at at a time.
 PIECE = 1 << 22
 
-# How many bytes a line may have, and a cell in quotes with all its lines; and how many signs are looked at to find the header.
+# How many bytes a line may have, and a cell in quotes with all its lines; and how many signs are
+# looked at to find the header.
 MOST_LINE = 1 << 24
 HEAD = 1 << 20
 
@@ -58,7 +60,7 @@ def opened(path: str) -> BinaryIO:
     """The bytes of a file, unpacked where it is a gzip, bzip2, xz or zip file of one text."""
     with open(path, "rb") as file:
         front = file.read(6)
-    for mark, unpack in ((b"\x1f\x8b", gzip.open), (b"BZh", bz2.open), (b"\xfd7zXZ", lzma.open), (b"PK\x03\x04", _only_file_of)):
+    for mark, unpack in UNPACKERS:
         if front.startswith(mark):
             return io.BufferedReader(Unpacked(path, unpack), 1 << 16)
     return open(path, "rb")
@@ -66,17 +68,26 @@ def opened(path: str) -> BinaryIO:
 
 def _only_file_of(path: str) -> IO[bytes]:
     """The one file of a zip archive."""
-    archive = zipfile.ZipFile(path)
+    archive = zipfile.ZipFile(path)  # pylint: disable=consider-using-with
     names = [name for name in archive.namelist() if not name.endswith("/")]
     if len(names) != 1:
         raise UserError(f"{path}: the archive has {len(names)} files: unpack it, and name one")
     return archive.open(names[0])
 
 
-class Unpacked(io.RawIOBase):
-    """What an archive holds. It raises UserError where that is damaged, cut short, or grows beyond all measure."""
+#: What opens an archive: a file of bytes.
+Unpacker = Callable[[str], Union[io.BufferedIOBase, IO[bytes]]]
 
-    def __init__(self, path: str, unpack: Callable[[str], IO[bytes]]) -> None:
+#: How archives begin, and what opens them.
+UNPACKERS: list[tuple[bytes, Unpacker]] = [(b"\x1f\x8b", gzip.open), (b"BZh", bz2.open),
+                                           (b"\xfd7zXZ", lzma.open), (b"PK\x03\x04", _only_file_of)]
+
+
+class Unpacked(io.RawIOBase):
+    """What an archive holds. It raises UserError where that is damaged, cut short, or grows beyond
+    all measure."""
+
+    def __init__(self, path: str, unpack: Unpacker) -> None:
         self.path, self.count = path, 0
         self.most = max(LEAST_UNPACKED, MOST_TIMES * os.path.getsize(path))
         self.file = self.read_by(lambda: unpack(path))
@@ -89,15 +100,18 @@ class Unpacked(io.RawIOBase):
         room[:len(piece)] = piece
         self.count += len(piece)
         if self.count > self.most:
-            raise UserError(f"{self.path}: the archive unpacks to more than {MOST_TIMES} times its size: unpack it first, and look at it")
+            raise UserError(f"{self.path}: the archive unpacks to more than {MOST_TIMES} times its "
+                            "size: unpack it first, and look at it")
         return len(piece)
 
     def read_by(self, step: Callable[[], Any]) -> Any:
         """What a step gives, its faults told with the archive's name."""
         try:
             return step()
-        except (EOFError, zlib.error, lzma.LZMAError, zipfile.BadZipFile, gzip.BadGzipFile, RuntimeError, NotImplementedError) as error:
-            raise UserError(f"{self.path}: the archive is cut short or damaged, or locked: {' '.join(str(error).split())}") from None
+        except (EOFError, zlib.error, lzma.LZMAError, zipfile.BadZipFile, gzip.BadGzipFile,
+                RuntimeError, NotImplementedError) as error:
+            raise UserError(f"{self.path}: the archive is cut short or damaged, or locked: "
+                            f"{' '.join(str(error).split())}") from None
         except OSError as error:
             if error.errno:
                 raise
@@ -118,7 +132,8 @@ def is_workbook(path: str) -> bool:
 
 
 def encoding_of(path: str) -> tuple[str, str]:
-    """The encoding of a text, and what to tell of it: by its mark, by its zero bytes, or by trying UTF-8 over all of it."""
+    """The encoding of a text, and what to tell of it: by its mark, by its zero bytes, or by trying
+    UTF-8 over all of it."""
     with opened(path) as file:
         front = file.read(4096)
         if front.startswith(codecs.BOM_UTF8):
@@ -132,7 +147,8 @@ def encoding_of(path: str) -> tuple[str, str]:
         if even > len(front) // 3 and odd < even // 20 + 1:
             return "utf-16-be", "UTF-16 without a mark"
         if front.startswith(b"\xd0\xcf\x11\xe0"):
-            raise UserError(f"{path}: it is a workbook of the old kind (.xls): save it as .xlsx or as CSV")
+            raise UserError(f"{path}: it is a workbook of the old kind (.xls): save it as .xlsx or "
+                            "as CSV")
         if front.count(0):
             raise UserError(f"{path}: it has zero bytes, so it is no text: export it as CSV")
         decoder = codecs.getincrementaldecoder("utf-8")()
@@ -142,7 +158,8 @@ def encoding_of(path: str) -> tuple[str, str]:
                 front = file.read(1 << 20)
             decoder.decode(b"", final=True)
         except UnicodeDecodeError:
-            return "cp1252", "no UTF-8, and read as cp1252 (Western Windows); --encoding names another"
+            return ("cp1252",
+                    "no UTF-8, and read as cp1252 (Western Windows); --encoding names another")
     return "utf-8", "UTF-8"
 
 
@@ -150,8 +167,9 @@ def encoding_of(path: str) -> tuple[str, str]:
 class Source:
     """An export: how it is written, and its columns.
 
-    `names` are those of the header, or of `--names`. `above` is how many lines stand above the header or, where there is none,
-    above the first row; `units` are the rows between the header and the first number."""
+    `names` are those of the header, or of `--names`. `above` is how many lines stand above the
+    header or, where there is none, above the first row; `units` are the rows between the header and
+    the first number."""
 
     path: str
     encoding: str
@@ -169,7 +187,8 @@ class Source:
 
     def __post_init__(self) -> None:
         if len(self.names) > MOST_COLUMNS:
-            raise UserError(f"{self.path}: it has {len(self.names):,} columns, and a sheet has {MOST_COLUMNS:,} at the most: export fewer")
+            raise UserError(f"{self.path}: it has {len(self.names):,} columns, and a sheet has "
+                            f"{MOST_COLUMNS:,} at the most: export fewer")
 
     def told(self) -> str:
         """How the export is written, in words."""
@@ -178,32 +197,40 @@ class Source:
         elif self.kind == "GSLIB":
             how = f"GSLIB, {self.encoding_told}"
         else:
-            how = f"cells between {SEPARATORS.get(self.separator, repr(self.separator))}, {self.encoding_told}"
+            how = (f"cells between {SEPARATORS.get(self.separator, repr(self.separator))}, "
+                   f"{self.encoding_told}")
         header = f"header in line {self.header_line}" if self.has_header else "no header"
-        units = f"; {len(self.units)} between it and the first number left out" if self.units else ""
-        left = f"; left out: {', '.join(f'`{name}`' for name in self.sheets_left)}, without these columns" if self.sheets_left else ""
+        units = (f"; {len(self.units)} between it and the first number left out" if self.units
+                 else "")
+        left = (f"; left out: {', '.join(f'`{name}`' for name in self.sheets_left)}, without these "
+                "columns" if self.sheets_left else "")
         return f"{self.path}: {how}; {header}{units}{left}"
 
     def handle(self) -> io.TextIOWrapper:
         """The text from the header on, or from the first row."""
-        text = io.TextIOWrapper(opened(self.path), encoding=self.encoding, errors="replace", newline="")
+        text = io.TextIOWrapper(opened(self.path), encoding=self.encoding, errors="replace",
+                                newline="")
         for _ in range(self.above):
             text.readline()
         return text
 
     def chunks(self, columns: Sequence[int]) -> Iterator[pd.DataFrame]:
-        """The rows as texts, the columns being numbers of the header's; the index counts records from 0, the header being
-        record 0 where there is one. It raises UserError for a row of another width."""
+        """The rows as texts, the columns being numbers of the header's; the index counts records
+        from 0, the header being record 0 where there is one. It raises UserError for a row of
+        another width."""
         wanted = sorted(columns)
         if self.sheet is not None:
-            yield self.sheet.iloc[1 if self.has_header else 0:][wanted].reset_index(drop=True).rename(lambda at: at + self.has_header)
+            yield (self.sheet.iloc[1 if self.has_header else 0:][wanted].reset_index(drop=True)
+                   .rename(lambda at: at + self.has_header))
             return
         self.judge_widths()
         blank = self.separator == " "
         try:
-            with self.handle() as text, pd.read_csv(
-                    text, sep=r"\s+" if blank else self.separator, header=None, dtype=str, usecols=wanted, keep_default_na=False,
-                    na_values=[], chunksize=CHUNK, skipinitialspace=True, engine="c") as reader:
+            with self.handle() as text, pd.read_csv(text, sep=r"\s+" if blank else self.separator,
+                                                    header=None, dtype=str, usecols=wanted,
+                                                    keep_default_na=False, na_values=[],
+                                                    chunksize=CHUNK, skipinitialspace=True,
+                                                    engine="c") as reader:
                 for number, table in enumerate(reader):
                     if not number and self.has_header:
                         table = table.iloc[1:]
@@ -214,7 +241,8 @@ class Source:
             raise UserError(f"{self.path}: there is no row") from None
 
     def judge_widths(self) -> None:
-        """Stops at the first row that has more or fewer cells than the header, since pandas passes over these."""
+        """Stops at the first row that has more or fewer cells than the header, since pandas passes
+        over these."""
         if self.encoding.startswith("utf-16"):
             with self.handle() as text:
                 self._judge(widths_of(text, self.separator), self.above)
@@ -229,7 +257,8 @@ class Source:
                 while quotes % 2 and (more := file.readline(MOST_LINE)):
                     quotes, length = quotes + more.count(b'"'), length + len(more)
                     if length > PIECE + MOST_LINE:
-                        raise UserError(f"{self.path}: a quote that opens behind line {line:,} is not closed within {MOST_LINE:,} bytes")
+                        raise UserError(f"{self.path}: a quote that opens behind line {line:,} is "
+                                        f"not closed within {MOST_LINE:,} bytes")
                     pieces.append(more)
                 piece = b"".join(pieces)
                 if not _has_width(piece, self.separator, len(self.names)):
@@ -238,11 +267,13 @@ class Source:
                 line += piece.count(b"\n")
 
     def line_behind(self, file: BinaryIO, piece: bytes, line: int) -> bytes:
-        """The rest of the line in which a piece ends. It raises UserError where that does not end."""
+        """The rest of the line in which a piece ends. It raises UserError where that does not
+        end."""
         rest = file.readline(MOST_LINE)
         if len(rest) == MOST_LINE and not rest.endswith(b"\n") and b"\r" not in rest:
             last = line + piece.count(b"\n")
-            raise UserError(f"{self.path}: behind line {last:,} a line has more than {MOST_LINE:,} bytes: has the file lost its line ends?")
+            raise UserError(f"{self.path}: behind line {last:,} a line has more than {MOST_LINE:,} "
+                            "bytes: has the file lost its line ends?")
         return rest
 
     def _judge(self, widths: Iterator[tuple[int, int]], above: int) -> None:
@@ -255,8 +286,10 @@ class Source:
         width = len(self.names)
         for line, found in widths:
             if found != width:
-                why = "is a separator in a cell without quotes, or at the ends of lines?" if found > width else self._lacking_told(line + above)
-                raise UserError(f"{self.path}: line {line + above} has {found} cells, and the header {width}: {why}")
+                why = ("is a separator in a cell without quotes, or at the ends of lines?"
+                       if found > width else self._lacking_told(line + above))
+                raise UserError(f"{self.path}: line {line + above} has {found} cells, and the "
+                                f"header {width}: {why}")
 
     def _lacking_told(self, number: int) -> str:
         """What a line with too few cells may be, by its text."""
@@ -264,16 +297,19 @@ class Source:
             line = next(islice(text, number - self.above - 1, None), "").strip()
         shown = f"`{line[:60]}{'..' if line[60:] else ''}`"
         if self.separator == " " and re.search(r"\d\.\d+[-.]?\d*\.\d", line):
-            return f"{shown} has numbers without a blank between them: export it with a separator, or wider columns"
+            return (f"{shown} has numbers without a blank between them: export it with a "
+                    "separator, or wider columns")
         if not re.search(r"\d[\d.,]*[\s,;|]+-?\d", line):
-            return f"{shown} is a heading between rows, as of a bench, and no row: take such lines out"
+            return (f"{shown} is a heading between rows, as of a bench, and no row: take such "
+                    "lines out")
         return f"{shown}: is the file cut short, or are these rows of another kind?"
 
     def place_of(self, record: int, column: Optional[int] = None) -> str:
         """Where a record, or a cell of it, stands, as `a.csv: line 12`."""
         if self.sheet is None:
             return f"{self.path}: line {self.line_of(record)}"
-        where = f"row {self.line_of(record)}" if column is None else f"cell {cell_name(self.line_of(record), column + 1)}"
+        where = (f"row {self.line_of(record)}" if column is None
+                 else f"cell {cell_name(self.line_of(record), column + 1)}")
         return f"{self.path}: sheet `{self.sheet_name}`, {where}"
 
     def cells_of(self, record: int) -> list[str]:
@@ -284,7 +320,8 @@ class Source:
         return []
 
     def line_of(self, record: int) -> int:
-        """The line on which a record ends, counted from 1 in the file: blank lines and line breaks within quotes count."""
+        """The line on which a record ends, counted from 1 in the file: blank lines and line breaks
+        within quotes count."""
         if self.sheet is not None:
             return record + self.header_line if self.has_header else record + 1
         count = -1
@@ -296,8 +333,8 @@ class Source:
                         return line + 1 + self.above
                 return 0
             reader = csv.reader(text, delimiter=self.separator)
-            for row in reader:
-                count += bool(row) and (len(row) > 1 or bool(row[0].strip()))
+            for cells in reader:
+                count += bool(cells) and (len(cells) > 1 or bool(cells[0].strip()))
                 if count == record:
                     return reader.line_num + self.above
         return 0
@@ -314,7 +351,8 @@ def _has_width(piece: bytes, separator: str, width: int) -> bool:
 
 
 def widths_of(text: TextIO, separator: str) -> Iterator[tuple[int, int]]:
-    """The line on which each record ends, counted from 1, and its number of cells; blank lines are none."""
+    """The line on which each record ends, counted from 1, and its number of cells; blank lines are
+    none."""
     if separator == " ":
         for line, row in enumerate(text, 1):
             if row.strip():
@@ -333,7 +371,7 @@ def widths_of(text: TextIO, separator: str) -> Iterator[tuple[int, int]]:
             pieces.append(more)
             quotes += more.count('"')
             line += 1
-        yield line, len(next(csv.reader(pieces, delimiter=separator)))
+        yield line, len(next(csv.reader(pieces, delimiter=separator), []))
 
 
 def head_of(path: str, encoding: str) -> str:
@@ -343,14 +381,16 @@ def head_of(path: str, encoding: str) -> str:
     if not head.strip():
         raise UserError(f"{path}: there is no text")
     if len(head) == HEAD and "\n" not in head and "\r" not in head:
-        raise UserError(f"{path}: the first line has more than {HEAD:,} signs: has the file lost its line ends?")
+        raise UserError(f"{path}: the first line has more than {HEAD:,} signs: has the file lost "
+                        "its line ends?")
     if len(head) == HEAD and "\n" in head:
         head = head[:head.rindex("\n") + 1]
     return head
 
 
 def records_of(head: str, separator: str) -> list[tuple[list[str], int, int]]:
-    """The first records of a text, each with how many lines stand above it and the line on which it ends."""
+    """The first records of a text, each with how many lines stand above it and the line on which it
+    ends."""
     if separator == " ":
         lines = head.splitlines()[:HEAD_LINES]
         return [(line.split(), at, at + 1) for at, line in enumerate(lines)]
@@ -368,7 +408,8 @@ def records_of(head: str, separator: str) -> list[tuple[list[str], int, int]]:
 
 
 def gslib_of(path: str, head: str, encoding: str, told: str) -> Optional[Source]:
-    """A GSLIB file: a title, a number of columns, a name on each of so many lines, and then rows of so many numbers."""
+    """A GSLIB file: a title, a number of columns, a name on each of so many lines, and then rows of
+    so many numbers."""
     lines = head.splitlines()
     count = re.match(r"\s*(\d+)(\s|$)", lines[1]) if len(lines) > 3 else None
     columns = int(count[1]) if count else 0
@@ -383,10 +424,11 @@ def gslib_of(path: str, head: str, encoding: str, told: str) -> Optional[Source]
     return Source(path, encoding, told, " ", names, columns + 2, False, 0, kind="GSLIB")
 
 
-def sources_of(path: str, resolve: Callable[[Sequence[str]], object], *, encoding: str = "", separator: str = "",
-               names: Sequence[str] = (), sheet: str = "") -> list[Source]:
-    """Opens an export: one text, or the sheets of a workbook. `resolve` is called with the names of a header that may be one, and raises Lacking where a column is not
-    among them: the first line that it accepts is the header.
+def sources_of(path: str, resolve: Callable[[Sequence[str]], object], *, encoding: str = "",
+               separator: str = "", names: Sequence[str] = (), sheet: str = "") -> list[Source]:
+    """Opens an export: one text, or the sheets of a workbook. `resolve` is called with the names of
+    a header that may be one, and raises Lacking where a column is not among them: the first line
+    that it accepts is the header.
 
     It raises UserError where no line has all the columns, and tells what the closest one has."""
     if is_workbook(path):
@@ -394,7 +436,8 @@ def sources_of(path: str, resolve: Callable[[Sequence[str]], object], *, encodin
     return [text_of(path, resolve, encoding, separator, names)]
 
 
-def text_of(path: str, resolve: Callable[[Sequence[str]], object], encoding: str, separator: str, names: Sequence[str]) -> Source:
+def text_of(path: str, resolve: Callable[[Sequence[str]], object], encoding: str, separator: str,
+            names: Sequence[str]) -> Source:
     """Opens a text, as `sources_of` says."""
     told = encoding
     if not encoding:
@@ -402,7 +445,8 @@ def text_of(path: str, resolve: Callable[[Sequence[str]], object], encoding: str
     try:
         head = head_of(path, encoding)
     except LookupError:
-        raise UserError(f"no encoding `{encoding}`: there are utf-8, cp1252, latin-1, utf-16 and others") from None
+        raise UserError(f"no encoding `{encoding}`: there are utf-8, cp1252, latin-1, utf-16 and "
+                        "others") from None
     if names:
         return headerless(path, resolve, head, encoding, told, separator, names)
     gslib = gslib_of(path, head, encoding, told)
@@ -418,13 +462,15 @@ def text_of(path: str, resolve: Callable[[Sequence[str]], object], encoding: str
                 resolve(row)
                 return Source(path, encoding, told, one, row, above, True, line)
             except Lacking as lacking:
-                shared = len(row) + 1000 * lacking.hits - 500 * (sum(map(is_number_like, row)) > len(row) / 2)
+                shared = (len(row) + 1000 * lacking.hits
+                          - 500 * (sum(map(is_number_like, row)) > len(row) / 2))
                 if shared > closest[0]:
                     closest = shared, f"{lacking} in line {line}, which has {_names_told(row)}"
     judge_turns(path, head, separator)
     first = records_of(head, separator or closest_separator(head))[0][0]
     if len(first) > 3 and sum(map(is_number_like, first)) > len(first) / 2:
-        raise UserError(f"{path}: there is no header, since line 1 has numbers: name its {len(first)} columns by --names X,Y,..")
+        raise UserError(f"{path}: there is no header, since line 1 has numbers: name its "
+                        f"{len(first)} columns by --names X,Y,..")
     raise UserError(f"{path}: {closest[1]}")
 
 
@@ -438,21 +484,25 @@ def _names_told(row: Sequence[str]) -> str:
 def closest_separator(head: str) -> str:
     """The separator that cuts the first lines most."""
     lines = [line for line in head.splitlines()[:20] if line.strip()]
-    return max(SEPARATORS, key=lambda one: min(len(line.split() if one == " " else line.split(one)) for line in lines) - (one == " "))
+    return max(SEPARATORS, key=lambda one: min(len(line.split() if one == " " else line.split(one))
+                                               for line in lines) - (one == " "))
 
 
 def judge_turns(path: str, head: str, separator: str) -> None:
     """Stops where lines of two widths take turns: a model of blocks and their parcels."""
-    widths = [len(row) for row, _, _ in records_of(head, separator or closest_separator(head)) if row]
+    widths = [len(row)
+              for row, _, _ in records_of(head, separator or closest_separator(head)) if row]
     usual = [width for width in set(widths) if widths.count(width) >= len(widths) / 5]
     if len(usual) > 1 and len(widths) > 9:
         told = " and ".join(map(str, sorted(usual)))
-        raise UserError(f"{path}: lines of {told} cells take turns, as `{' '.join(head.splitlines()[0].split())[:60]}` and "
-                        f"`{' '.join(head.splitlines()[1].split())[:60]}`: a model of blocks and their parcels, as Whittle writes it? Export one row for "
-                        "each block")
+        raise UserError(f"{path}: lines of {told} cells take turns, as "
+                        f"`{' '.join(head.splitlines()[0].split())[:60]}` and "
+                        f"`{' '.join(head.splitlines()[1].split())[:60]}`: a model of blocks and "
+                        "their parcels, as Whittle writes it? Export one row for each block")
 
 
-def headerless(path: str, resolve: Callable, head: str, encoding: str, told: str, separator: str, names: Sequence[str]) -> Source:
+def headerless(path: str, resolve: Callable, head: str, encoding: str, told: str, separator: str,
+               names: Sequence[str]) -> Source:
     """A list without a header, whose columns are named."""
     resolve(names)
     judge_turns(path, head, separator)
@@ -461,15 +511,20 @@ def headerless(path: str, resolve: Callable, head: str, encoding: str, told: str
         for row, above, _ in records_of(head, one):
             if len(row) == len(names) and sum(map(is_number_like, row)) >= min(3, len(row)):
                 return Source(path, encoding, told, one, list(names), above, False, 0)
-    widths = sorted({len(row) for row, _, _ in records_of(head, separator or closest_separator(head)) if row})
-    raise UserError(f"{path}: --names has {len(names)} names, and lines have {', '.join(map(str, widths))} cells")
+    widths = sorted(
+        {len(row) for row, _, _ in records_of(head, separator or closest_separator(head)) if row})
+    raise UserError(f"{path}: --names has {len(names)} names, and lines have "
+                    f"{', '.join(map(str, widths))} cells")
 
 
-def workbook_of(path: str, resolve: Callable[[Sequence[str]], object], names: Sequence[str], sheet: str) -> list[Source]:
-    """All sheets of a workbook that have all the columns, or the one that is named. It raises UserError where their headers differ, or
-    another sheet has rows of as many numbers below another header."""
+def workbook_of(path: str, resolve: Callable[[Sequence[str]], object], names: Sequence[str],
+                sheet: str) -> list[Source]:
+    """All sheets of a workbook that have all the columns, or the one that is named. It raises
+    UserError where their headers differ, or another sheet has rows of as many numbers below another
+    header."""
     found: list[Source] = []
     others: dict[str, pd.DataFrame] = {}
+    numbers: list[int] = []
     told = ""
     for name, texts in sheets_of(path, sheet):
         at, lacking = _header_at(texts, resolve, names)
@@ -478,26 +533,35 @@ def workbook_of(path: str, resolve: Callable[[Sequence[str]], object], names: Se
             others[name] = texts
         else:
             row = list(names) or texts.iloc[at].tolist()
-            found.append(Source(path, "", "", "", row, at, not names, at + 1, kind="workbook", sheet=texts.iloc[at:], sheet_name=name))
+            numbers.append(sum(map(is_number_like, texts.iloc[-1])))
+            found.append(Source(path, "", "", "", row, at, not names, at + 1, kind="workbook",
+                                sheet=texts.iloc[at:], sheet_name=name))
     if not found:
         raise UserError(f"{path}: {told or 'the workbook is empty'}")
     for one in found[1:]:
         if [*map(plain_name, one.names)] != [*map(plain_name, found[0].names)]:
-            raise UserError(f"{path}: the sheets `{found[0].sheet_name}` and `{one.sheet_name}` have these columns below headers that differ: "
-                            "give them one header where both are parts of the model; else name the one that is meant by --sheet")
+            raise UserError(f"{path}: the sheets `{found[0].sheet_name}` and `{one.sheet_name}` "
+                            "have these columns below headers that differ: give them one header "
+                            "where both are parts of the model; else name the one that is meant by "
+                            "--sheet")
     for name, texts in others.items():
-        least = max(3, sum(map(is_number_like, found[0].sheet.iloc[-1])))
-        many = int((texts.apply(lambda row: sum(map(is_number_like, row)), axis=1) >= least).sum()) if len(texts) else 0
+        least = max(3, numbers[0])
+        many = (int((texts.apply(lambda row: sum(map(is_number_like, row)), axis=1) >= least).sum())
+                if len(texts) else 0)
         if many > 2:
-            raise UserError(f"{path}: the sheet `{name}` has {many:,} rows of numbers as `{found[0].sheet_name}`, and no header with its columns: "
-                            "give it the header where it is a part of the model; else name the sheet that is meant by --sheet")
+            raise UserError(f"{path}: the sheet `{name}` has {many:,} rows of numbers as "
+                            f"`{found[0].sheet_name}`, and no header with its columns: give it the "
+                            "header where it is a part of the model; else name the sheet that is "
+                            "meant by --sheet")
         found[0].sheets_left.append(name)
     resolve(found[0].names)
     return found
 
 
-def _header_at(texts: pd.DataFrame, resolve: Callable, names: Sequence[str]) -> tuple[Optional[int], Optional[Lacking]]:
-    """The row of a sheet that is its header, or None and what it lacks; 0 where the columns are named and are as many."""
+def _header_at(texts: pd.DataFrame, resolve: Callable,
+               names: Sequence[str]) -> tuple[Optional[int], Optional[Lacking]]:
+    """The row of a sheet that is its header, or None and what it lacks; 0 where the columns are
+    named and are as many."""
     if names:
         resolve(names)
         return (0 if texts.shape[1] == len(names) else None), None

@@ -122,7 +122,8 @@ def lines_of_values(whole: Sequence[np.ndarray], values: Sequence[np.ndarray],
     places = [np.rint(np.log10(scales(column, decimals))).astype(int) for column in values]
     for at in range(len(values[0])):
         cells = [str(column[at]) for column in whole]
-        cells += [shortest(column[at], place[at]) for column, place in zip(values, places)]
+        cells += [shortest(float(column[at]), int(place[at]))
+                  for column, place in zip(values, places)]
         yield (" ".join(cells) + "\n").encode()
 
 

@@ -14,6 +14,7 @@ def sum_of(path: str) -> str:
 
 
 def sum_line(found: str, name: str) -> str:
-    """The line of a sum. Where a name has a backslash the line begins with one, and each is written twice."""
+    """The line of a sum. Where a name has a backslash the line begins with one, and each is written
+    twice."""
     mark = "\\" if "\\" in name else ""
     return f"{mark}{found}  {name.replace(mark, mark * 2) if mark else name}\n"

@@ -1,5 +1,5 @@
-"""The box with which the page of a survey begins: what the pit holds, when and by what the survey was made, of which files, and what
-was said and left out on the way."""
+"""The box with which the page of a survey begins: what the pit holds, when and by what the survey
+was made, of which files, and what was said and left out on the way."""
 from __future__ import annotations
 
 import os
@@ -33,10 +33,12 @@ def box(facts: Facts, inputs: Inputs) -> list[Entry]:
     """The rows of the box that have lines."""
     note = facts.note
     entries = [Entry("pit", list(_pit(facts))),
-               Entry("made", [f"{datetime.now().astimezone():%Y-%m-%d %H:%M %Z}", *version().splitlines()]),
-               Entry("plan", [f"{record}: {said}" for record, said in note.said] or [",".join(record) for record in facts.plan.records()]),
-               Entry("note", note.notes), Entry("import", note.told), Entry("import: look at", note.doubts),
-               Entry("inputs", list(_sums(facts, inputs)))]
+               Entry("made",
+                     [f"{datetime.now().astimezone():%Y-%m-%d %H:%M %Z}", *version().splitlines()]),
+               Entry("plan", [f"{record}: {said}" for record, said in note.said]
+                     or [",".join(record) for record in facts.plan.records()]),
+               Entry("note", note.notes), Entry("import", note.told),
+               Entry("import: look at", note.doubts), Entry("inputs", list(_sums(facts, inputs)))]
     return [entry for entry in entries if entry.lines]
 
 
@@ -46,9 +48,11 @@ def _pit(facts: Facts) -> Iterator[str]:
         return
     sums, measures = pit_sums(facts, facts.pit), facts.measures
     strip = "none" if sums.strip is None else f"{sums.strip:.2f}"
-    yield (f"{with_commas(sums.ore, 0)} t of ore with {measures.grade(sums.grade):.4f} {measures.grade_unit}, {with_commas(sums.waste, 0)} t of waste, "
-           f"strip ratio {strip}, in {with_commas(sums.blocks)} blocks")
-    yield f"{with_commas(sums.metal, 1)} kg of metal, of which {with_commas(sums.recovered, 1)} kg are recovered"
+    yield (f"{with_commas(sums.ore, 0)} t of ore with {measures.grade(sums.grade):.4f} "
+           f"{measures.grade_unit}, {with_commas(sums.waste, 0)} t of waste, strip ratio {strip}, "
+           f"in {with_commas(sums.blocks)} blocks")
+    yield (f"{with_commas(sums.metal, 1)} kg of metal, of which {with_commas(sums.recovered, 1)} "
+           "kg are recovered")
     money = measures.currency or "in units of 100 cents"
     yield f"worth {with_commas(measures.money(sums.value), 2)} {money}, of any period"
 

@@ -12,16 +12,19 @@ from typing import Optional, Sequence
 
 import numpy as np
 
-from pit_tools.closure import is_compiled, pit_of_plan, ultimate_pit
-from pit_tools.cones import Places, precedence_of, reach_along, size_in_millimetres
+from pit_tools import progress
+from pit_tools.closure import is_compiled, pit_by_cones
+from pit_tools.cones import Places, reach_along, size_in_millimetres
 from pit_tools.contacts import SIDES, Contacts, contacts_of, differ
 from pit_tools.errors import UserError
 from pit_tools.instance import Blocks, Outline, count_predecessors, read_blocks, read_outline
 from pit_tools.plan_file import Plan, read_plan
-from pit_tools.plan_note import PlanNote, read_note, sum_of
+from pit_tools.plan_note import PlanNote, read_note
 from pit_tools.slope_words import Judgement, judge
 from pit_tools.spelling import with_commas
-from pit_tools.valuation import worths
+from pit_tools.sums import sum_of
+from pit_tools.units import Numbers
+from pit_tools.valuation import values_of
 from pit_tools.zone_files import count_lines
 
 #: Places of a box up to which it is held whole.
@@ -85,15 +88,17 @@ class Leaving:
 class Facts:
     """A plan, the blocks, the numbers of predecessors, and the values of an instance.
 
-    `zone_paths` are the zone files in the order of `compile`, or none. `pit` is bool (n,) where the pit
-    is known. `note` is the plan's.
+    `zone_paths` are the zone files in the order of `compile`, or none. `pit` is bool (n,) where the
+    pit is known. `note` is the plan's.
     """
 
     def __init__(self, plan: Plan, blocks: Blocks, arcs: np.ndarray, outline: Outline,
-                 zone_paths: Sequence[str] = (), pit: Optional[np.ndarray] = None, note: PlanNote = PlanNote()):
+                 zone_paths: Sequence[str] = (), pit: Optional[np.ndarray] = None,
+                 note: PlanNote = PlanNote()):
         self.plan, self.blocks, self.arcs, self.outline = plan, blocks, arcs, outline
         self.note, self.measures = note, note.measures
-        self.zone_files = [ZoneFile(os.path.basename(path), count_lines(path), sum_of(path)) for path in zone_paths]
+        self.zone_files = [ZoneFile(os.path.basename(path), count_lines(path), sum_of(path))
+                           for path in zone_paths]
         self.volume = float(plan.grid.volume)
         self.values = outline.values
         self.size = size_in_millimetres(plan.grid)
@@ -127,7 +132,7 @@ class Facts:
         """The grid indices of the blocks along x, y or z, by 0, 1 or 2."""
         return (self.blocks.x, self.blocks.y, self.blocks.z)[axis]
 
-    def centroid(self, axis: int, index: float) -> float:
+    def centroid(self, axis: int, index: Numbers) -> Numbers:
         """Metres of a grid index along an axis."""
         return self.origin[axis] + index * self.metres[axis]
 
@@ -147,7 +152,8 @@ class Facts:
     @cached_property
     def places(self) -> Places:
         if self.box > MOST_PLACES:
-            raise UserError(f"the blocks lie in a box of {self.box:,} places: is the size of the grid that of the blocks?")
+            raise UserError(f"the blocks lie in a box of {self.box:,} places: is the size of the "
+                            "grid that of the blocks?")
         return Places(self.blocks)
 
     # Rock
@@ -158,9 +164,10 @@ class Facts:
         grade = self.blocks.grade if taken is None else self.blocks.grade[taken]
         solid = tonnes > 0
         density = tonnes[solid] / self.volume
-        return Rock(len(tonnes), float(tonnes.sum()), float((tonnes * grade).sum()), float(grade.max(initial=0)),
-                    float(density.min(initial=np.inf)) if len(density) else 0.0, float(density.max(initial=0)),
-                    int(solid.sum()), int((solid & (grade == 0)).sum()), self.volume)
+        return Rock(len(tonnes), float(tonnes.sum()), float((tonnes * grade).sum()),
+                    float(grade.max(initial=0)), float(density.min(initial=np.inf)) if len(density)
+                    else 0.0, float(density.max(initial=0)), int(solid.sum()),
+                    int((solid & (grade == 0)).sum()), self.volume)
 
     @cached_property
     def of_zone(self) -> list[Rock]:
@@ -174,7 +181,8 @@ class Facts:
     def unlikely(self) -> int:
         """Blocks with less than 0.5 or more than 10 tonnes a cubic metre, those of 0 t left out."""
         tonnes = self.blocks.tonnes
-        return int(((tonnes > 0) & ((tonnes < 0.5 * self.volume) | (tonnes > 10 * self.volume))).sum())
+        return int(((tonnes > 0) & ((tonnes < 0.5 * self.volume) | (tonnes > 10 * self.volume)))
+                   .sum())
 
     def by_bench(self, weights: Optional[np.ndarray] = None) -> np.ndarray:
         """Sums over the blocks of each bench, from the lowest index on."""
@@ -187,7 +195,8 @@ class Facts:
     def column(self) -> np.ndarray:
         """The number of each block's column, y first, int64."""
         x, y = self.axes[0], self.axes[1]
-        return (self.blocks.y.astype(np.int64) - y.least) * (x.most - x.least + 1) + (self.blocks.x - x.least)
+        return ((self.blocks.y.astype(np.int64) - y.least) * (x.most - x.least + 1)
+                + (self.blocks.x - x.least))
 
     @cached_property
     def columns(self) -> tuple[np.ndarray, np.ndarray, np.ndarray]:
@@ -262,7 +271,7 @@ class Facts:
     @cached_property
     def strange_values(self) -> int:
         """Values that are not the plan's, by more than 2 cents."""
-        off = np.abs(self.values - worths(self.plan, self.blocks))
+        off = np.abs(self.values - values_of(self.plan, self.blocks) / 100)
         return int(((off > 0.02) & (off > 1e-10 * np.abs(self.values))).sum())
 
     @cached_property
@@ -274,17 +283,19 @@ class Facts:
 
     @cached_property
     def contacts(self) -> Contacts:
-        return contacts_of(self.blocks, self.plan.zones, self.size, self.places) if differ(self.plan.zones) else Contacts()
+        return contacts_of(self.blocks, self.plan.zones, self.size,
+                           self.places) if differ(self.plan.zones) else Contacts()
 
     @cached_property
     def slopes(self) -> Judgement:
         """What is to be said of the slopes and the K of the plan, for pits as high as the model."""
         benches = self.axes[2].most - self.axes[2].least + 1
-        return judge(self.plan.grid, self.plan.zones, self.zone_names, benches, contacts=self.contacts)
+        return judge(self.plan.grid, self.plan.zones, self.zone_names, benches,
+                     contacts=self.contacts)
 
     def leaving(self) -> list[Leaving]:
-        """Of each side the paying blocks from which the slope asked goes beyond the last column of their
-        row before it reaches that column's ground, and by how many metres at most."""
+        """Of each side the paying blocks from which the slope asked goes beyond the last column of
+        their row before it reaches that column's ground, and by how many metres at most."""
         ground = self.ground()
         ids = np.flatnonzero(self.paying)
         x, y = self.places.x[ids], self.places.y[ids]
@@ -294,27 +305,29 @@ class Facts:
             edge = length - 1 if way > 0 else 0
             line = ground[:, edge][y] if axis == 0 else ground[edge, :][x]
             there = np.abs(edge - (x if axis == 0 else y))
-            tangents = np.array([zone.slopes[side].tangent for zone in self.plan.zones])[self.blocks.zone[ids]]
-            rise = (np.where(line < 0, self.axes[2].least, line) - self.blocks.z[ids]) * self.metres[2]
+            tangents = np.array([zone.slopes[side].tangent
+                                 for zone in self.plan.zones])[self.blocks.zone[ids]]
+            rise = ((np.where(line < 0, self.axes[2].least, line) - self.blocks.z[ids])
+                    * self.metres[2])
             over = rise / tangents - there * self.metres[axis]
-            answer.append(Leaving(name, int((over > 1e-6).sum()), float(np.maximum(over, 0).max(initial=0))))
+            answer.append(Leaving(name, int((over > 1e-6).sum()),
+                                  float(np.maximum(over, 0).max(initial=0))))
         return answer
 
     # The pit
 
     @cached_property
     def pit(self) -> Optional[np.ndarray]:
-        """The ultimate pit of the plan, bool (n,), or None where it would take minutes: cones are wide, or no
-        compiler is there and it is too great for HiGHS."""
+        """The ultimate pit of the plan, bool (n,), or None where it would take minutes: cones are
+        wide, or no compiler is there and it is too great for HiGHS."""
         if self._pit is not None:
             return self._pit
         if self._places_of_cones() > MOST_PLACES_OF_CONES:
             return None
-        if is_compiled():
-            return pit_of_plan(self.greatest, self.blocks, self.plan)[0]
-        if self.arcs.sum() > 200_000:
+        if not is_compiled() and self.arcs.sum() > 200_000:
             return None
-        return ultimate_pit(self.greatest, precedence_of(self.blocks, self.plan))
+        progress.step("finds the ultimate pit")
+        return pit_by_cones(self.greatest, self.blocks, self.plan)
 
     def _places_of_cones(self) -> int:
         """How many places the cones of all blocks have, by those of a block with rock all about."""
@@ -344,7 +357,29 @@ class Facts:
         return lowest.reshape(deep, wide)
 
 
-def read_facts(plan_path: str, base: str, zone_paths: Sequence[str] = (), pit_path: Optional[str] = None) -> Facts:
+def read_valued(plan_path: str, base: str) -> Facts:
+    """The facts of a plan and the files BASE.blocks and BASE.pcpsp; arcs are not read, and count 0.
+
+    Raises UserError where one cannot be read, or they are not of the same blocks and destinations.
+    """
+    plan, blocks = read_plan(plan_path), read_blocks(base + ".blocks")
+    outline = _outline_of(base, plan, blocks)
+    return Facts(plan, blocks, np.zeros(len(blocks), np.int64), outline, note=read_note(plan_path))
+
+
+def _outline_of(base: str, plan: Plan, blocks: Blocks) -> Outline:
+    """The values of BASE.pcpsp, which are those of these blocks at the plan's destinations."""
+    outline, count = read_outline(base + ".pcpsp"), len(plan.destinations)
+    if outline.values.shape != (len(blocks), count):
+        raise UserError(f"{base}.pcpsp: no values of these blocks at {count} destinations")
+    last = blocks.zone.max()
+    if last >= len(plan.zones):
+        raise UserError(f"{base}.blocks has a zone {last}, and the plan {len(plan.zones)} zones")
+    return outline
+
+
+def read_facts(plan_path: str, base: str, zone_paths: Sequence[str] = (),
+               pit_path: Optional[str] = None) -> Facts:
     """The facts of a plan and the files BASE.blocks, BASE.prec and BASE.pcpsp.
 
     Raises UserError where one cannot be read, or they are not of the same blocks and destinations.
@@ -352,16 +387,15 @@ def read_facts(plan_path: str, base: str, zone_paths: Sequence[str] = (), pit_pa
     from pit_tools.pits import read_pit
 
     plan = read_plan(plan_path)
+    progress.step(f"reads {base}.blocks")
     blocks = read_blocks(base + ".blocks")
+    progress.step(f"reads {base}.prec")
     arcs = count_predecessors(base + ".prec")
     if len(arcs) != len(blocks):
         raise UserError(f"{base}.prec: no line of the precedence file of these blocks: "
                         f"{len(arcs)} lines, and {len(blocks)} blocks")
-    outline = read_outline(base + ".pcpsp")
-    if outline.values.shape != (len(blocks), len(plan.destinations)):
-        raise UserError(f"{base}.pcpsp: no values of these blocks at {len(plan.destinations)} destinations")
-    if blocks.zone.max() >= len(plan.zones):
-        raise UserError(f"{base}.blocks has a zone {blocks.zone.max()}, and the plan {len(plan.zones)} zones")
+    progress.step(f"reads {base}.pcpsp")
+    outline = _outline_of(base, plan, blocks)
     pit = None
     if pit_path:
         pit = np.zeros(len(blocks), dtype=bool)

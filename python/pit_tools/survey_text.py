@@ -1,4 +1,5 @@
-"""The survey as text: LOOK AT, and then the numbers part by part (docs/planners.md says what each is)."""
+"""The survey as text: LOOK AT, and then the numbers part by part (docs/planners.md says what each
+is)."""
 from __future__ import annotations
 
 from typing import Iterator, Optional, Sequence
@@ -7,7 +8,7 @@ import numpy as np
 
 from pit_tools import walls as wall
 from pit_tools.look_at import look_at, notes, tonnes_covered, unlike_plan
-from pit_tools.plan_file import Destination
+from pit_tools.plan_file import Destination, Limit
 from pit_tools.report import pit_sums
 from pit_tools.slope_words import too_steep_by_rise
 from pit_tools.spelling import shortest, with_commas
@@ -19,8 +20,8 @@ OUNCE, POUND = 31.1034768, 0.45359237
 
 def survey_text(facts: Facts) -> str:
     """All parts, with a blank line between."""
-    parts = [_head, _look_at, _notes, _places, _rock, _cutoffs, _benches, _slopes, _heights, _sides, _destinations, _best_for,
-             _resources, _files]
+    parts = [_head, _look_at, _notes, _places, _rock, _cutoffs, _benches, _slopes, _heights, _sides,
+             _destinations, _best_for, _resources, _files]
     texts = ("".join(f"{line}\n" for line in part(facts)) for part in parts)
     return "\n".join(filter(None, texts))
 
@@ -49,16 +50,19 @@ def _notes(facts: Facts) -> Iterator[str]:
 
 
 def _places(facts: Facts) -> Iterator[str]:
-    size, origin = (", ".join(shortest(number, 3) for number in numbers) for numbers in (facts.metres, facts.origin))
-    yield f"PLACES  blocks of {size.replace(', ', ' x ')} m; the centroid of block 0 0 0 is at {origin}"
+    size, origin = (", ".join(shortest(number, 3) for number in numbers)
+                    for numbers in (facts.metres, facts.origin))
+    yield (f"PLACES  blocks of {size.replace(', ', ' x ')} m; the centroid of block 0 0 0 is at "
+           f"{origin}")
     yield "axis     indices   taken    even     odd   centroids"
     for number, axis in enumerate(facts.axes):
         ends = (shortest(facts.centroid(number, end), 3) for end in (axis.least, axis.most))
-        yield (f"{'xyz'[number]:>4} {f'{axis.least} to {axis.most}':>11} {axis.taken:7} {axis.taken - axis.odd:7} "
-               f"{axis.odd:7}   {' to '.join(ends)} m")
+        yield (f"{'xyz'[number]:>4} {f'{axis.least} to {axis.most}':>11} {axis.taken:7} "
+               f"{axis.taken - axis.odd:7} {axis.odd:7}   {' to '.join(ends)} m")
     empty, most = facts.gaps
-    yield (f"{with_commas(len(facts))} blocks at {with_commas(facts.box)} places; {with_commas(empty)} places below a block "
-           f"have none, at most {most} of a column in a row")
+    yield (f"{with_commas(len(facts))} blocks at {with_commas(facts.box)} places; "
+           f"{with_commas(empty)} places below a block have none, at most {most} of a column in a "
+           "row")
 
 
 def _rock_line(facts: Facts, label: str, rock: Rock, lines: Optional[int], name: str = "") -> str:
@@ -67,49 +71,62 @@ def _rock_line(facts: Facts, label: str, rock: Rock, lines: Optional[int], name:
     def mean(value: float) -> str:
         return with_commas(value, 3) if rock.solid else "-"
     counted = "-" if lines is None else with_commas(lines)
-    return (f"{label:>4} {with_commas(rock.rows):>10} {counted:>10} {with_commas(rock.tonnes, 1):>16} {mean(rock.least):>7} "
-            f"{mean(rock.mean_density):>7} {mean(rock.most):>7} {grade(rock.grade):10.4f} {grade(rock.top_grade):11.4f} "
-            f"{with_commas(rock.barren):>8} {with_commas(rock.rows - rock.solid):>7}{'  ' + name if name else ''}")
+    return (f"{label:>4} {with_commas(rock.rows):>10} {counted:>10} "
+            f"{with_commas(rock.tonnes, 1):>16} {mean(rock.least):>7} {mean(rock.mean_density):>7} "
+            f"{mean(rock.most):>7} {grade(rock.grade):10.4f} {grade(rock.top_grade):11.4f} "
+            f"{with_commas(rock.barren):>8} "
+            f"{with_commas(rock.rows - rock.solid):>7}{'  ' + name if name else ''}")
 
 
 def _rock(facts: Facts) -> Iterator[str]:
     unit = facts.measures.grade_unit
-    yield f"ROCK       rows   lines of           tonnes   t/m3:                   {f'grade, {unit}:':<24} rows of"
-    yield f"zone               its file                    least    mean    most       mean        most    {f'0 {unit}':<5}     0 t"
+    yield ("ROCK       rows   lines of           tonnes   t/m3:                   "
+           f"{f'grade, {unit}:':<24} rows of")
+    yield ("zone               its file                    least    mean    most       "
+           f"mean        most    {f'0 {unit}':<5}     0 t")
     for zone, rock in enumerate(facts.of_zone):
         file = facts.zone_files[zone] if zone < len(facts.zone_files) else None
-        yield _rock_line(facts, str(zone), rock, file and file.lines, file.name if file else "")
+        yield _rock_line(facts, str(zone), rock, file.lines if file else None,
+                         file.name if file else "")
     yield _rock_line(facts, "all", facts.of_all, None)
 
 
 def cut_offs(facts: Facts) -> np.ndarray:
-    """Grades to cut at, round in the unit in which they are told: 0, and some eight up to near the highest, among them those that pay."""
+    """Grades to cut at, round in the unit in which they are told: 0, and some eight up to near the
+    highest, among them those that pay."""
     grade = facts.measures.grade
     top = grade(facts.of_all.top_grade)
     if top <= 0:
         return np.zeros(1)
     power = 10.0 ** np.floor(np.log10(top))
-    steps = [round(power * part, 9) for part in (0.01, 0.02, 0.05, 0.1, 0.2, 0.3, 0.5, 0.7, 1, 1.5, 2, 3, 5, 7)]
-    ends = [round(grade(one.break_even), 4) for one in facts.plan.destinations if one.break_even is not None]
-    return np.array(sorted({0.0, *(step for step in steps if 0.02 * top < step < top), *(end for end in ends if end < top)}))
+    steps = [round(power * part, 9)
+             for part in (0.01, 0.02, 0.05, 0.1, 0.2, 0.3, 0.5, 0.7, 1, 1.5, 2, 3, 5, 7)]
+    ends = [round(grade(one.break_even), 4)
+            for one in facts.plan.destinations if one.break_even is not None]
+    return np.array(sorted({0.0, *(step for step in steps if 0.02 * top < step < top),
+                            *(end for end in ends if end < top)}))
 
 
-def above_cut_offs(facts: Facts, cuts: np.ndarray, taken: Optional[np.ndarray] = None) -> tuple[np.ndarray, np.ndarray]:
+def above_cut_offs(facts: Facts, cuts: np.ndarray,
+                   taken: Optional[np.ndarray] = None) -> tuple[np.ndarray, np.ndarray]:
     """Tonnes at and above each cut-off, in the unit of grades, and kilograms of metal in them."""
     grade, tonnes = facts.blocks.grade, facts.blocks.tonnes
     if taken is not None:
         grade, tonnes = grade[taken], tonnes[taken]
     place = np.searchsorted(cuts, facts.measures.grade(grade), side="right")
-    sums = (np.bincount(place, weights, len(cuts) + 1) for weights in (tonnes, tonnes * grade / 1000))
+    sums = (np.bincount(place, weights, len(cuts) + 1)
+            for weights in (tonnes, tonnes * grade / 1000))
     found, metal = (part[::-1].cumsum()[::-1][1:] for part in sums)
     return found, metal
 
 
 def _cutoffs(facts: Facts) -> Iterator[str]:
     cuts = cut_offs(facts)
-    groups = [(f"zone {name}", facts.blocks.zone == zone) for zone, name in enumerate(facts.zone_names)]
+    groups = [(f"zone {name}", facts.blocks.zone == zone)
+              for zone, name in enumerate(facts.zone_names)]
     groups = (groups if len(groups) < 5 else []) + [("all", None)]
-    yield "CUT-OFFS" + "".join(f"  {f'{name}: million t, {facts.measures.grade_unit}, kg':>32}" for name, _ in groups)
+    yield "CUT-OFFS" + "".join(f"  {f'{name}: million t, {facts.measures.grade_unit}, kg':>32}"
+                               for name, _ in groups)
     columns = [above_cut_offs(facts, cuts, taken) for _, taken in groups]
     for at, cut in enumerate(cuts):
         cells = ""
@@ -121,30 +138,39 @@ def _cutoffs(facts: Facts) -> Iterator[str]:
 
 def _benches(facts: Facts) -> Iterator[str]:
     yield "BENCHES"
-    yield f"   z    centroid      blocks            tonnes   {f'mean {facts.measures.grade_unit}':>10}   wait for none"
+    yield ("   z    centroid      blocks            tonnes   "
+           f"{f'mean {facts.measures.grade_unit}':>10}   wait for none")
     blocks = facts.blocks
     rows, tonnes = facts.by_bench(), facts.by_bench(blocks.tonnes)
     metal, free = facts.by_bench(blocks.tonnes * blocks.grade), facts.by_bench(facts.waits_for_none)
     low = facts.axes[2].least
     for at in range(len(rows) - 1, -1, -1):
         grade = facts.measures.grade(metal[at] / tonnes[at]) if tonnes[at] else 0
-        yield (f"{low + at:4} {shortest(facts.centroid(2, low + at), 3):>11} {with_commas(rows[at]):>11} "
-               f"{with_commas(tonnes[at], 1):>17} {grade:12.4f} {with_commas(free[at]):>15}")
-    yield f"{with_commas(free.sum())} blocks wait for none, {with_commas(facts.covered)} of them with rock above"
+        yield (f"{low + at:4} {shortest(facts.centroid(2, low + at), 3):>11} "
+               f"{with_commas(float(rows[at])):>11} {with_commas(float(tonnes[at]), 1):>17} "
+               f"{grade:12.4f} {with_commas(float(free[at])):>15}")
+    yield (f"{with_commas(free.sum())} blocks wait for none, {with_commas(facts.covered)} of them "
+           "with rock above")
 
 
 def _slopes(facts: Facts) -> Iterator[str]:
-    yield "SLOPES, degrees    N    NE     E    SE     S    SW     W    NW   too steep   arcs a block: mean   most   all rock"
+    yield ("SLOPES, degrees    N    NE     E    SE     S    SW     W    NW   too steep   arcs a "
+           "block: mean   most   all rock")
     for number, zone in enumerate(facts.plan.zones):
         walls, arcs = wall.measured(facts.plan.grid, zone), facts.arcs[facts.blocks.zone == number]
-        yield f"zone {number} asks   " + "".join(f" {angle:5.1f}" for angle in walls.asked[wall.EIGHT])
+        yield f"zone {number} asks   " + "".join(f" {angle:5.1f}"
+                                                 for angle in walls.asked[wall.EIGHT])
         mean = with_commas(arcs.mean(), 2) if len(arcs) else "-"
-        yield (f"  K = {zone.benches:2} gives" + "".join(f" {angle:5.1f}" for angle in walls.given[zone.benches][wall.EIGHT])
-               + f" {walls.too_steep[zone.benches]:11.1f} {mean:>20} {arcs.max(initial=0):6} {walls.arcs[zone.benches]:10}")
-    for (zone, other), count in facts.contacts.below.items():
-        yield f"zone {zone} below zone {other}, which is steeper: {with_commas(count)} of its blocks are fewer than K benches below that"
-    for (zone, other), count in facts.contacts.beside.items():
-        yield f"zone {zone} beside zone {other}, which is steeper: the cones of {with_commas(count)} of its blocks go into that"
+        yield (f"  K = {zone.benches:2} gives"
+               + "".join(f" {angle:5.1f}" for angle in walls.given[zone.benches][wall.EIGHT]) + " "
+               f"{walls.too_steep[zone.benches]:11.1f} {mean:>20} {arcs.max(initial=0):6} "
+               f"{walls.arcs[zone.benches]:10}")
+    for (own, other), count in facts.contacts.below.items():
+        yield (f"zone {own} below zone {other}, which is steeper: {with_commas(count)} of its "
+               "blocks are fewer than K benches below that")
+    for (own, other), count in facts.contacts.beside.items():
+        yield (f"zone {own} beside zone {other}, which is steeper: the cones of "
+               f"{with_commas(count)} of its blocks go into that")
 
 
 def _heights(facts: Facts) -> Iterator[str]:
@@ -156,11 +182,13 @@ def _heights(facts: Facts) -> Iterator[str]:
 
 
 def _sides(facts: Facts) -> Iterator[str]:
-    yield "SIDES    paying blocks whose slope leaves the model   by at most, m   blocks of the pit there"
+    yield ("SIDES    paying blocks whose slope leaves the model   by at most, m   blocks of the "
+           "pit there")
     pit, at_side = facts.pit, facts.at_side()
     for leaving in facts.leaving():
         there = "-" if pit is None else with_commas((pit & at_side[leaving.side]).sum())
-        yield f"{leaving.side:<8} {with_commas(leaving.blocks):>44} {leaving.metres:15.1f} {there:>25}"
+        yield (f"{leaving.side:<8} {with_commas(leaving.blocks):>44} {leaving.metres:15.1f} "
+               f"{there:>25}")
     yield from _pit(facts, pit)
 
 
@@ -169,19 +197,23 @@ def _pit(facts: Facts, pit: Optional[np.ndarray]) -> Iterator[str]:
         yield "the ultimate pit was not sought, since it would take minutes: give one by --pit"
         return
     sums = pit_sums(facts, pit)
-    yield (f"the ultimate pit: {with_commas(sums.blocks)} blocks, {with_commas(sums.ore, 1)} t of ore with "
-           f"{facts.measures.grade(sums.grade):.4f} {facts.measures.grade_unit}, {with_commas(sums.waste, 1)} t of waste, "
-           f"strip ratio {sums.strip or 0:.2f}, worth {with_commas(facts.measures.money(sums.value), 2)}{facts.measures.unit}")
+    yield (f"the ultimate pit: {with_commas(sums.blocks)} blocks, {with_commas(sums.ore, 1)} t of "
+           f"ore with {facts.measures.grade(sums.grade):.4f} {facts.measures.grade_unit}, "
+           f"{with_commas(sums.waste, 1)} t of waste, strip ratio {sums.strip or 0:.2f}, worth "
+           f"{with_commas(facts.measures.money(sums.value), 2)}{facts.measures.unit}")
 
 
 def _recoveries(facts: Facts, one: Destination) -> str:
     unit = facts.measures.grade_unit
-    start = (f"from {shortest(facts.measures.grade(float(begin)), 6)} {unit} " if one.kind == "leach" else "" for begin, _ in one.bands)
-    return ", ".join(f"{text}{shortest(share / 10, 1)} %" for text, (_, share) in zip(start, one.bands))
+    start = (f"from {shortest(facts.measures.grade(float(begin)), 6)} {unit} "
+             if one.kind == "leach" else "" for begin, _ in one.bands)
+    return ", ".join(f"{text}{shortest(share / 10, 1)} %"
+                     for text, (_, share) in zip(start, one.bands))
 
 
 def _destinations(facts: Facts) -> Iterator[str]:
-    yield "DESTINATIONS    1 kg of metal   an ounce    a pound        a tonne   a tonne of rock   breaks even   recovers"
+    yield ("DESTINATIONS    1 kg of metal   an ounce    a pound        a tonne   a tonne of rock   "
+           "breaks even   recovers")
     for number, one in enumerate(facts.plan.destinations):
         cost = f"costs {with_commas(facts.measures.money(one.cost / 100), 2)}"
         if one.kind == "dump":
@@ -190,30 +222,39 @@ def _destinations(facts: Facts) -> Iterator[str]:
         kilogram = facts.measures.money(one.price / 100)
         prices = (with_commas(kilogram * share, 2) for share in (1, OUNCE / 1000, POUND, 1000))
         cells = " ".join(f"{cell:>{width}}" for cell, width in zip(prices, (14, 10, 10, 14)))
-        even = "never" if one.break_even is None else f"{facts.measures.grade(one.break_even):.4f} {facts.measures.grade_unit}"
-        yield f"{number} {one.name[:13]:<13}{cells} {cost:>17} {even:>13}   {_recoveries(facts, one)}"
+        even = ("never" if one.break_even is None
+                else f"{facts.measures.grade(one.break_even):.4f} {facts.measures.grade_unit}")
+        yield (f"{number} {one.name[:13]:<13}{cells} {cost:>17} {even:>13}   "
+               f"{_recoveries(facts, one)}")
     if facts.measures.currency:
         yield f"prices and costs are in {facts.measures.currency}"
 
 
 def _best_for(facts: Facts) -> Iterator[str]:
     unit = f"mean {facts.measures.grade_unit}"
-    yield f"BEST FOR           blocks            tonnes {unit:>12}    value a t {facts.measures.in_money('value'):>20}   blocks by zone"
+    yield (f"BEST FOR           blocks            tonnes {unit:>12}    value a t "
+           f"{facts.measures.in_money('value'):>20}   blocks by zone")
     plan, best, tonnes = facts.plan, facts.best, facts.blocks.tonnes
     count = len(plan.destinations)
     rows, mass = np.bincount(best, minlength=count), np.bincount(best, tonnes, count)
-    metal, value = np.bincount(best, tonnes * facts.blocks.grade, count), facts.measures.money(np.bincount(best, facts.greatest, count))
-    zones = np.bincount(best * len(plan.zones) + facts.blocks.zone, minlength=count * len(plan.zones)).reshape(count, -1)
+    metal, value = (np.bincount(best, tonnes * facts.blocks.grade, count),
+                    facts.measures.money(np.bincount(best, facts.greatest, count)))
+    zones = np.bincount(best * len(plan.zones) + facts.blocks.zone,
+                        minlength=count * len(plan.zones)).reshape(count, -1)
     for at, one in enumerate(plan.destinations):
         grade = facts.measures.grade(metal[at] / mass[at]) if mass[at] else 0
         a_tonne = with_commas(value[at] / mass[at], 2) if mass[at] else "-"
-        yield (f"{at} {one.name[:13]:<13} {with_commas(rows[at]):>9} {with_commas(mass[at], 1):>17} {grade:12.4f} {a_tonne:>12} "
-               f"{with_commas(value[at], 2):>20}  {''.join(' ' + with_commas(cell) for cell in zones[at])}")
+        yield (f"{at} {one.name[:13]:<13} {with_commas(rows[at]):>9} "
+               f"{with_commas(mass[at], 1):>17} {grade:12.4f} {a_tonne:>12} "
+               f"{with_commas(value[at], 2):>20}  "
+               f"{''.join(' ' + with_commas(cell) for cell in zones[at])}")
     paid = facts.greatest[facts.paying]
     yield (f"{with_commas(len(paid))} of {with_commas(len(facts))} blocks are worth more than 0, "
-           f"{with_commas(facts.measures.money(paid.sum()), 2)}{facts.measures.unit} in all: no pit is worth more")
+           f"{with_commas(facts.measures.money(paid.sum()), 2)}{facts.measures.unit} in all: no "
+           "pit is worth more")
     cheapest = min(plan.destinations, key=lambda one: one.cost)
-    yield f"waste, rock of 0 {facts.measures.grade_unit}, is worth {facts.cost_told(-cheapest.cost)} a tonne, at {cheapest.name}"
+    yield (f"waste, rock of 0 {facts.measures.grade_unit}, is worth "
+           f"{facts.cost_told(-cheapest.cost)} a tonne, at {cheapest.name}")
 
 
 def spans(periods: Sequence[int]) -> str:
@@ -227,12 +268,13 @@ def spans(periods: Sequence[int]) -> str:
     return ", ".join(str(first) if first == last else f"{first} to {last}" for first, last in runs)
 
 
-def _limit_told(limit, tonnes: float) -> str:
+def _limit_told(limit: Optional[Limit], tonnes: float) -> str:
     if limit is None:
         return "any tonnes"
-    if limit.letter == "G":
-        return f"at least {with_commas(float(limit.lower), 1)} t"
-    begin = "at most " if limit.letter == "L" else f"{with_commas(float(limit.lower), 1)} to "
+    least = "" if limit.lower is None else with_commas(float(limit.lower), 1)
+    if limit.upper is None:
+        return f"at least {least} t"
+    begin = f"{least} to " if least else "at most "
     most = float(limit.upper)
     takes = f"; these tonnes take {with_commas(tonnes / most, 2)} periods" if most > 0 else ""
     return f"{begin}{with_commas(most, 1)} t{takes}"
@@ -241,14 +283,15 @@ def _limit_told(limit, tonnes: float) -> str:
 def _resources(facts: Facts) -> Iterator[str]:
     plan = facts.plan
     rate = float(plan.rate)
-    yield (f"RESOURCES  {plan.periods} periods; rate {shortest(100 * rate, 4)} % a period: a value of the last one counts "
-           f"{(1 + rate) ** (1 - plan.periods):.3f} of one of period 0")
+    yield (f"RESOURCES  {plan.periods} periods; rate {shortest(100 * rate, 4)} % a period: a value "
+           f"of the last one counts {(1 + rate) ** (1 - plan.periods):.3f} of one of period 0")
     for number, resource in enumerate(plan.resources):
         names = [one.name for one in plan.destinations]
         covered = "".join(f" {names[at]}" for at in sorted(resource.covers))
         others = "".join(f" {name}" for at, name in enumerate(names) if at not in resource.covers)
         tonnes = tonnes_covered(facts, number)
-        yield f"{number} {resource.name} covers{covered}{', and not' + others if others else ''}; {with_commas(tonnes, 1)} t are best there"
+        yield (f"{number} {resource.name} covers{covered}{', and not' + others if others else ''}; "
+               f"{with_commas(tonnes, 1)} t are best there")
         told: dict[str, list[int]] = {}
         for period in range(plan.periods):
             told.setdefault(_limit_told(plan.limits_of(number, period), tonnes), []).append(period)

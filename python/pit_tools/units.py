@@ -1,13 +1,21 @@
-"""Names of units behind a column or a number, as `AU oz/st` or `1804 USD/oz`, and what they are in the units of `pitc`.
+"""Names of units behind a column or a number, as `AU oz/st` or `1804 USD/oz`, and what they are in
+the units of `pitc`.
 
-`pitc` takes metres, tonnes and grams a tonne. A name that is read in two ways stands in AMBIGUOUS, and is refused."""
+`pitc` takes metres, tonnes and grams a tonne. A name that is read in two ways stands in AMBIGUOUS,
+and is refused."""
 from __future__ import annotations
 
 from dataclasses import dataclass
 from decimal import Decimal
-from typing import Optional
+from typing import TYPE_CHECKING, Optional, TypeVar
 
 from pit_tools.errors import UserError
+
+if TYPE_CHECKING:
+    import numpy as np
+
+#: One number, or an array of them.
+Numbers = TypeVar("Numbers", float, "np.ndarray")
 
 POUND = Decimal("0.45359237")          # kilograms
 SHORT_TON = POUND * 2000 / 1000        # tonnes
@@ -16,22 +24,26 @@ TROY_OUNCE = Decimal("31.1034768")     # grams
 FOOT = Decimal("0.3048")               # metres
 CUBIC_FOOT = FOOT ** 3                 # cubic metres
 
-LENGTHS = {"m": Decimal(1), "ft": FOOT, "cm": Decimal("0.01"), "mm": Decimal("0.001"), "km": Decimal(1000)}
+LENGTHS = {"m": Decimal(1), "ft": FOOT, "cm": Decimal("0.01"), "mm": Decimal("0.001"),
+           "km": Decimal(1000)}
 
 MASSES = {"t": Decimal(1), "kt": Decimal(1000), "kg": Decimal("0.001"),
           "st": SHORT_TON, "kst": SHORT_TON * 1000, "lt": LONG_TON, "lb": POUND / 1000}
 
-VOLUMES = {"m3": Decimal(1), "ft3": CUBIC_FOOT, "bcm": Decimal(1), "bcy": CUBIC_FOOT * 27, "yd3": CUBIC_FOOT * 27}
+VOLUMES = {"m3": Decimal(1), "ft3": CUBIC_FOOT, "bcm": Decimal(1), "bcy": CUBIC_FOOT * 27,
+           "yd3": CUBIC_FOOT * 27}
 
 # Tonnes a cubic metre. A tonnage factor in cubic feet a short ton is divided: see is_factor.
 DENSITIES = {"t/m3": Decimal(1), "g/cm3": Decimal(1), "g/cc": Decimal(1), "kg/m3": Decimal("0.001"),
              "lb/ft3": POUND / 1000 / CUBIC_FOOT, "st/ft3": SHORT_TON / CUBIC_FOOT,
-             "st/yd3": SHORT_TON / (CUBIC_FOOT * 27), "ft3/st": SHORT_TON / CUBIC_FOOT, "m3/t": Decimal(1)}
+             "st/yd3": SHORT_TON / (CUBIC_FOOT * 27), "ft3/st": SHORT_TON / CUBIC_FOOT,
+             "m3/t": Decimal(1)}
 
 # Grams a tonne.
-GRADES = {"g/t": Decimal(1), "gpt": Decimal(1), "ppm": Decimal(1), "g/tonne": Decimal(1), "ppb": Decimal("0.001"),
-          "mg/t": Decimal("0.001"), "kg/t": Decimal(1000), "%": Decimal(10_000), "pct": Decimal(10_000),
-          "oz/st": TROY_OUNCE / SHORT_TON, "oz/tonne": TROY_OUNCE, "lb/st": POUND * 1000 / SHORT_TON}
+GRADES = {"g/t": Decimal(1), "gpt": Decimal(1), "ppm": Decimal(1), "g/tonne": Decimal(1),
+          "ppb": Decimal("0.001"), "mg/t": Decimal("0.001"), "kg/t": Decimal(1000),
+          "%": Decimal(10_000), "pct": Decimal(10_000), "oz/st": TROY_OUNCE / SHORT_TON,
+          "oz/tonne": TROY_OUNCE, "lb/st": POUND * 1000 / SHORT_TON}
 
 # Parts of a whole.
 SHARES = {"%": Decimal("0.01"), "pct": Decimal("0.01"), "share": Decimal(1)}
@@ -50,27 +62,31 @@ AMBIGUOUS = {
     "lb/ton": "a pound a short ton is `lb/st`; a pound a tonne is 453.59237 g/t",
 }
 
-TABLES = {"length": LENGTHS, "mass": MASSES, "volume": VOLUMES, "density": DENSITIES, "grade": GRADES, "share": SHARES}
+TABLES = {"length": LENGTHS, "mass": MASSES, "volume": VOLUMES, "density": DENSITIES,
+          "grade": GRADES, "share": SHARES}
 
 
 @dataclass(frozen=True)
 class Measures:
-    """In what a planner is told of a plan and its instance: the currency, empty where it is not known; in how many parts of a cent
-    the plan counts money; and the unit of grades, `g/t`, `%`, or money a tonne."""
+    """In what a planner is told of a plan and its instance: the currency, empty where it is not
+    known; in how many parts of a cent the plan counts money; and the unit of grades, `g/t`, `%`, or
+    money a tonne."""
 
     currency: str = ""
     parts: int = 1
     grade_unit: str = "g/t"
 
     def __post_init__(self) -> None:
-        if not isinstance(self.parts, int) or self.parts < 1 or not isinstance(self.currency, str) or not isinstance(self.grade_unit, str):
+        if (not isinstance(self.parts, int) or self.parts < 1 or not isinstance(self.currency, str)
+                or not isinstance(self.grade_unit, str)):
             raise UserError(f"no measures: {self.currency}, {self.parts}, {self.grade_unit}")
 
-    def money(self, value):
-        """Money of the plan or its instance, in units of 100 of what the plan counts, as units of the currency."""
+    def money(self, value: Numbers) -> Numbers:
+        """Money of the plan or its instance, in units of 100 of what the plan counts, as units of
+        the currency."""
         return value / self.parts
 
-    def grade(self, value):
+    def grade(self, value: Numbers) -> Numbers:
         """A grade in g/t, or numbers of them, in the unit of grades."""
         return value / float(GRADES["%"]) if self.grade_unit == "%" else value
 
@@ -79,13 +95,19 @@ class Measures:
         return f"{what}, {self.currency}" if self.currency else what
 
     @property
+    def money_unit(self) -> str:
+        """In what values are, for the head of a column."""
+        return self.currency or "100 cents"
+
+    @property
     def unit(self) -> str:
         """The currency behind a number, with a blank before it."""
         return f" {self.currency}" if self.currency else ""
 
 
 def grade_unit_of(name: str) -> str:
-    """In what grades are told that were read in a unit: percent and money a tonne stay, all others are g/t."""
+    """In what grades are told that were read in a unit: percent and money a tonne stay, all others
+    are g/t."""
     if is_money_a_tonne(name):
         return name.strip()
     return "%" if plain_name(name) in ("%", "pct") else "g/t"
@@ -93,9 +115,10 @@ def grade_unit_of(name: str) -> str:
 
 def plain_name(name: str) -> str:
     """A unit's name without case, brackets and the signs for a power."""
-    name = name.strip().strip("()[]").casefold().replace("³", "3").replace("^", "").replace("tonnes", "t")
-    return {"feet": "ft", "foot": "ft", "'": "ft", "metres": "m", "meters": "m", "percent": "%", "tonne": "t",
-            "g/tonne": "g/t", "dollars": "usd"}.get(name, name)
+    name = (name.strip().strip("()[]").casefold().replace("³", "3").replace("^", "")
+            .replace("tonnes", "t"))
+    return {"feet": "ft", "foot": "ft", "'": "ft", "metres": "m", "meters": "m", "percent": "%",
+            "tonne": "t", "g/tonne": "g/t", "dollars": "usd"}.get(name, name)
 
 
 def is_factor(name: str) -> bool:
@@ -104,7 +127,8 @@ def is_factor(name: str) -> bool:
 
 
 def factor_of(name: str, kind: str) -> Optional[Decimal]:
-    """What a unit of this kind (a key of TABLES) is in the unit of `pitc`, or None for no name of one.
+    """What a unit of this kind (a key of TABLES) is in the unit of `pitc`, or None for no name of
+    one.
 
     It raises UserError for a name that is read in two ways."""
     name = plain_name(name)
@@ -121,7 +145,8 @@ def is_money_a_tonne(name: str) -> bool:
 
 def named_in(text: str, kind: str) -> Optional[str]:
     """The unit that a header's cell, as `AU_PPB` or `Cu (%)`, names at its end, or None."""
-    words = text.replace("_", " ").replace("(", " ").replace(")", " ").replace("[", " ").replace("]", " ").split()
+    words = (text.replace("_", " ").replace("(", " ").replace(")", " ").replace("[", " ")
+             .replace("]", " ").split())
     last = plain_name(words[-1]) if words else ""
     last = "ft" if last in ("ft", "feet") else last
     if last in TABLES[kind] or (last in AMBIGUOUS and kind in ("grade", "mass")):

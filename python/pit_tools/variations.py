@@ -10,17 +10,17 @@ from typing import Iterator, Sequence
 from pit_tools.errors import UserError
 
 #: Cells of a record by name, counted from 0 with the key; -1 is the last one.
-CELLS = {
-    "name": {"name": 1}, "grid": {"x": 1, "y": 2, "z": 3, "size-x": 4, "size-y": 5, "size-z": 6}, "zone": {"K": -1},
-    "mill": {"recovery": 2, "price": 3, "cost": 4}, "leach": {"price": 2, "cost": 3}, "dump": {"cost": 2},
-    "periods": {"periods": 1}, "rate": {"rate": 1},
-}
+CELLS = {"name": {"name": 1},
+         "grid": {"x": 1, "y": 2, "z": 3, "size-x": 4, "size-y": 5, "size-z": 6}, "zone": {"K": -1},
+         "mill": {"recovery": 2, "price": 3, "cost": 4}, "leach": {"price": 2, "cost": 3},
+         "dump": {"cost": 2}, "periods": {"periods": 1}, "rate": {"rate": 1}}
 
 
 @dataclass(frozen=True)
 class Change:
-    """A cell and the values that it takes: `K`, `price`, `slope`, `rate`, `periods`; or KEY.NAME.CELL, as
-    mill.mill.cost, zone.1.K, limit.crusher.0 (all limits of period 0) or limit.fleet (all of them)."""
+    """A cell and the values that it takes: `K`, `price`, `slope`, `rate`, `periods`; or
+    KEY.NAME.CELL, as mill.mill.cost, zone.1.K, limit.crusher.0 (all limits of period 0) or
+    limit.fleet (all of them)."""
 
     cell: str
     values: tuple[str, ...]
@@ -44,14 +44,15 @@ def _trimmed(record: list[str]) -> list[str]:
 
 
 def varied(text: str, name: str, settings: Sequence[tuple[str, str]]) -> str:
-    """The text of a plan under another name, with these cells. `x1.1` multiplies a number, and rounds it to what
-    the cell may hold. Raises UserError where no record has such a cell."""
+    """The text of a plan under another name, with these cells. `x1.1` multiplies a number, and
+    rounds it to what the cell may hold. Raises UserError where no record has such a cell."""
     records = [_trimmed(record) for record in records_of(text)]
     for record in records:
         if record and record[0].lower() == "name":
             record[1:] = [name]
     for cell, value in settings:
-        if not sum([_set(record, at, cell, value) for at, record in _numbered(records)]):
+        changed = [_set(record, at, cell, value) for at, record in _numbered(records)]
+        if not any(changed):
             raise UserError(f"no record of the plan has the cell `{cell}`")
     return "".join(",".join(record) + "\n" for record in records)
 
@@ -75,7 +76,8 @@ def _set(record: list[str], number: int, cell: str, value: str) -> bool:
             record[1:-1] = value.split(",")
         return key == "zone"
     if len(parts) == 1:
-        at = CELLS.get(key, {}).get(cell) if cell not in ("name", "x", "y", "z", "cost", "recovery") else None
+        at = CELLS.get(key, {}).get(cell) if cell not in ("name", "x", "y", "z", "cost",
+                                                          "recovery") else None
     elif parts[0] != key or parts[1] not in (str(number) if key == "zone" else record[1], "*"):
         return False
     elif key == "limit":
@@ -112,9 +114,12 @@ def variations(text: str, base: str, changes: Sequence[Change]) -> Iterator[tupl
     seen = set()
     for values in itertools.product(*(change.values for change in changes)):
         settings = [(change.cell, value) for change, value in zip(changes, values)]
-        name = base + "".join(f"-{cell.rpartition('.')[2] if cell.count('.') > 1 else cell}{value}" for cell, value in settings)
+        name = base + "".join(f"-{cell.rpartition('.')[2] if cell.count('.') > 1 else cell}{value}"
+                              for cell, value in settings)
         name = "".join(letter if letter.isalnum() or letter in "_.-" else "_" for letter in name)
         if len(name) > 64 or name in seen:
-            raise UserError(f"the name `{name}` {'comes twice' if name in seen else 'is longer than 64 letters'}: give a shorter --name, or fewer changes")
+            raise UserError(f"the name `{name}` "
+                            f"{'comes twice' if name in seen else 'is longer than 64 letters'}: "
+                            "give a shorter --name, or fewer changes")
         seen.add(name)
         yield name, varied(text, name, settings)

@@ -6,15 +6,16 @@ Bearings are those of the model: north is +y, east is +x; angles are degrees.
 - The slope given is atan(Sz / r), where r metres is how far the convex hull of 0 and the points
   (dx Sx, dy Sy) / dz of the cone's blocks reaches in that bearing: the wall of the pit of one deep
   block.
-- A straight wall that rises b benches, from a block to one b benches above it, lies where the outermost
-  blocks of that pit do. Blocks are whole, so
-  low walls are steeper, whatever K is. It is asked at atan(1 / |(ux q/p, uy q/p)|).
+- A straight wall that rises b benches, from a block to one b benches above it, lies where the
+  outermost blocks of that pit do. Blocks are whole, so low walls are steeper, whatever K is. It is
+  asked at atan(1 / |(ux q/p, uy q/p)|).
 """
 from __future__ import annotations
 
 from dataclasses import dataclass, field
 from functools import lru_cache
 from math import isqrt
+from typing import Sequence
 
 import numpy as np
 
@@ -86,7 +87,7 @@ def count_of(size: tuple[int, int, int], zone: Zone, dz: int) -> int:
 
 def _hull(points: np.ndarray) -> np.ndarray:
     """The corners of the convex hull of points, counterclockwise."""
-    ordered = sorted(set(map(tuple, points.tolist())))
+    ordered = sorted({(float(x), float(y)) for x, y in points})
     halves = []
     for line in (ordered, ordered[::-1]):
         half: list[tuple[float, float]] = []
@@ -98,8 +99,9 @@ def _hull(points: np.ndarray) -> np.ndarray:
     return np.array(halves[0] + halves[1])
 
 
-def _turn(first, second, third) -> float:
-    return (second[0] - first[0]) * (third[1] - first[1]) - (second[1] - first[1]) * (third[0] - first[0])
+def _turn(first: Sequence[float], second: Sequence[float], third: Sequence[float]) -> float:
+    return ((second[0] - first[0]) * (third[1] - first[1])
+            - (second[1] - first[1]) * (third[0] - first[0]))
 
 
 def _reach(corners: np.ndarray, bearings: np.ndarray) -> np.ndarray:
@@ -119,7 +121,8 @@ def _reach(corners: np.ndarray, bearings: np.ndarray) -> np.ndarray:
 
 @dataclass(frozen=True)
 class Walls:
-    """What a zone asks and what its cones give, for each K from 1 to 20; index 0 of lists stands for none."""
+    """What a zone asks and what its cones give, for each K from 1 to 20; index 0 of lists stands
+    for none."""
 
     zone: Zone
     asked: np.ndarray  #: (360,)
@@ -146,8 +149,9 @@ def measured(grid: Grid, zone: Zone) -> Walls:
 
 @lru_cache(256)
 def straight_walls(grid: Grid, zone: Zone, K: int, benches: int) -> np.ndarray:
-    """How steep straight walls are that rise 1, 2, .. `benches` benches, degrees, (benches, 360): S(h) is the most of
-    S(h - k) + s(k) over k up to K, where s(k) is how far the cone's blocks k benches up reach in a bearing."""
+    """How steep straight walls are that rise 1, 2, .. `benches` benches, degrees, (benches, 360):
+    S(h) is the most of S(h - k) + s(k) over k up to K, where s(k) is how far the cone's blocks k
+    benches up reach in a bearing."""
     size = size_in_millimetres(grid)
     directions = np.stack(_directions(BEARINGS))
     steps = [np.zeros(360)]

@@ -1,11 +1,13 @@
-"""Reads the sheets of a workbook (.xlsx) as texts, as who looks at them sees them: 1.2% for a cell of 0.012 that is shown in percent."""
+"""Reads the sheets of a workbook (.xlsx) as texts, as who looks at them sees them: 1.2% for a cell
+of 0.012 that is shown in percent."""
 from __future__ import annotations
 
 import datetime
+import math
 import re
 import zipfile
 from decimal import Decimal
-from typing import Iterator
+from typing import Any, Iterator
 
 import pandas as pd
 
@@ -16,36 +18,42 @@ from pit_tools.errors import UserError
 UNCOMPUTED = "#not computed"
 
 # A cell with a formula and no value behind it; one of a text may be empty.
-WITHOUT_VALUE = re.compile(rb'<c r="([A-Z]+)(\d+)"((?:(?! t="str")[^>])*)>\s*<f\b[^>]*(?:/>|>[^<]*</f>)\s*(?:<v\s*/>|<v></v>)?\s*</c>')
+WITHOUT_VALUE = re.compile(rb'<c r="([A-Z]+)(\d+)"((?:(?! t="str")[^>])*)>\s*'
+                           rb'<f\b[^>]*(?:/>|>[^<]*</f>)\s*(?:<v\s*/>|<v></v>)?\s*</c>')
 
 
 def sheets_of(path: str, sheet: str) -> Iterator[tuple[str, pd.DataFrame]]:
-    """The names and cells of all sheets, or of the one that is named. It raises UserError where that is not there, or the workbook
-    cannot be read."""
+    """The names and cells of all sheets, or of the one that is named. It raises UserError where
+    that is not there, or the workbook cannot be read."""
     import openpyxl
 
     try:
         book = openpyxl.load_workbook(path, read_only=True, data_only=True)
     except (ValueError, KeyError, TypeError, zipfile.BadZipFile, SyntaxError, EOFError) as error:
-        raise UserError(f"{path}: the workbook cannot be read: {' '.join(str(error).split())}") from None
+        raise UserError(f"{path}: the workbook cannot be read: "
+                        f"{' '.join(str(error).split())}") from None
     names = [page.title for page in book.worksheets]
     if sheet and sheet not in names:
-        raise UserError(f"{path}: no sheet `{sheet}`: there are {', '.join(f'`{name}`' for name in names)}")
+        raise UserError(f"{path}: no sheet `{sheet}`: there are "
+                        f"{', '.join(f'`{name}`' for name in names)}")
     for page in book.worksheets:
         if sheet in ("", page.title):
             yield page.title, _texts_of(page, path)
 
 
-def _texts_of(page, path: str) -> pd.DataFrame:
+def _texts_of(page: Any, path: str) -> pd.DataFrame:
     """The cells of a sheet from A1 on."""
     is_percent: dict[str, bool] = {}
     page.reset_dimensions()
     try:
         rows = [[_text_of(cell, is_percent) for cell in row] for row in page.iter_rows()]
         with zipfile.ZipFile(path) as archive:
-            lacking = WITHOUT_VALUE.findall(archive.read(page._worksheet_path.lstrip("/")))
+            # The library tells by nothing else which part of the archive a sheet is.
+            part = page._worksheet_path  # pylint: disable=protected-access
+            lacking = WITHOUT_VALUE.findall(archive.read(part.lstrip("/")))
     except (ValueError, KeyError, TypeError, zipfile.BadZipFile, SyntaxError, EOFError) as error:
-        raise UserError(f"{path}: the sheet `{page.title}` cannot be read: {' '.join(str(error).split())}") from None
+        raise UserError(f"{path}: the sheet `{page.title}` cannot be read: "
+                        f"{' '.join(str(error).split())}") from None
     for letters, number, _ in lacking:
         rows[int(number) - 1][_column_number(letters.decode()) - 1] = UNCOMPUTED
     return pd.DataFrame(rows, dtype=object).fillna("")
@@ -64,7 +72,7 @@ def cell_name(row: int, column: int) -> str:
     return f"{get_column_letter(column)}{row}"
 
 
-def _text_of(cell, is_percent: dict[str, bool]) -> str:
+def _text_of(cell: Any, is_percent: dict[str, bool]) -> str:
     """A cell as the text that it stands for."""
     value = cell.value
     if value is None:
@@ -74,9 +82,10 @@ def _text_of(cell, is_percent: dict[str, bool]) -> str:
     if isinstance(value, bool):
         return str(value).upper()
     if isinstance(value, (int, float)):
-        if value != value:
+        if isinstance(value, float) and math.isnan(value):
             return ""
-        text = plain(Decimal(repr(value))) if isinstance(value, int) or value.is_integer() else repr(value)
+        is_whole = isinstance(value, int) or value.is_integer()
+        text = plain(Decimal(repr(value))) if is_whole else repr(value)
         shown = cell.number_format
         if shown not in is_percent:
             is_percent[shown] = "%" in re.sub(r'"[^"]*"|\\.|\[[^\]]*\]', "", shown)

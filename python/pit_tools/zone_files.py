@@ -1,11 +1,11 @@
 """Reads and writes the zone files of `pitc` (docs/formats.md).
 
-In memory a row is x, y and z in millimetres, tonnes in kilograms and the grade in millionths of g/t,
-all int64, as `pitc` holds them."""
+In memory a row is x, y and z in millimetres, tonnes in kilograms and the grade in millionths of
+g/t, all int64, as `pitc` holds them."""
 from __future__ import annotations
 
 import os
-from typing import BinaryIO, Sequence
+from typing import IO, Sequence
 
 import numpy as np
 import pandas as pd
@@ -26,12 +26,13 @@ CHUNK = 200_000
 
 
 def read_zone_file(path: str) -> pd.DataFrame:
-    """The rows of a zone file: columns x, y, z (mm), tonnes (kg) and grade (millionths of g/t), int64,
-    the index being the number of the row in its file, counted from 1 with the header as row 1.
+    """The rows of a zone file: columns x, y, z (mm), tonnes (kg) and grade (millionths of g/t),
+    int64, the index being the number of the row in its file, counted from 1 with the header as row
+    1.
 
-    Columns are found by name, in any order and in upper or lower case; others are ignored. It raises
-    UserError for a missing column or a cell that is no number, with its row, and OSError."""
-    chunks = []
+    Columns are found by name, in any order and in upper or lower case; others are ignored. It
+    raises UserError for a missing column or a cell that is no number, with its row, and OSError."""
+    chunks: list[pd.DataFrame] = []
     try:
         # Without a header, a row with more cells than the first is a fault and not an index.
         with pd.read_csv(path, dtype=str, header=None, keep_default_na=False, encoding="utf-8-sig",
@@ -54,12 +55,14 @@ def _columns_of(header: pd.Series, path: str) -> dict[str, int]:
     names = [str(name).strip(" \t").lower() for name in header]
     for column in COLUMNS:
         if names.count(column) != 1:
-            raise UserError(f"{path}: {'two columns' if column in names else 'no column'} `{column}`")
+            raise UserError(f"{path}: {'two columns' if column in names else 'no column'} "
+                            f"`{column}`")
     return {column: names.index(column) for column in COLUMNS}
 
 
 def _judge_widths(path: str, width: int) -> None:
-    """Stops at the first row that has fewer cells than the header, whose last ones pandas takes for empty."""
+    """Stops at the first row that has fewer cells than the header, whose last ones pandas takes for
+    empty."""
     with open(path, encoding="utf-8-sig", newline="") as text:
         for row, (_, cells) in enumerate(widths_of(text, ","), 1):
             if cells < width:
@@ -79,8 +82,8 @@ def _numbers_of(table: pd.DataFrame, at: dict[str, int], path: str) -> pd.DataFr
 
 
 def read_zone_files(paths: Sequence[str]) -> pd.DataFrame:
-    """The rows of several zone files, in the order of a plan's `zone` records, with a column `zone`,
-    counted from 0. The index counts rows from 0."""
+    """The rows of several zone files, in the order of a plan's `zone` records, with a column
+    `zone`, counted from 0. The index counts rows from 0."""
     tables = [read_zone_file(path).assign(zone=zone) for zone, path in enumerate(paths)]
     return pd.concat(tables, ignore_index=True)
 
@@ -92,7 +95,7 @@ def write_zone_file(path: str, rows: pd.DataFrame) -> None:
         append_rows(file, rows)
 
 
-def append_rows(file: BinaryIO, rows: pd.DataFrame) -> None:
+def append_rows(file: IO[bytes], rows: pd.DataFrame) -> None:
     """Writes rows behind those that stand in a file that is open for bytes."""
     if len(rows):
         for lines in lines_of([(rows[name].to_numpy(), places) for name, places in PLACES.items()]):

@@ -1,4 +1,5 @@
-"""Finds the package beside the tests, where it is not installed, and the built program, where there is one."""
+"""Finds the package beside the tests, where it is not installed, and the built program, where there
+is one."""
 import os
 import signal
 import sys

@@ -1,4 +1,5 @@
-"""Small instances for the tests, by tools/plain.py, which was written from docs/formats.md alone."""
+"""Small instances for the tests, by tools/plain.py, which was written from docs/formats.md
+alone."""
 import os
 import sys
 
@@ -40,8 +41,8 @@ def compiled(folder, plan, zones, name="mine"):
 
 
 def quickly_compiled(folder, plan, zones, name="mine"):
-    """The same by pit_tools.valuation, which test_instance.py compares with the plain computation: that
-    one looks at all pairs of blocks, so it is too slow for thousands."""
+    """The same by pit_tools.valuation, which test_instance.py compares with the plain computation:
+    that one looks at all pairs of blocks, so it is too slow for thousands."""
     base = os.path.join(str(folder), name)
     shared.write(base + ".plan", plan)
     for number, text in enumerate(zones):
@@ -65,6 +66,7 @@ def deposit(folder, seed=None, size=(8, 6, 5), shape="lens", K=None, name="mine"
     made = Deposit(name, seed, size, shape)
     lines = made.plan().splitlines(True)
     if K is not None:
-        lines = [",".join([*line.split(",")[:-1], f"{K}\n"]) if line.startswith("zone,") else line for line in lines]
+        lines = [",".join([*line.split(",")[:-1], f"{K}\n"]) if line.startswith("zone,") else line
+                 for line in lines]
     compile_it = compiled if size[0] * size[1] * size[2] < 300 else quickly_compiled
     return compile_it(folder, "".join(lines), made.zone_texts(), name)

@@ -31,7 +31,8 @@ if words == ["--version"]:
     print("pitc 9.9.9")
 elif words[0] == "compile" or is_thin:
     import plain, shared
-    plan, base, zones = *words[1 - is_thin:5 - is_thin][1::2], [word for word in words if word.endswith(".csv")]
+    plan, base = words[1 - is_thin:5 - is_thin][1::2]
+    zones = [word for word in words if word.endswith(".csv")]
     text = shared.read(plan)
     if "refused" in text:
         sys.exit("pitc: plan row 1: Name")
@@ -55,8 +56,11 @@ else:
             section = ending + line.split(":")[0] if line.endswith(":\\n") else section
             parts.setdefault(section, []).append(line)
     arcs = sum(int(line.split()[1]) for line in parts["prec"])
-    counts = [len(parts[name]) - 1 for name in ("pcpspRESOURCE_CONSTRAINT_COEFFICIENTS", "pcpspRESOURCE_CONSTRAINT_LIMITS", "cpitRESOURCE_CONSTRAINT_COEFFICIENTS")]
-    print(f"blocks {{len(parts['blocks'])}} arcs {{arcs}} coefficients {{counts[0]}} limits {{counts[1]}} cpit {{counts[2]}}")
+    uses, limits, cpit = (len(parts[f"{{name}}"]) - 1 for name in (
+        "pcpspRESOURCE_CONSTRAINT_COEFFICIENTS", "pcpspRESOURCE_CONSTRAINT_LIMITS",
+        "cpitRESOURCE_CONSTRAINT_COEFFICIENTS"))
+    print(f"blocks {{len(parts['blocks'])}} arcs {{arcs}} coefficients {{uses}} limits {{limits}} "
+          f"cpit {{cpit}}")
 """
 
 ONE, TWO = "one.plan 'six blocks.csv'\n", "two.plan 'six blocks.csv'\n"
@@ -121,23 +125,28 @@ def left_of(folder="."):
 
 
 def test_a_list_without_a_last_line_end_loses_nothing(here):
-    batch, whole = run_batch("one.plan 'six blocks.csv'\n\n# a comment\ntwo.plan 'six blocks.csv'", seconds=20)
+    batch, whole = run_batch("one.plan 'six blocks.csv'\n\n# a comment\ntwo.plan 'six blocks.csv'",
+                             seconds=20)
     assert whole and not batch.failed
     table = [line.split() for line in open("SIZES")]
     assert [row[0] for row in table[1:]] == ["one", "two"]
     told = dict(zip(table[0], table[2]))
     assert told | {"bytes": "", "rate": "", "cpit_bound": "", "pcpsp_bound": ""} == {
-        "name": "two", "blocks": "6", "arcs": "7", "coefficients": "24", "limits": "4", "cpit": "10", "positive": "4", "bytes": "",
-        "periods": "3", "destinations": "3", "resources": "2", "rate": "", "tonnes": "16050.000", "pit_blocks": "6", "pit_tonnes": "16050.000",
-        "pit_value": "606965.00", "cpit_bound": "", "pcpsp_bound": "", "thin_arcs": "-"}
+        "name": "two", "blocks": "6", "arcs": "7", "coefficients": "24", "limits": "4",
+        "cpit": "10", "positive": "4", "bytes": "", "periods": "3", "destinations": "3",
+        "resources": "2", "rate": "", "tonnes": "16050.000", "pit_blocks": "6",
+        "pit_tonnes": "16050.000", "pit_value": "606965.00", "cpit_bound": "", "pcpsp_bound": "",
+        "thin_arcs": "-"}
     assert told["cpit_bound"] == told["pcpsp_bound"] == "606965.00" and told["rate"] == "0.08"
     assert int(told["bytes"]) == sum(os.path.getsize(f"two.{text}") for text in TEXTS)
     assert is_accepted() and left_of() == []
     names = [line.rstrip("\n").split("  ", 1)[1] for line in open("MANIFEST")]
     assert sorted(names) == sorted(["BUILD", "SIZES", "LIST", "six blocks.csv",
-                                    *(f"{name}.{text}" for name in ("one", "two") for text in ("plan", *TEXTS))])
+                                    *(f"{name}.{text}" for name in ("one", "two")
+                                      for text in ("plan", *TEXTS))])
     build = read("BUILD")
-    assert build.startswith("pitc 9.9.9\n") and "modules of pit-tools" in build and "closure.cpp" in build and "numpy" in build
+    assert (build.startswith("pitc 9.9.9\n") and "modules of pit-tools" in build
+            and "closure.cpp" in build and "numpy" in build)
     assert "relaxations: 20 s each\n" in build
 
 
@@ -153,7 +162,8 @@ def test_thin_files_stand_beside_whole_ones_and_the_pit_is_found_by_them(here):
     _, whole = run_batch(thin=os.path.abspath("pitc_thin"))
     assert whole and is_accepted() and "  one.thin\n" in read() and "  pitc_thin\n" in read("BUILD")
     thin = [line.split() for line in open("SIZES")]
-    assert thin[1][-1] == "7" and thin[1][15] == "606965.00" and read("one.thin") == read("one.prec")
+    assert (thin[1][-1] == "7" and thin[1][15] == "606965.00"
+            and read("one.thin") == read("one.prec"))
     (here / "pitc_thin").write_text((here / "pitc_thin").read_text().replace("of 7", "of 8"))
     batch, whole = run_batch(thin=os.path.abspath("pitc_thin"))
     assert not whole and "arcs 7 of 8" in batch.failed[0] and not os.path.exists("MANIFEST")
@@ -209,14 +219,16 @@ def test_a_list_that_would_lose_something_is_refused_before_anything_runs(here, 
     (here / "LIST").write_bytes(text.encode(errors="surrogateescape"))
     with pytest.raises(UserError, match=told.replace("(", r"\(")):
         read_list("LIST", others=["RECORD"])
-    assert main(["batch", "LIST", "--pitc", "./pitc"]) == 2 and not os.path.exists("BUILD") and not os.path.exists("MANIFEST")
+    assert main(["batch", "LIST", "--pitc",
+                 "./pitc"]) == 2 and not os.path.exists("BUILD") and not os.path.exists("MANIFEST")
     assert read("one.blocks") == read("SIZES") == mines.SIX_ROWS
 
 
 def test_a_list_that_has_the_name_of_a_table_is_not_written_over(here, capsys):
     (here / "BUILD").write_text(ONE)
     assert main(["batch", "BUILD", "--pitc", "./pitc"]) == 2
-    assert "BUILD would be overwritten by the batch" in capsys.readouterr().err and read("BUILD") == ONE
+    assert ("BUILD would be overwritten by the batch" in capsys.readouterr().err
+            and read("BUILD") == ONE)
 
 
 @pytest.mark.parametrize("name", ["MANIFEST", "SIZES", "BUILD", "RECORD", "one.cpit"])
@@ -230,22 +242,27 @@ def test_a_file_of_another_kind_stays(here, capsys, name):
 def test_nothing_is_taken_away_where_pitc_does_not_work(here, capsys):
     run_batch()
     before = {name: read(name) for name in ("MANIFEST", "SIZES", "BUILD", "RECORD", "one.blocks")}
-    for text, told in (("#!/bin/false\n", "--version ends with 1"), ("#!/no/such\n", "cannot be run: No such file")):
+    for text, told in (("#!/bin/false\n", "--version ends with 1"),
+                       ("#!/no/such\n", "cannot be run: No such file")):
         (here / "broken").write_text(text)
         (here / "broken").chmod(0o755)
-        assert main(["batch", "LIST", "--pitc", "./broken"]) == 2 and told in capsys.readouterr().err
-    assert main(["batch", "LIST", "--pitc", "./gone"]) == 2 and "no program `./gone`" in capsys.readouterr().err
+        assert main(["batch", "LIST", "--pitc",
+                     "./broken"]) == 2 and told in capsys.readouterr().err
+    assert main(["batch", "LIST", "--pitc",
+                 "./gone"]) == 2 and "no program `./gone`" in capsys.readouterr().err
     assert {name: read(name) for name in before} == before
 
 
 @pytest.mark.parametrize("words, told", [
-    (["--jobs", "0"], "--jobs is 1 or more"), (["--part", "3/2"], "`3/2` is no part"), (["--part", "0/2"], "`0/2` is no part"),
-    (["--jobs", "2", "--scheduler", "tcp://127.0.0.1:1"], "goes without --jobs"), (["--join", ".", "--part", "1/2"], "goes without --part"),
-    (["--join", ".", "--continue"], "goes without --continue"),
-])
+    (["--jobs", "0"], "--jobs is 1 or more"), (["--part", "3/2"], "`3/2` is no part"),
+    (["--part", "0/2"], "`0/2` is no part"),
+    (["--jobs", "2", "--scheduler", "tcp://127.0.0.1:1"], "goes without --jobs"),
+    (["--join", ".", "--part", "1/2"], "goes without --part"),
+    (["--join", ".", "--continue"], "goes without --continue")])
 def test_words_that_do_not_fit_are_told(here, capsys, words, told):
     (here / "LIST").write_text(ONE)
-    assert main(["batch", "LIST", *([] if "--join" in words else ["--pitc", "./pitc"]), *words]) == 2
+    assert main(["batch", "LIST", *([] if "--join" in words else ["--pitc", "./pitc"]),
+                 *words]) == 2
     assert told in capsys.readouterr().err and calls() == []
 
 
@@ -265,7 +282,8 @@ def test_a_plan_that_is_refused_leaves_no_manifest_and_what_was_there(here):
 def test_an_input_that_changes_behind_its_compile_is_told(here):
     open("changing", "w").close()
     batch, whole = run_batch(ONE)
-    assert not whole and batch.failed == ["one.plan: six blocks.csv was changed while the instance was made"]
+    assert not whole and batch.failed == ["one.plan: six blocks.csv was changed while the instance "
+                                          "was made"]
     assert not os.path.exists("MANIFEST") and not os.path.exists("one.blocks")
 
 
@@ -278,7 +296,8 @@ def test_an_input_that_changes_between_two_instances_is_told(here, name):
                 file.write("\n")
 
     batch, whole = run_batch(engine=engine)
-    assert not whole and batch.failed == [f"{name} was changed while the batch ran"] and not os.path.exists("MANIFEST")
+    assert (not whole and batch.failed == [f"{name} was changed while the batch ran"]
+            and not os.path.exists("MANIFEST"))
 
 
 def test_a_program_that_is_replaced_meanwhile_is_told(here):
@@ -288,20 +307,25 @@ def test_a_program_that_is_replaced_meanwhile_is_told(here):
             file.write("\n")
 
     batch, whole = run_batch(engine=engine)
-    assert not whole and batch.failed == ["the programs or the tool were changed while the batch ran"]
+    assert not whole and batch.failed == ["the programs or the tool were changed while the batch "
+                                          "ran"]
     assert not os.path.exists("MANIFEST")
 
 
 @pytest.mark.parametrize("most, begins", [(200, False), (700, True), (900, True)])
 def test_a_disk_that_takes_no_more_leaves_no_manifest(here, most, begins):
-    """Where not even RECORD can be begun, nothing is changed, and the manifest of the batch before stays."""
+    """Where not even RECORD can be begun, nothing is changed, and the manifest of the batch before
+    stays."""
     run_batch()
     before = read()
     words = [sys.executable, "-m", "pit_tools", "batch", "LIST", "--pitc", "./pitc"]
     # Without compiled modules: Python would leave halves of these.
-    done = subprocess.run(words, env={**environment(), "PYTHONDONTWRITEBYTECODE": "1"}, capture_output=True, text=True,
-                          preexec_fn=lambda: resource.setrlimit(resource.RLIMIT_FSIZE, (most, most)))
-    assert done.returncode in (1, 2) and "File too large" in done.stderr and "Traceback" not in done.stderr
+    done = subprocess.run(words, env={**environment(), "PYTHONDONTWRITEBYTECODE": "1"},
+                          capture_output=True, text=True,
+                          preexec_fn=lambda: resource.setrlimit(resource.RLIMIT_FSIZE,
+                                                                (most, most)))
+    assert done.returncode in (
+        1, 2) and "File too large" in done.stderr and "Traceback" not in done.stderr
     assert read() == before and is_accepted() if not begins else not os.path.exists("MANIFEST")
     assert left_of() == []
 
@@ -326,17 +350,20 @@ def test_two_batches_in_one_folder_are_refused(here, capsys):
         assert main(["batch", "LIST", "--pitc", "./pitc"]) == 2
         assert main(["batch", "LIST", "--pitc", "./pitc", "--part", "1/2"]) == 2
         assert main(["batch", "LIST", "--join", "."]) == 2
-    assert capsys.readouterr().err.count("another batch runs in this folder") == 3 and read() == before
+    assert (capsys.readouterr().err.count("another batch runs in this folder") == 3
+            and read() == before)
     assert main(["batch", "LIST", "--pitc", "./pitc"]) == 0
 
 
 def test_parts_run_beside_one_another_and_none_twice(here, capsys):
     (here / "LIST").write_text(ONE + TWO)
     with held(how=fcntl.LOCK_SH), held(f"{LOCK}-1-of-2"):
-        assert main(["batch", "LIST", "--pitc", "./pitc", "--part", "2/2"]) == 0 and calls() == ["two"]
+        assert main(["batch", "LIST", "--pitc", "./pitc", "--part",
+                     "2/2"]) == 0 and calls() == ["two"]
         assert main(["batch", "LIST", "--pitc", "./pitc", "--part", "1/2"]) == 2
         assert main(["batch", "LIST", "--pitc", "./pitc"]) == 2
-    assert capsys.readouterr().out == "part 2 of 2: 1 of 1 instances\n" and not os.path.exists("MANIFEST")
+    assert (capsys.readouterr().out == "part 2 of 2: 1 of 1 instances\n"
+            and not os.path.exists("MANIFEST"))
 
 
 # Going on
@@ -347,7 +374,8 @@ def test_what_is_whole_is_kept_by_its_sums(here, capsys):
     before = read()
     calls()
     assert main(["batch", "LIST", "--pitc", "./pitc", "--continue"]) == 0
-    assert capsys.readouterr().out == "2 of 2 instances, 2 of them kept\n" and calls() == [] and read() == before
+    assert (capsys.readouterr().out == "2 of 2 instances, 2 of them kept\n" and calls() == []
+            and read() == before)
     header, one, two = read("RECORD").split("\n")[:3]
     for damage in (lambda: os.remove("two.prec"), lambda: (here / "two.prec").write_text("0 0\n"),
                    lambda: (here / "RECORD").write_text(f"{header}\n{one}\n{two[:-9]}")):
@@ -357,6 +385,15 @@ def test_what_is_whole_is_kept_by_its_sums(here, capsys):
     (here / "one.plan").write_text(plan_named("one").replace("rate,0.08", "rate,0.09"))
     _, whole = run_batch(goes_on=True)
     assert whole and calls() == ["one"] and read() != before and is_accepted()
+
+
+def test_what_a_killed_batch_left_beside_its_tables_goes(here):
+    for name in ("MANIFEST.unfinished-7", "SIZES.before-7.12", "RECORD.unfinished-7", "notes",
+                 "MANIFESTO.unfinished-7", "MANIFEST.unfinished-x", "RECORD-1-of-2.unfinished-7"):
+        (here / name).write_text("x")
+    _, whole = run_batch()
+    assert whole and sorted(name for name in os.listdir() if "-7" in name or "-x" in name) == [
+        "MANIFEST.unfinished-x", "MANIFESTO.unfinished-7", "RECORD-1-of-2.unfinished-7"]
 
 
 def test_what_another_build_made_is_made_anew(here):
@@ -385,7 +422,8 @@ def ended(process):
 
 @pytest.mark.parametrize("jobs", [1, 3])
 def test_a_batch_that_is_killed_goes_on_to_the_same_sums(pitc, here, jobs):
-    """Ended at random moments, and once more while it goes on: no manifest stands of less than all."""
+    """Ended at random moments, and once more while it goes on: no manifest stands of less than
+    all."""
     names = [f"mine{number}" for number in range(8)]
     for name in names:
         (here / f"{name}.plan").write_text(plan_named(name))
@@ -411,13 +449,15 @@ def test_a_batch_that_is_killed_goes_on_to_the_same_sums(pitc, here, jobs):
 
 
 def begin_anew(names):
-    for name in ("MANIFEST", "SIZES", "BUILD", "RECORD", *(f"{name}.{text}" for name in names for text in TEXTS)):
+    for name in ("MANIFEST", "SIZES", "BUILD", "RECORD",
+                 *(f"{name}.{text}" for name in names for text in TEXTS)):
         if os.path.exists(name):
             os.remove(name)
 
 
 def with_patience(words):
-    """The status of a command, tried again for as long as what is left of a killed one holds the folder."""
+    """The status of a command, tried again for as long as what is left of a killed one holds the
+    folder."""
     for _ in range(600):
         status = ended(begun(words))
         if status != 2:
@@ -440,50 +480,59 @@ def test_several_at_a_time_make_the_same(here):
 
 
 def test_a_process_that_is_ended_from_outside_is_told(here):
-    (here / "pitc").write_text((here / "pitc").read_text().replace('elif words[0] == "compile"', 'elif os.kill(os.getppid(), 9) or words[0] == "compile"'))
+    (here / "pitc").write_text((here / "pitc").read_text().replace(
+        'elif words[0] == "compile"', 'elif os.kill(os.getppid(), 9) or words[0] == "compile"'))
     with pytest.raises(UserError, match="a process of the batch was ended from outside"):
         run_batch(engine=by_processes(2))
     assert not os.path.exists("MANIFEST")
 
 
 def parts_of(here, count, folder_of):
-    """Makes the parts of LIST, each in a folder of its own that has LIST and the inputs, or all in one."""
+    """Makes the parts of LIST, each in a folder of its own that has LIST and the inputs, or all in
+    one."""
     for number in range(1, count + 1):
         folder = here / folder_of(number)
         folder.mkdir(exist_ok=True)
         for name in ("LIST", "one.plan", "two.plan", "six blocks.csv", "pitc"):
             if folder != here:
                 shutil.copy(name, folder)
-        done = subprocess.run([sys.executable, "-m", "pit_tools", "batch", "LIST", "--pitc", "./pitc", "--part", f"{number}/{count}"],
-                              cwd=folder, env=environment(), capture_output=True, text=True)
+        done = subprocess.run([sys.executable, "-m", "pit_tools", "batch", "LIST", "--pitc",
+                               "./pitc", "--part", f"{number}/{count}"], cwd=folder,
+                              env=environment(), capture_output=True, text=True)
         assert done.returncode == 0 and not (folder / "MANIFEST").exists()
 
 
-@pytest.mark.parametrize("folder_of", ["part{}".format, lambda number: "."], ids=["folders", "one folder"])
+@pytest.mark.parametrize("folder_of", ["part{}".format, lambda number: "."],
+                         ids=["folders", "one folder"])
 def test_parts_are_joined_to_the_batch_that_one_run_makes(here, folder_of, capsys):
     run_batch()
     wanted = read()
     begin_anew(["one", "two"])
     parts_of(here, 3, folder_of)
     folders = list(dict.fromkeys(map(folder_of, (1, 2, 3))))
-    assert main(["batch", "LIST", "--join", *folders]) == 0 and capsys.readouterr().out == "2 of 2 instances\n"
+    assert main(["batch", "LIST", "--join",
+                 *folders]) == 0 and capsys.readouterr().out == "2 of 2 instances\n"
     assert read() == wanted and is_accepted()
     calls()
-    assert main(["batch", "LIST", "--pitc", "./pitc", "--continue"]) == 0 and calls() == [] and read() == wanted
+    assert main(["batch", "LIST", "--pitc", "./pitc",
+                 "--continue"]) == 0 and calls() == [] and read() == wanted
 
 
-@pytest.mark.parametrize("damage, told", [
-    (lambda: os.remove("part2/RECORD-2-of-2"), "two.plan: no part has it"),
-    (lambda: os.remove("part2/two.prec"), "two.plan: part2/two.prec is not the one that part2/RECORD-2-of-2 names"),
-    (lambda: shutil.copy("part1/one.prec", "part2/two.upit"), "two.plan: part2/two.upit is not the one"),
-    (lambda: shutil.copy("one.plan", "two.plan"), "two.plan: two.plan is not the one that part2/RECORD-2-of-2 names"),
-])
+@pytest.mark.parametrize("damage, told",
+                         [(lambda: os.remove("part2/RECORD-2-of-2"), "two.plan: no part has it"),
+                          (lambda: os.remove("part2/two.prec"), "two.plan: part2/two.prec is not "
+                           "the one that part2/RECORD-2-of-2 names"),
+                          (lambda: shutil.copy("part1/one.prec", "part2/two.upit"),
+                           "two.plan: part2/two.upit is not the one"),
+                          (lambda: shutil.copy("one.plan", "two.plan"),
+                           "two.plan: two.plan is not the one that part2/RECORD-2-of-2 names")])
 def test_parts_that_lack_something_are_not_joined(here, capsys, damage, told):
     (here / "LIST").write_text(ONE + TWO)
     parts_of(here, 2, "part{}".format)
     damage()
     assert main(["batch", "LIST", "--join", "part1", "part2"]) == 1
-    assert told in capsys.readouterr().err and not os.path.exists("MANIFEST") and not os.path.exists("one.blocks")
+    assert (told in capsys.readouterr().err and not os.path.exists("MANIFEST")
+            and not os.path.exists("one.blocks"))
 
 
 def test_parts_of_different_builds_are_not_joined(here, capsys):
@@ -491,5 +540,7 @@ def test_parts_of_different_builds_are_not_joined(here, capsys):
     parts_of(here, 2, "part{}".format)
     record = here / "part2" / "RECORD-2-of-2"
     record.write_text(record.read_text().replace("pitc 9.9.9", "pitc 9.9.8"))
-    assert main(["batch", "LIST", "--join", "part1", "part2"]) == 2 and "different builds" in capsys.readouterr().err
-    assert main(["batch", "LIST", "--join", "."]) == 2 and "no record of a batch is in ." in capsys.readouterr().err
+    assert main(["batch", "LIST", "--join", "part1",
+                 "part2"]) == 2 and "different builds" in capsys.readouterr().err
+    assert main(["batch", "LIST", "--join",
+                 "."]) == 2 and "no record of a batch is in ." in capsys.readouterr().err

@@ -12,7 +12,8 @@ from pit_tools import batch_engines
 from pit_tools.batch_engines import by_dask
 from pit_tools.cli import main
 from pit_tools.errors import UserError
-from test_batches import environment, here, is_accepted, left_of, plan_named, read, run_batch  # noqa: F401
+from test_batches import (environment, here, is_accepted, left_of, plan_named, read,  # noqa: F401
+                          run_batch)
 
 NAMES = [f"mine{number}" for number in range(12)]
 
@@ -25,7 +26,8 @@ SLOW = 'elif words[0] == "compile" or is_thin:\n    import time\n    time.sleep(
 def begun(command, *words):
     """A process of distributed that hears on this machine alone."""
     words = [sys.executable, "-m", f"distributed.cli.dask_{command}", "--host", "127.0.0.1", *words]
-    return subprocess.Popen(words, env=environment(), stdout=subprocess.DEVNULL, stderr=subprocess.DEVNULL)
+    return subprocess.Popen(words, env=environment(), stdout=subprocess.DEVNULL,
+                            stderr=subprocess.DEVNULL)
 
 
 def waited(is_so, seconds=600):
@@ -44,7 +46,8 @@ def cluster(here):  # noqa: F811
     processes = [begun("scheduler", "--port", "0", "--no-dashboard", "--scheduler-file", place)]
     try:
         waited(lambda: os.path.exists(place))
-        worker = ("--nthreads", "1", "--no-nanny", "--no-dashboard", "--scheduler-file", place, "--local-directory", str(here / "dask"))
+        worker = ("--nthreads", "1", "--no-nanny", "--no-dashboard", "--scheduler-file", place,
+                  "--local-directory", str(here / "dask"))
         processes += [begun("worker", *worker) for _ in range(4)]
         with distributed.Client(scheduler_file=place, timeout=600, set_as_default=False) as client:
             client.wait_for_workers(4, timeout=600)
@@ -79,10 +82,12 @@ def test_a_worker_that_is_killed_loses_nothing(cluster):
 
     batch, whole = run_batch(LIST, engine=ended_in_the_middle)
     assert whole and not batch.failed and read() == wanted and is_accepted()
-    assert workers[0].wait() == -signal.SIGKILL and [worker.poll() for worker in workers[1:]] == [None] * 3
+    assert (workers[0].wait() == -signal.SIGKILL
+            and [worker.poll() for worker in workers[1:]] == [None] * 3)
     made = test_batches.calls()
     assert set(made) == set(NAMES) and len(made) >= len(NAMES)
-    assert main(["batch", "LIST", "--pitc", "./pitc", "--continue"]) == 0 and left_of() == [] and read() == wanted
+    assert main(["batch", "LIST", "--pitc", "./pitc",
+                 "--continue"]) == 0 and left_of() == [] and read() == wanted
 
 
 def test_a_scheduler_that_is_not_there_is_told(here, capsys):  # noqa: F811
@@ -90,7 +95,8 @@ def test_a_scheduler_that_is_not_there_is_told(here, capsys):  # noqa: F811
     with open("LIST", "w") as file:
         file.write("one.plan 'six blocks.csv'\n")
     assert main(["batch", "LIST", "--pitc", "./pitc", "--scheduler", "tcp://127.0.0.1:1"]) == 2
-    assert "no scheduler answers at tcp://127.0.0.1:1" in capsys.readouterr().err and not os.path.exists("MANIFEST")
+    assert ("no scheduler answers at tcp://127.0.0.1:1" in capsys.readouterr().err
+            and not os.path.exists("MANIFEST"))
 
 
 def test_a_python_without_distributed_is_told(monkeypatch):

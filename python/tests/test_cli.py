@@ -1,4 +1,5 @@
-"""How the command ends: no traceback, each fault with its name, and no code of the current folder."""
+"""How the command ends: no traceback, each fault with its name, and no code of the current
+folder."""
 import errno
 import os
 import signal
@@ -15,7 +16,8 @@ PIT_TOOLS = os.path.join(HERE, "pit-tools")
 
 
 def ran(*words, **how):
-    return subprocess.run([PIT_TOOLS, *words], text=True, check=False, **{"capture_output": True, **how})
+    return subprocess.run([PIT_TOOLS, *words], text=True, check=False,
+                          **{"capture_output": True, **how})
 
 
 @pytest.fixture()
@@ -29,20 +31,21 @@ def failing(monkeypatch):
 
 
 @pytest.mark.parametrize("error, status, told", [
-    (KeyError("depth"), 3, "this is a fault of pit-tools, and none of yours: KeyError: 'depth' (test_cli.py, line "),
-    (MemoryError("Unable to allocate 3.64 TiB"), 2, "there is not memory enough: Unable to allocate 3.64 TiB\n"),
+    (KeyError("depth"), 3, "this is a fault of pit-tools, and none of yours: KeyError: 'depth' "
+     "(test_cli.py, line "), (MemoryError("Unable to allocate 3.64 TiB"), 2,
+                              "there is not memory enough: Unable to allocate 3.64 TiB\n"),
     (MemoryError(), 2, "there is not memory enough\n"),
     (OSError(errno.EIO, "Input/output error", "a.csv"), 2, "a.csv: Input/output error\n"),
-    (OSError(errno.ENOSPC, "No space left on device"), 2, "standard output: No space left on device\n"),
+    (OSError(errno.ENOSPC, "No space left on device"), 2,
+     "standard output: No space left on device\n"),
     (ImportError("no openpyxl"), 2, "a package of Python is lacking or damaged: no openpyxl\n"),
-    (KeyboardInterrupt(), 130, ""),
-    (BrokenPipeError(), 1, ""),
-], ids=lambda one: type(one).__name__)
+    (KeyboardInterrupt(), 130, ""), (BrokenPipeError(), 1, "")], ids=lambda one: type(one).__name__)
 def test_a_fault_is_told_in_a_line(failing, capsys, error, status, told):
     failing(error)
     assert main(["bounds", "mine"]) == status
     err = capsys.readouterr().err
-    assert err.startswith(f"pit-tools bounds: {told}" if told else "") and err.count("\n") == bool(told)
+    assert (err.startswith(f"pit-tools bounds: {told}" if told else "")
+            and err.count("\n") == bool(told))
     assert ("Please report it" in err) == (status == 3)
 
 
@@ -61,30 +64,35 @@ def test_a_pipe_that_is_closed_is_quiet(words):
     assert (done.returncode, done.stderr) == (1, "")
 
 
-@pytest.mark.parametrize("closes, told", [(">&-", "pit-tools: standard output is closed\n"),
-                                          ("> /dev/full", "pit-tools: standard output: No space left on device\n"),
-                                          ("2>&-", ""), ("<&-", "")])
+@pytest.mark.parametrize("closes, told",
+                         [(">&-", "pit-tools: standard output is closed\n"),
+                          ("> /dev/full", "pit-tools: standard output: No space left on device\n"),
+                          ("2>&-", ""), ("<&-", "")])
 def test_closed_and_full_streams(closes, told):
-    done = subprocess.run(["sh", "-c", f'"{PIT_TOOLS}" --help {closes}'], capture_output=True, text=True, check=False)
+    done = subprocess.run(["sh", "-c", f'"{PIT_TOOLS}" --help {closes}'], capture_output=True,
+                          text=True, check=False)
     assert (done.returncode, done.stderr) == (2 if told else 0, told)
 
 
 def test_what_is_printed_goes_into_no_file_where_output_is_closed(tmp_path):
-    done = subprocess.run(["sh", "-c", f'"{PIT_TOOLS}" deposit --size 2,2,2 2>&- <&-'], cwd=tmp_path, check=False)
+    done = subprocess.run(["sh", "-c", f'"{PIT_TOOLS}" deposit --size 2,2,2 2>&- <&-'],
+                          cwd=tmp_path, check=False)
     assert done.returncode == 0
     assert (tmp_path / "deposit.plan").read_text().startswith("name,deposit\n")
 
 
 def test_a_name_that_is_no_utf_8_is_refused(tmp_path):
-    done = subprocess.run([PIT_TOOLS.encode(), b"import", b"a\xff.csv"], capture_output=True, cwd=tmp_path, check=False,
-                          env={**os.environ, "LC_ALL": "C.UTF-8"})
+    done = subprocess.run([PIT_TOOLS.encode(), b"import", b"a\xff.csv"], capture_output=True,
+                          cwd=tmp_path, check=False, env={**os.environ, "LC_ALL": "C.UTF-8"})
     assert done.returncode == 2
-    assert done.stderr == b"pit-tools import: b'a\\xff.csv' is no UTF-8: rename the file, or lead to it by a link\n"
+    assert done.stderr == (b"pit-tools import: b'a\\xff.csv' is no UTF-8: rename the file, or lead "
+                           b"to it by a link\n")
 
 
 OWN = 'open("was-run", "w").write("x")\nraise SystemExit("a file of the current folder was run")\n'
 
-NAMES = ("random", "csv", "contextlib", "types", "warnings", "pandas", "numpy", "decimal", "typing", "runpy", "site")
+NAMES = ("random", "csv", "contextlib", "types", "warnings", "pandas", "numpy", "decimal", "typing",
+         "runpy", "site")
 
 
 @pytest.mark.parametrize("way", ["script", "script, PYTHONPATH", "module", "command"])
@@ -98,14 +106,18 @@ def test_no_file_of_the_current_folder_is_run(tmp_path, way):
         words, env["PYTHONPATH"] = [sys.executable, "-c", MODULE], HERE
     if way == "command":
         words, env["PYTHONPATH"] = [sys.executable, "-c", COMMAND], HERE
-    done = subprocess.run([*words, "deposit", "--size", "3,3,3"], cwd=tmp_path, env=env, capture_output=True, text=True, check=False)
+    done = subprocess.run([*words, "deposit", "--size", "3,3,3"], cwd=tmp_path, env=env,
+                          capture_output=True, text=True, check=False)
     assert (done.returncode, done.stderr) == (0, "")
     assert (tmp_path / "deposit.plan").exists() and not (tmp_path / "was-run").exists()
 
 
-#: As `python3 -m pit_tools` and the command that pip installs find the package, with the current folder first.
-MODULE = "import os, runpy, sys; sys.path.insert(0, os.getcwd()); runpy.run_module('pit_tools', run_name='__main__', alter_sys=True)"
-COMMAND = "import sys; sys.path.insert(0, ''); from pit_tools.__main__ import main; sys.exit(main())"
+#: As `python3 -m pit_tools` and the command that pip installs find the package, with the current
+#: folder first.
+MODULE = ("import os, runpy, sys; sys.path.insert(0, os.getcwd()); runpy.run_module('pit_tools', "
+          "run_name='__main__', alter_sys=True)")
+COMMAND = ("import sys; sys.path.insert(0, ''); from pit_tools.__main__ import main; "
+           "sys.exit(main())")
 
 
 def test_a_script_finds_the_modules_beside_it(tmp_path):
@@ -113,8 +125,11 @@ def test_a_script_finds_the_modules_beside_it(tmp_path):
     (tmp_path / "named").mkdir()
     (tmp_path / "scripts" / "random.py").write_text("mine = 'of the script'\n")
     (tmp_path / "named" / "helper.py").write_text("mine = 'of PYTHONPATH'\n")
-    (tmp_path / "scripts" / "one.py").write_text("import helper, random, sys, pit_tools\nprint(random.mine, helper.mine, sys.argv[1:])\n")
-    done = ran("python", "scripts/one.py", "a", "--b", cwd=tmp_path, env={**os.environ, "PYTHONPATH": str(tmp_path / "named")})
+    (tmp_path / "scripts" / "one.py").write_text("import helper, random, sys, "
+                                                 "pit_tools\nprint(random.mine, helper.mine, "
+                                                 "sys.argv[1:])\n")
+    done = ran("python", "scripts/one.py", "a", "--b", cwd=tmp_path,
+               env={**os.environ, "PYTHONPATH": str(tmp_path / "named")})
     assert (done.returncode, done.stdout) == (0, "of the script of PYTHONPATH ['a', '--b']\n")
 
 
@@ -122,7 +137,8 @@ def test_ctrl_c_is_quiet():
     code = f"import sys; sys.path.insert(0, {HERE!r}); import pit_tools.commands.bounds as b; " \
            "b.run = lambda _: (print('begun', flush=True), __import__('time').sleep(60)); " \
            "from pit_tools.cli import main; sys.exit(main(['bounds', 'mine']))"
-    run = subprocess.Popen([sys.executable, "-c", code], stdout=subprocess.PIPE, stderr=subprocess.PIPE)
+    run = subprocess.Popen([sys.executable, "-c", code], stdout=subprocess.PIPE,
+                           stderr=subprocess.PIPE)
     assert run.stdout.readline() == b"begun\n"
     run.send_signal(signal.SIGINT)
     assert run.communicate() == (b"", b"") and run.returncode == 130

@@ -92,7 +92,8 @@ def test_arcs_that_are_left_imply_all_others(tmp_path):
 
 def test_values_beyond_32_bits_are_counted_to_the_cent():
     values = np.array([12345678901.01, -12345678901.0, 5.0, -5.01])
-    arcs = sparse.csr_matrix(np.array([[0, 1, 0, 0], [0, 0, 0, 0], [0, 0, 0, 1], [0, 0, 0, 0]], np.int8))
+    arcs = sparse.csr_matrix(np.array([[0, 1, 0, 0], [0, 0, 0, 0], [0, 0, 0, 1], [0, 0, 0, 0]],
+                                      np.int8))
     assert closure.ultimate_pit(values, arcs).tolist() == [True, True, False, False]
 
 
@@ -118,7 +119,8 @@ def test_a_pit_is_told_in_whole_cents(tmp_path):
 
 
 @pytest.mark.parametrize("home", ["cache", "file"])
-def test_the_program_is_made_where_the_cache_is_or_in_a_folder_of_the_run(tmp_path, monkeypatch, home):
+def test_the_program_is_made_where_the_cache_is_or_in_a_folder_of_the_run(tmp_path, monkeypatch,
+                                                                          home):
     (tmp_path / "file").write_text("no folder")
     monkeypatch.setenv("XDG_CACHE_HOME", str(tmp_path / home))
     compiled.library.cache_clear()
@@ -147,7 +149,8 @@ def kept(tmp_path, monkeypatch, made):
     compiled.library()
     program = next(tmp_path.glob("cache/pit-tools/closure-*.so"))
     (tmp_path / "other.cpp").write_text('extern "C" int closure(...) { return 1; }')
-    subprocess.run([compiled.compiler(), "-shared", "-fPIC", "-o", str(program), str(tmp_path / "other.cpp")], check=True)
+    subprocess.run([compiled.compiler(), "-shared", "-fPIC", "-o", str(program),
+                    str(tmp_path / "other.cpp")], check=True)
     os.remove(tmp_path / "other.cpp")
     compiled.library.cache_clear()
     yield program
@@ -166,8 +169,9 @@ def test_a_program_in_the_cache_is_run_where_it_is_the_users_own(kept):
     assert not is_ours()
 
 
-@pytest.mark.parametrize("what", ["folder written by a group", "folder written by all", "file written by a group",
-                                  "link to a file", "link to a folder", "damaged", "relative name"])
+@pytest.mark.parametrize("what", ["folder written by a group", "folder written by all",
+                                  "file written by a group", "link to a file", "link to a folder",
+                                  "damaged", "relative name"])
 def test_a_program_that_others_may_have_put_there_is_never_run(kept, tmp_path, monkeypatch, what):
     folder = kept.parent
     if what.startswith("folder"):
@@ -213,6 +217,7 @@ def test_without_a_compiler_highs_finds_small_pits_and_great_ones_are_told(monke
     arcs = sparse.csr_matrix(np.array([[0, 1, 0], [0, 0, 0], [0, 0, 0]], np.int8))
     assert closure.ultimate_pit(np.array([3.0, -2.0, -1.0]), arcs).tolist() == [True, True, False]
     more = sparse.csr_matrix(np.array([[0, 1, 1], [0, 0, 0], [0, 0, 0]], np.int8))
-    for call in (lambda: closure.ultimate_pit(np.array([3.0, -2.0, -1.0]), more), lambda: closure.immediate(more)):
+    for call in (lambda: closure.ultimate_pit(np.array([3.0, -2.0, -1.0]), more),
+                 lambda: closure.immediate(more)):
         with pytest.raises(UserError, match="compiler"):
             call()

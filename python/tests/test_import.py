@@ -37,22 +37,26 @@ def rows_of(imported: Imported, base: str) -> Rows:
     return found
 
 
-@pytest.mark.parametrize("export", [one for one in EXPORTS if one.rows], ids=lambda export: export.name)
+@pytest.mark.parametrize("export", [one for one in EXPORTS if one.rows],
+                         ids=lambda export: export.name)
 def test_an_export_gives_the_blocks_of_its_mine(export, tmp_path, monkeypatch):
     monkeypatch.chdir(tmp_path)
     imported = imported_by(export, tmp_path)
     found = rows_of(imported, "from")
-    assert {zone: len(rows) for zone, rows in found.items()} == {zone: len(rows) for zone, rows in export.rows.items()}
+    assert {zone: len(rows) for zone, rows in found.items()} == {
+        zone: len(rows) for zone, rows in export.rows.items()}
     for zone, rows in export.rows.items():
         assert found[zone].keys() == rows.keys()
         for place, (kilograms, grade) in rows.items():
             assert abs(found[zone][place][0] - kilograms) <= export.within[0], (zone, place)
             assert abs(found[zone][place][1] - grade) <= export.within[1], (zone, place)
     grid = imported.grid
-    assert ",".join(format(value.normalize(), "f") for value in (*grid.origin, *grid.size)) == export.grid
+    assert ",".join(format(value.normalize(), "f")
+                    for value in (*grid.origin, *grid.size)) == export.grid
 
 
-@pytest.mark.parametrize("export", [one for one in EXPORTS if one.told], ids=lambda export: export.name)
+@pytest.mark.parametrize("export", [one for one in EXPORTS if one.told],
+                         ids=lambda export: export.name)
 def test_what_was_found_of_an_export_is_told(export, tmp_path, monkeypatch):
     monkeypatch.chdir(tmp_path)
     text = imported_by(export, tmp_path).report.text()
@@ -60,7 +64,8 @@ def test_what_was_found_of_an_export_is_told(export, tmp_path, monkeypatch):
         assert re.search(pattern, text), f"{pattern} is not in\n{text}"
 
 
-@pytest.mark.parametrize("export", [one for one in EXPORTS if one.refused], ids=lambda export: export.name)
+@pytest.mark.parametrize("export", [one for one in EXPORTS if one.refused],
+                         ids=lambda export: export.name)
 def test_an_export_stops_or_is_doubted_where_its_words_are_lacking(export, tmp_path, monkeypatch):
     monkeypatch.chdir(tmp_path)
     try:

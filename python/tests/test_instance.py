@@ -1,4 +1,6 @@
 """An instance as arrays, and back to the byte."""
+from decimal import Decimal
+
 import numpy as np
 import pytest
 
@@ -7,17 +9,16 @@ from pit_tools import instance
 from pit_tools.cones import precedence_of
 from pit_tools.errors import UserError
 from pit_tools.instance import Limit, read_instance, write_instance
-from pit_tools.plan_file import read_plan
-from pit_tools.valuation import blocks_of, instance_of
+from pit_tools.plan_file import Destination, read_plan
+from pit_tools.valuation import blocks_of, instance_of, worth_in_cents
 from pit_tools.zone_files import read_zone_files
 
 
-@pytest.mark.parametrize("make", [
-    mines.six_blocks,
-    mines.deposit,
-    lambda folder: mines.deposit(folder, 3, (6, 5, 4), "vein", 4),
-    lambda folder: mines.six_blocks(folder, ("rate,0.08", "rate,0.000001"), ("L,60000", "L,60000.5"), ("limit,fleet,0,I,0,", "limit,fleet,0,I,0.25,")),
-])
+@pytest.mark.parametrize("make",
+                         [mines.six_blocks, mines.deposit,
+                          lambda folder: mines.deposit(folder, 3, (6, 5, 4), "vein", 4),
+                          lambda folder: mines.six_blocks(folder, ("rate,0.08", "rate,0.000001"), (
+    "L,60000", "L,60000.5"), ("limit,fleet,0,I,0,", "limit,fleet,0,I,0.25,"))])
 def test_an_instance_is_written_as_it_was_read(tmp_path, make):
     base = make(tmp_path)
     write_instance(read_instance(base), str(tmp_path / "copy"))
@@ -38,11 +39,13 @@ def test_arrays_of_the_six_blocks(tmp_path):
     assert mine.counts() == "blocks 6 arcs 7 coefficients 24 limits 4 cpit 10"
     assert mine.blocks.tonnes.tolist() == [2700, 2700, 2700, 2650, 2650, 2650]
     assert mine.blocks.grade.tolist() == [1.8, 2.4, 0.7, 0.2, 0.45, 0]
-    assert mine.precedence.toarray()[:3].tolist() == [[0, 0, 0, 1, 1, 0], [0, 0, 0, 1, 1, 1], [0, 0, 0, 0, 1, 1]]
+    assert mine.precedence.toarray()[:3].tolist() == [[0, 0, 0, 1, 1, 0], [0, 0, 0, 1, 1, 1],
+                                                      [0, 0, 0, 0, 1, 1]]
     assert mine.precedence[3:].nnz == 0
     assert mine.upit.values.tolist() == [221940, 309420, 61560, -5300, 24645, -5300]
     assert mine.pcpsp.values[4].tolist() == [24645, 9142.5, -5300]
-    assert mine.pcpsp.use_matrix(0).toarray().tolist() == [[t, 0, 0] for t in [2700] * 3 + [2650] * 3]
+    assert mine.pcpsp.use_matrix(0).toarray().tolist() == [[t, 0, 0]
+                                                           for t in [2700] * 3 + [2650] * 3]
     assert mine.pcpsp.use_matrix(1).toarray()[3].tolist() == [2650] * 3
     assert mine.cpit.use_matrix(0).toarray().ravel().tolist() == [2700, 2700, 2700, 0, 2650, 0]
     assert mine.cpit.limits[-1] == Limit(1, 0, "I", 0, 120000)
@@ -58,14 +61,15 @@ def test_files_that_check_accepts_are_read(tmp_path):
         (tmp_path / f"odd.{text}").write_bytes(b"\xef\xbb\xbf" + "".join(mended).encode().rstrip())
     write_instance(read_instance(str(tmp_path / "odd")), str(tmp_path / "copy"))
     for text in instance.TEXTS:
-        assert (tmp_path / f"copy.{text}").read_bytes() == (tmp_path / f"plain.{text}").read_bytes(), text
+        assert (tmp_path
+                / f"copy.{text}").read_bytes() == (tmp_path / f"plain.{text}").read_bytes(), text
 
 
 @pytest.mark.parametrize("text, old, new, told", [
     ("blocks", "1 1 0 0", "7 1 0 0", "identifiers are not 0, 1, 2"),
     ("blocks", "1.8 0", "1.8", "no line of a block file, of 7 fields"),
-    ("blocks", "0 0 0 0 2700 1.8 0", "0 0 0 0 2700 1.8 0 ore", "no line of a block file, of 7 fields"),
-    ("blocks", "2700 1.8 0", "2700.0001 1.8 0", "2700.0001 has more than 3 decimals"),
+    ("blocks", "0 0 0 0 2700 1.8 0", "0 0 0 0 2700 1.8 0 ore", "no line of a block file, of 7 "
+     "fields"), ("blocks", "2700 1.8 0", "2700.0001 1.8 0", "2700.0001 has more than 3 decimals"),
     ("blocks", "2700 1.8 0", "2700 1.8000001 0", "has more than 6 decimals"),
     ("blocks", "2700 1.8 0", "inf 1.8 0", "cannot be held"),
     ("blocks", "2700 1.8 0", "2700 1.8 4294967296", "a whole number is not from"),
@@ -90,8 +94,7 @@ def test_files_that_check_accepts_are_read(tmp_path):
     ("pcpsp", "0 0 L 60000", "0 0 X 60000", "no limit"),
     ("pcpsp", "0 0 L 60000", "0 9 L 60000", "a limit's resource or period"),
     ("cpit", "0 0 2700", "0 5 2700", "a coefficient's resource"),
-    ("upit", "0 221940", "0 99999999999999999999", "cannot be held"),
-])
+    ("upit", "0 221940", "0 99999999999999999999", "cannot be held")])
 def test_a_damaged_file_is_refused_by_its_name(tmp_path, text, old, new, told):
     base = mines.six_blocks(tmp_path)
     path = tmp_path / f"mine.{text}"
@@ -118,11 +121,13 @@ def test_predecessors_are_counted_without_reading_them(tmp_path):
     assert counts.tolist() == np.diff(mine.precedence.indptr).tolist()
 
 
-@pytest.mark.parametrize("zone", ["zone,1,1,3", "zone,3,2,1,1,5,4,5,4,4", "zone,839,1000,2", "zone,1000,701,4", "zone,2,1,1,3,1,2,7,5,3"])
+@pytest.mark.parametrize("zone", ["zone,1,1,3", "zone,3,2,1,1,5,4,5,4,4", "zone,839,1000,2",
+                                  "zone,1000,701,4", "zone,2,1,1,3,1,2,7,5,3"])
 def test_arcs_by_cones_are_those_of_the_files(tmp_path, zone):
     base = mines.six_blocks(tmp_path, ("zone,1,1,1", zone), ("10,10,10", "10,5,10"))
-    rows = "x,y,z,tonnes,grade\n" + "".join(
-        f"{10 * x},{5 * y},{10 * z},1,0\n" for z in range(5) for y in range(7) for x in range(6) if (x + 2 * y + 3 * z) % 7)
+    rows = "x,y,z,tonnes,grade\n" + "".join(f"{10 * x},{5 * y},{10 * z},1,0\n" for z in range(5)
+                                            for y in range(7)
+                                            for x in range(6) if (x + 2 * y + 3 * z) % 7)
     base = mines.compiled(tmp_path, (tmp_path / "mine.plan").read_text(), [rows])
     mine = read_instance(base)
     assert mine.precedence.nnz > 200
@@ -130,15 +135,37 @@ def test_arcs_by_cones_are_those_of_the_files(tmp_path, zone):
     assert (found != mine.precedence).nnz == 0
 
 
-@pytest.mark.parametrize("make", [
-    mines.six_blocks,
-    lambda folder: mines.deposit(folder, 5, (8, 6, 5), "pipe", 3),
-    lambda folder: mines.six_blocks(folder, ("6000000,1500", "99999999,9999999"), ("dump,200", "dump,1")),
-])
+@pytest.mark.parametrize(
+    "make", [mines.six_blocks, lambda folder: mines.deposit(folder, 5, (8, 6, 5), "pipe", 3),
+             lambda folder: mines.six_blocks(folder, ("6000000,1500", "99999999,9999999"),
+                                             ("dump,200", "dump,1"))])
 def test_the_instance_that_a_plan_defines_is_that_of_the_plain_computation(tmp_path, make):
     base = make(tmp_path)
     plan = read_plan(base + ".plan")
     zones = [f"{base}-{number}.csv" for number in range(len(plan.zones))]
-    write_instance(instance_of(plan, blocks_of(plan.grid, read_zone_files(zones))), str(tmp_path / "copy"))
+    write_instance(instance_of(plan, blocks_of(plan.grid, read_zone_files(zones))),
+                   str(tmp_path / "copy"))
     for text in instance.TEXTS:
         assert (tmp_path / f"copy.{text}").read_bytes() == open(f"{base}.{text}", "rb").read(), text
+
+
+@pytest.mark.parametrize("case", range(12))
+def test_worths_are_exact_however_great_the_numbers_are(case):
+    """Beside whole numbers of Python, where floats would do and where they are off by cents."""
+    chances = np.random.default_rng(case)
+    tonnes, grade = 10 ** chances.integers(1, 10), 10 ** chances.integers(1, 13)
+    kilograms, grades = chances.integers(0, tonnes, 800), chances.integers(0, grade, 800)
+    if case % 3 == 0:
+        # Round numbers, whose worths are whole cents, or less than one beside them.
+        kilograms, grades = kilograms // 1000 * 1000, grades // 10**6 * 10**6
+    shares = [int(share) for share in chances.integers(0, 1001, 2)]
+    price = int(chances.integers(0, 10**chances.integers(1, 9)))
+    cost = int(chances.integers(0, 10**chances.integers(1, 8)))
+    bands = ((Decimal(0), shares[0]), (Decimal("0.3"), shares[1]))
+    one = Destination("leach", "heap", price, cost, bands)
+    metal = [int(t) * int(g) * shares[int(g >= 300_000)] for t, g in zip(kilograms, grades)]
+    wanted = [(one * price - int(t) * cost * 10**12) // 10**15 for one, t in zip(metal, kilograms)]
+    assert worth_in_cents(one, kilograms, grades).tolist() == wanted
+    dump = Destination("dump", "dump", 0, cost)
+    wanted = [-int(t) * cost // 1000 for t in kilograms]
+    assert worth_in_cents(dump, kilograms, grades).tolist() == wanted

@@ -21,12 +21,14 @@ def test_each_name_is_there_and_says_what_it_is(name):
     found = getattr(pit_tools, name)
     assert found.__doc__ and name in dir(pit_tools)
     if inspect.isclass(found):
-        methods = [member for key, member in vars(found).items() if inspect.isfunction(member) and key[0] != "_"]
+        methods = [member for key, member in vars(found).items()
+                   if inspect.isfunction(member) and key[0] != "_"]
         assert all(method.__doc__ for method in methods), name
     else:
         kinds = inspect.signature(found)
         assert kinds.return_annotation is not inspect.Signature.empty
-        assert all(one.annotation is not inspect.Parameter.empty for one in kinds.parameters.values())
+        assert all(one.annotation is not inspect.Parameter.empty
+                   for one in kinds.parameters.values())
 
 
 def test_the_page_has_the_names_and_no_others():
@@ -48,7 +50,8 @@ def test_the_package_alone_loads_nothing_heavy():
 def test_frames_of_blocks_and_uses(tmp_path):
     mine = pit_tools.read_instance(mines.six_blocks(tmp_path))
     blocks, uses = mine.blocks.frame(), mine.cpit.uses.frame()
-    assert blocks.columns.tolist() == ["x", "y", "z", "tonnes", "grade", "zone"] and blocks.index.name == "block"
+    assert blocks.columns.tolist() == ["x", "y", "z", "tonnes", "grade",
+                                       "zone"] and blocks.index.name == "block"
     assert blocks.loc[4].tolist() == [1, 0, 1, 2650, 0.45, 0]
     assert uses[uses["block"] == 4].values.tolist() == [[4, 0, 0, 2650], [4, 0, 1, 2650]]
 
@@ -56,16 +59,19 @@ def test_frames_of_blocks_and_uses(tmp_path):
 def test_rows_of_a_program_by_what_they_say(tmp_path):
     mine = pit_tools.read_instance(mines.six_blocks(tmp_path))
     n, periods, arcs = 6, 3, mine.precedence.nnz
-    for problem, relaxed, wanted in ((mine.cpit, False, {"periods": n * periods, "arcs": arcs * periods, "limits": 4}),
-                                     (mine.pcpsp, True, {"ends": n * (periods - 1), "arcs": arcs * periods,
-                                                         "shares": n * periods, "limits": 4})):
+    for problem, relaxed, wanted in (
+            (mine.cpit, False, {"periods": n * periods, "arcs": arcs * periods, "limits": 4}),
+            (mine.pcpsp, True, {"ends": n * (periods - 1), "arcs": arcs * periods,
+                                "shares": n * periods, "limits": 4})):
         program = pit_tools.program_of(problem, mine.precedence, relaxed)
-        assert {kind: len(program.rows_of(kind)) for kind in programs.ROWS if len(program.rows_of(kind))} == wanted
+        assert {kind: len(program.rows_of(kind))
+                for kind in programs.ROWS if len(program.rows_of(kind))} == wanted
         limits = program.rows_of("limits")
         assert program.upper[limits].tolist() == [limit.most for limit in problem.limits]
         assert program.lower[limits].tolist() == [limit.least for limit in problem.limits]
     short = programs.by_period(pit_tools.program_of(mine.cpit, mine.precedence))
-    assert short.upper[short.rows_of("limits")].tolist() == [limit.most for limit in mine.cpit.limits]
+    assert short.upper[short.rows_of("limits")].tolist() == [limit.most
+                                                             for limit in mine.cpit.limits]
     assert len(short.rows_of("once")) == n and len(short.kinds) == short.rows.shape[0]
     upit = pit_tools.program_of_upit(mine.upit, mine.precedence)
     assert upit.rows_of("arcs").tolist() == list(range(arcs))

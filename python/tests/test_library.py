@@ -1,4 +1,5 @@
-"""The library's tables, sums and schedules are those of the deposits that its seeds make, and better ones come in."""
+"""The library's tables, sums and schedules are those of the deposits that its seeds make, and
+better ones come in."""
 import os
 import re
 
@@ -20,14 +21,17 @@ def test_the_library_is_as_its_table_says(tmp_path):
 def test_no_schedule_is_worth_more_than_its_bound_and_a_pcpsp_no_less_than_its_cpit():
     table = pd.read_csv(library.FOLDER + "/TABLE", sep=" ")
     assert len(table) == 10 == len({deposit.seed for deposit in library.DEPOSITS})
-    assert (table.cpit_best <= table.cpit_bound + 0.01).all() and (table.pcpsp_best <= table.pcpsp_bound + 0.01).all()
-    assert (table.pcpsp_best >= table.cpit_best).all() and (table.pcpsp_bound <= table.pit_value).all()
+    assert ((table.cpit_best <= table.cpit_bound + 0.01).all()
+            and (table.pcpsp_best <= table.pcpsp_bound + 0.01).all())
+    assert ((table.pcpsp_best >= table.cpit_best).all()
+            and (table.pcpsp_bound <= table.pit_value).all())
 
 
 def test_each_schedule_has_a_day_an_author_and_a_way(capsys):
     assert main(["library", "--found"]) == 0
     lines = [line.split(",", 4) for line in capsys.readouterr().out.splitlines()[1:]]
-    assert [line[:2] for line in lines] == [[deposit.name, kind] for deposit in library.DEPOSITS for kind in ("cpit", "pcpsp")]
+    assert [line[:2] for line in lines] == [[deposit.name, kind] for deposit in library.DEPOSITS
+                                            for kind in ("cpit", "pcpsp")]
     assert all(re.fullmatch(r"\d{4}-\d\d-\d\d", line[2]) and line[3] and line[4] for line in lines)
 
 
@@ -63,11 +67,13 @@ def test_a_better_schedule_is_taken_with_its_day_and_author(known, tmp_path, cap
     (tmp_path / path.name).write_text(text)
     path.write_text("".join(text.splitlines(True)[:-1]))
     set_cells(known, cpit_best="1.00")
-    words = ["library", "--library", str(known), "--better", str(tmp_path / path.name), "--by", "A. Miner, B", "--how", "by hand"]
+    words = ["library", "--library", str(known), "--better", str(tmp_path / path.name), "--by",
+             "A. Miner, B", "--how", "by hand"]
     assert main(words) == 0 and f"lens6 cpit: {best} in place of 1.00" in capsys.readouterr().out
     assert path.read_text() == text and cells(known)["cpit_best"] == best
     line = library.table_of(str(known), "FOUND").query("name == 'lens6' and kind == 'cpit'").iloc[0]
-    assert (line["by"], line["how"]) == ("A. Miner, B", "by hand") and re.fullmatch(r"\d{4}-\d\d-\d\d", line["date"])
+    assert (line["by"], line["how"]) == ("A. Miner, B", "by "
+                                         "hand") and re.fullmatch(r"\d{4}-\d\d-\d\d", line["date"])
     assert main(["library", "--check", "--library", str(known)]) == 0
     before = {name: (known / name).read_bytes() for name in os.listdir(known)}
     assert main(words) == 1 and f"{best} is not above {best}" in capsys.readouterr().out
@@ -83,22 +89,25 @@ def test_a_schedule_that_does_not_hold_is_refused(known, tmp_path, capsys, chang
     given.write_text(change((known / given.name).read_text()))
     set_cells(known, cpit_best="1.00")
     before = {name: (known / name).read_bytes() for name in os.listdir(known)}
-    assert main(["library", "--library", str(known), "--better", str(given), "--by", "me", "--how", "so"]) == 2
+    assert main(["library", "--library", str(known), "--better", str(given), "--by", "me", "--how",
+                 "so"]) == 2
     assert told in capsys.readouterr().err
     assert {name: (known / name).read_bytes() for name in os.listdir(known)} == before
 
 
 def test_a_value_above_its_bound_is_told(known, tmp_path, capsys):
     set_cells(known, cpit_best="1.00", cpit_bound="2.00")
-    assert main(["library", "--library", str(known), "--better", str(known / "lens6.cpit-schedule"), "--by", "me", "--how", "so"]) == 2
+    assert main(["library", "--library", str(known), "--better", str(known / "lens6.cpit-schedule"),
+                 "--by", "me", "--how", "so"]) == 2
     assert "above the bound 2.00" in capsys.readouterr().err
 
 
-@pytest.mark.parametrize("words, told", [
-    (["--better", "mine.schedule", "--by", "me", "--how", "so"], "names no schedule of the library"),
-    (["--better", "lens2.cpit-schedule", "--by", "me", "--how", "so"], "names no schedule"),
-    (["--better", "lens6.cpit-schedule"], "needs --by"), (["--library", "gone", "--check"], "no library"),
-])
+@pytest.mark.parametrize("words, told",
+                         [(["--better", "mine.schedule", "--by", "me", "--how", "so"], "names no "
+                           "schedule of the library"), (["--better", "lens2.cpit-schedule", "--by",
+                                                         "me", "--how", "so"], "names no schedule"),
+                          (["--better", "lens6.cpit-schedule"], "needs --by"),
+                          (["--library", "gone", "--check"], "no library")])
 def test_what_names_nothing_is_told(tmp_path, monkeypatch, capsys, words, told):
     monkeypatch.chdir(tmp_path)
     assert main(["library", *words]) == 2 and told in capsys.readouterr().err
@@ -110,13 +119,15 @@ def test_a_lower_bound_comes_in_alone(known):
     before = cells(known)
     bound = (float(before["pcpsp_best"]) + float(before["pcpsp_bound"])) / 2
     told = taken(Finding(deposit, kind, None, bound, "me", "so"), mine, str(known))
-    assert f"bound {bound:.2f}" in told and cells(known) == {**before, "pcpsp_bound": f"{bound:.2f}"}
+    assert f"bound {bound:.2f}" in told and cells(known) == {**before,
+                                                             "pcpsp_bound": f"{bound:.2f}"}
 
 
 def test_a_search_from_the_best_takes_nothing(known, capsys):
     assert main(["library", "--library", str(known), "--seek", "vein5.cpit", "--seconds", "2"]) == 1
     best = cells(known, "vein5")["cpit_best"]
-    assert best == cells(known, "vein5")["cpit_bound"] and f"vein5 cpit: {best} is not above {best}" in capsys.readouterr().out
+    assert best == cells(known, "vein5")[
+        "cpit_bound"] and f"vein5 cpit: {best} is not above {best}" in capsys.readouterr().out
 
 
 def test_a_library_is_made_anew(tmp_path, monkeypatch):

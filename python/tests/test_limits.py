@@ -1,4 +1,5 @@
-"""What an export must not do: stand half in its archive, grow beyond all measure, or have numbers that cannot be held."""
+"""What an export must not do: stand half in its archive, grow beyond all measure, or have numbers
+that cannot be held."""
 import bz2
 import gzip
 import io
@@ -12,7 +13,8 @@ from pit_tools.cli import main
 
 HEAD = "X,Y,Z,T,AU\n"
 
-ROWS = "".join(f"{x},{y},{z},1000,{x % 3}.5\n" for x in range(0, 40, 10) for y in (0, 10) for z in (0, 10))
+ROWS = "".join(f"{x},{y},{z},1000,{x % 3}.5\n" for x in range(0, 40, 10) for y in (0, 10)
+               for z in (0, 10))
 
 WORDS = ["--x", "X", "--y", "Y", "--z", "Z"]
 
@@ -44,15 +46,18 @@ def test_a_formula_that_overflows_stops_with_its_line(tmp_path, capsys, measures
 
 
 def test_a_division_by_nothing_is_missing_and_no_overflow(tmp_path, capsys):
-    assert imported(tmp_path, HEAD + ROWS + "0,0,20,0,1\n", capsys, ["--tonnes", "1000 * T / T", "--grade", "AU"])[0] == 0
+    assert imported(tmp_path, HEAD + ROWS + "0,0,20,0,1\n", capsys,
+                    ["--tonnes", "1000 * T / T", "--grade", "AU"])[0] == 0
 
 
-@pytest.mark.parametrize("pack, ending", [(gzip.compress, "gz"), (bz2.compress, "bz2"), (lzma.compress, "xz")])
+@pytest.mark.parametrize("pack, ending",
+                         [(gzip.compress, "gz"), (bz2.compress, "bz2"), (lzma.compress, "xz")])
 def test_an_archive_that_was_cut_is_told_by_its_name(tmp_path, capsys, pack, ending):
     packed = pack((HEAD + ROWS).encode())
     assert imported(tmp_path, packed, capsys, name=f"a.{ending}")[0] == 0
     status, told = imported(tmp_path, packed[:-9], capsys, name=f"a.{ending}")
-    assert status == 2 and told.startswith(f"pit-tools import: a.{ending}: the archive is ") and told.count("\n") == 1
+    assert (status == 2 and told.startswith(f"pit-tools import: a.{ending}: the archive is ")
+            and told.count("\n") == 1)
 
 
 def zipped(text, damage=None):
@@ -69,7 +74,8 @@ def test_a_zip_that_is_damaged_is_told_by_its_name(tmp_path, capsys):
     assert imported(tmp_path, zipped(HEAD + ROWS), capsys, name="a.zip")[0] == 0
     for content in (zipped(HEAD + ROWS, 60), zipped(HEAD + ROWS)[:80]):
         status, told = imported(tmp_path, content, capsys, name="a.zip")
-        assert status == 2 and told.startswith("pit-tools import: a.zip: the archive is cut short or damaged")
+        assert status == 2 and told.startswith("pit-tools import: a.zip: the archive is cut short "
+                                               "or damaged")
 
 
 def test_a_text_that_begins_with_pk_is_no_archive(tmp_path, capsys):
@@ -79,12 +85,15 @@ def test_a_text_that_begins_with_pk_is_no_archive(tmp_path, capsys):
 
 def test_an_archive_that_grows_beyond_all_measure_is_refused(tmp_path, capsys, monkeypatch):
     monkeypatch.setattr("pit_tools.source.LEAST_UNPACKED", 100_000)
-    status, told = imported(tmp_path, gzip.compress((HEAD + ROWS + "0,0,20,1000,1\n" * 100_000).encode()), capsys, name="a.gz")
+    status, told = imported(tmp_path,
+                            gzip.compress((HEAD + ROWS + "0,0,20,1000,1\n" * 100_000).encode()),
+                            capsys, name="a.gz")
     assert status == 2 and "a.gz: the archive unpacks to more than 200 times its size" in told
 
 
 def test_a_long_cell_in_quotes_is_read(tmp_path, capsys):
-    text = HEAD.replace("AU", "AU,NOTE") + "".join(f'{row},"{"x" * 200_000}"\n' for row in ROWS.splitlines()[:8])
+    text = HEAD.replace("AU", "AU,NOTE") + "".join(f'{row},"{"x" * 200_000}"\n'
+                                                   for row in ROWS.splitlines()[:8])
     assert imported(tmp_path, text, capsys)[0] == 0
 
 
@@ -106,7 +115,8 @@ def test_a_header_of_as_many_columns_as_a_sheet_has_is_read_in_seconds(tmp_path,
     import time
 
     many = 16_384 - 5
-    text = HEAD.strip() + "," + ",".join(f"C{at}" for at in range(many)) + "\n" + "".join(row + ",1" * many + "\n" for row in ROWS.splitlines()[:8])
+    text = (HEAD.strip() + "," + ",".join(f"C{at}" for at in range(many)) + "\n"
+            + "".join(row + ",1" * many + "\n" for row in ROWS.splitlines()[:8]))
     begun = time.process_time()
     assert imported(tmp_path, text, capsys)[0] == 0
     assert time.process_time() - begun < 20
@@ -127,9 +137,12 @@ def test_a_dollar_in_a_name_is_text_in_a_picture():
 
 
 def test_two_blocks_far_apart_are_told_in_place_of_terabytes(tmp_path, capsys):
-    (tmp_path / "mine.plan").write_text("name,mine\ngrid,0,0,0,1,1,1\nzone,1,1,2\nmill,mill,900,6000000,1500\nperiods,1\nrate,0.1\n")
+    (tmp_path / "mine.plan").write_text(
+        "name,mine\ngrid,0,0,0,1,1,1\nzone,1,1,2\nmill,mill,900,6000000,1500\nperiods,1\n"
+        "rate,0.1\n")
     (tmp_path / "mine.blocks").write_text("0 0 0 0 1000 1 0\n1 9999 9999 9999 1000 1 0\n")
-    (tmp_path / "mine.upit").write_text("NAME: mine\nTYPE: UPIT\nNBLOCKS: 2\nOBJECTIVE_FUNCTION:\n0 1\n1 1\n")
+    (tmp_path / "mine.upit").write_text("NAME: mine\nTYPE: UPIT\nNBLOCKS: "
+                                        "2\nOBJECTIVE_FUNCTION:\n0 1\n1 1\n")
     base = str(tmp_path / "mine")
     assert main(["pit", base, "--plan", base + ".plan", "--K", "1"]) == 2
     told = capsys.readouterr().err

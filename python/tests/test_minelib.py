@@ -1,4 +1,5 @@
-"""MineLib files of other programs, both ways. No file of the library was at hand: these are as they are remembered."""
+"""MineLib files of other programs, both ways. No file of the library was at hand: these are as they
+are remembered."""
 import random
 
 import numpy as np
@@ -16,9 +17,10 @@ def lines_of(path):
 
 
 def foreign(base, folder, first=0, order="bdr", turn=False):
-    """The files of an instance as another program may write them: sections and lines in another order, exponents,
-    `<=`, blanks in NAME, comments, EOF, identifiers from `first`, no line for blocks without predecessors, words
-    among the fields of a block; `turn` makes the last block the first one."""
+    """The files of an instance as another program may write them: sections and lines in another
+    order, exponents, `<=`, blanks in NAME, comments, EOF, identifiers from `first`, no line for
+    blocks without predecessors, words among the fields of a block; `turn` makes the last block the
+    first one."""
     last = len(lines_of(f"{base}.blocks")) - 1
 
     def published(block):
@@ -30,10 +32,12 @@ def foreign(base, folder, first=0, order="bdr", turn=False):
         lines = lines_of(f"{base}.{ending}")
         out = ["% from another program"]
         if ending == "blocks":
-            out += [" ".join([published(line.split()[0]), *line.split()[1:4], "0.5", "FRTC", *line.split()[4:6]]) for line in lines]
+            out += [" ".join([published(line.split()[0]), *line.split()[1:4], "0.5", "FRTC",
+                              *line.split()[4:6]]) for line in lines]
         elif ending == "prec":
             fields = [[int(field) for field in line.split()] for line in lines]
-            out += [" ".join([published(f[0]), str(f[1]), *map(published, f[2:])]) for f in fields if f[1]]
+            out += [" ".join([published(f[0]), str(f[1]), *map(published, f[2:])])
+                    for f in fields if f[1]]
             shuffle(out)
         else:
             parts = {"": []}
@@ -46,11 +50,14 @@ def foreign(base, folder, first=0, order="bdr", turn=False):
                 else:
                     parts[list(parts)[-1]].append(line.split())
             for section, rows in reversed(list(parts.items())[1:]):
-                rows = [[published(row[0]), *row[1:]] if "LIMIT" not in section.split("_")[-1] else row for row in rows]
+                rows = [[published(row[0]), *row[1:]] if "LIMIT" not in section.split("_")[-1]
+                        else row for row in rows]
                 if "LIMITS" in section:
-                    rows = [[row[0], row[1], "<=", row[3], "-1"] if row[2] == "L" else row for row in rows]
+                    rows = [[row[0], row[1], "<=", row[3], "-1"] if row[2] == "L" else row
+                            for row in rows]
                 elif "OBJECTIVE" in section:
-                    rows = [[row[0], *(f"{float(value):.12e}" for value in row[1:])] for row in rows]
+                    rows = [[row[0], *(f"{float(value):.12e}" for value in row[1:])]
+                            for row in rows]
                 elif order == "brd" and ending == "pcpsp":
                     rows = [[row[0], row[2], row[1], row[3]] for row in rows]
                 shuffle(rows)
@@ -71,15 +78,18 @@ def words_of(files, *endings):
 
 @pytest.mark.parametrize("first, order", [(0, "bdr"), (1, "bdr"), (0, "brd")])
 def test_files_of_another_program_become_the_instance_again(tmp_path, first, order):
-    base = mines.six_blocks(tmp_path, name="mine") if order == "brd" else mines.deposit(tmp_path, K=2)
+    base = mines.six_blocks(tmp_path,
+                            name="mine") if order == "brd" else mines.deposit(tmp_path, K=2)
     files = foreign(base, tmp_path, first, order)
-    words = words_of(files, *instance.TEXTS) + ["--tonnes", "7", "--grade", "8", "--out", str(tmp_path / "again"), "--order", order]
+    words = words_of(files, *instance.TEXTS) + ["--tonnes", "7", "--grade", "8", "--out",
+                                                str(tmp_path / "again"), "--order", order]
     assert main(["minelib", *words]) == 0
     for ending in instance.TEXTS:
         wanted = lines_of(f"{base}.{ending}")
         if ending == "blocks":
             wanted = [line.rsplit(" ", 1)[0] + " 0" for line in wanted]
-        found = [line.replace("the_mine", "mine") for line in lines_of(tmp_path / f"again.{ending}")]
+        found = [line.replace("the_mine", "mine")
+                 for line in lines_of(tmp_path / f"again.{ending}")]
         assert found == wanted, ending
 
 
@@ -87,26 +97,29 @@ def test_files_of_another_program_become_the_instance_again(tmp_path, first, ord
 def test_what_is_lacking_is_made_of_the_others(tmp_path, capsys, given, made):
     base = mines.six_blocks(tmp_path)
     files = {ending: f"{base}.{ending}" for ending in instance.TEXTS}
-    assert main(["minelib", *words_of(files, "blocks", "prec", given), "--tonnes", "5", "--grade", "6", "--out", str(tmp_path / "again")]) == 0
+    assert main(["minelib", *words_of(files, "blocks", "prec", given), "--tonnes", "5", "--grade",
+                 "6", "--out", str(tmp_path / "again")]) == 0
     for ending in made:
         assert lines_of(tmp_path / f"again.{ending}") == lines_of(f"{base}.{ending}")
     again = read_instance(str(tmp_path / "again"))
-    assert again.pcpsp.destinations == (3 if given == "pcpsp" else 1) and "was made of" in capsys.readouterr().out
+    assert (again.pcpsp.destinations == (3 if given == "pcpsp" else 1)
+            and "was made of" in capsys.readouterr().out)
 
 
 def test_a_upit_alone(tmp_path):
     base = mines.six_blocks(tmp_path)
     files = {ending: f"{base}.{ending}" for ending in instance.TEXTS}
-    assert main(["minelib", *words_of(files, "blocks", "prec", "upit"), "--out", str(tmp_path / "again")]) == 0
+    assert main(["minelib", *words_of(files, "blocks", "prec", "upit"), "--out",
+                 str(tmp_path / "again")]) == 0
     again = read_instance(str(tmp_path / "again"))
-    assert again.pcpsp.periods == 1 and again.pcpsp.values[:, 0].tolist() == again.upit.values.tolist() == [221940, 309420, 61560, -5300, 24645, -5300]
+    assert again.pcpsp.periods == 1 and again.pcpsp.values[
+        :, 0].tolist() == again.upit.values.tolist() == [221940, 309420, 61560, -5300, 24645, -5300]
 
 
 @pytest.mark.parametrize("ending, old, new, told", [
     ("pcpsp", "NGENERAL_SIDE_CONSTRAINTS: 0", "NGENERAL_SIDE_CONSTRAINTS: 2",
-     "2 general side constraints"),
-    ("pcpsp", "0 2 1 2700", "0 7 1 2700",
-     "line 20: in the order bdr of fields the destination is 7, and there are 3"),
+     "2 general side constraints"), ("pcpsp", "0 2 1 2700", "0 7 1 2700", "line 20: in the order "
+                                     "bdr of fields the destination is 7, and there are 3"),
     ("pcpsp", "0 0 L 60000", "0 0 X 60000", "line 42: no limit"),
     ("pcpsp", "0 0 L 60000", "0 0 L nan", "line 42: no limit"),
     ("pcpsp", "0 0 L 60000", "0 0 G Infinity", "line 42: no amount is within this limit"),
@@ -115,51 +128,49 @@ def test_a_upit_alone(tmp_path):
     ("pcpsp", "0 1 L 60000", "0 3 L 60000", "line 43: there are 2 resources and 3 periods"),
     ("pcpsp", "0 0 1 2700", "0 0 0 2700", "stands twice: block 0, destination 0, resource 0"),
     ("pcpsp", "0 0 1 2700", "0 0 1", "line 18: 3 fields, and a coefficient of a PCPSP has 4"),
-    ("pcpsp", "0 0 1 2700", "0 0 1 inf",
-     "line 18: field 4 of a coefficient of a PCPSP, `inf`, is no number"),
-    ("pcpsp", "DISCOUNT_RATE: 0.08", "DISCOUNT: 0.08",
-     "no DISCOUNT_RATE; not known: DISCOUNT in line 8"),
+    ("pcpsp", "0 0 1 2700", "0 0 1 inf", "line 18: field 4 of a coefficient of a PCPSP, `inf`, is "
+     "no number"), ("pcpsp", "DISCOUNT_RATE: 0.08", "DISCOUNT: 0.08",
+                    "no DISCOUNT_RATE; not known: DISCOUNT in line 8"),
     ("pcpsp", "DISCOUNT_RATE: 0.08", "DISCOUNT_RATE: 8", "is it in percent?"),
     ("pcpsp", "DISCOUNT_RATE: 0.08", "NAME: mine", "line 8: NAME stands twice"),
     ("pcpsp", "TYPE: PCPSP", "TYPE: CPIT", "TYPE is `CPIT`, and it is given as a PCPSP"),
     ("pcpsp", "NBLOCKS: 6", "NBLOCKS: 7", "NBLOCKS is 7, and the objective has 6 lines"),
-    ("pcpsp", "NDESTINATIONS: 3", "NDESTINATIONS: 2", "NDESTINATIONS is 2, and blocks have 3 values"),
-    ("pcpsp", "NPERIODS: 3", "NPERIODS: 101", "NPERIODS is `101`"),
+    ("pcpsp", "NDESTINATIONS: 3", "NDESTINATIONS: 2", "NDESTINATIONS is 2, and blocks have 3 "
+     "values"), ("pcpsp", "NPERIODS: 3", "NPERIODS: 101", "NPERIODS is `101`"),
     ("pcpsp", "RESOURCE_CONSTRAINT_LIMITS:", "RESOURCE_CONSTRAINTS_LIMITS:",
      "line 41: no section that is known: is it RESOURCE_CONSTRAINT_LIMITS"),
     ("pcpsp", "RESOURCE_CONSTRAINT_COEFFICIENTS:", "RESOURCE_CONSTRAINT_COEFICIENTS:",
      "line 16: no section that is known: is it RESOURCE_CONSTRAINT_COEFFICIENTS"),
-    ("pcpsp", "RESOURCE_CONSTRAINT_LIMITS:\n0 0 L 60000\n0 1 L 60000\n0 2 L 60000\n1 0 I 0 120000\n", "",
-     "no section RESOURCE_CONSTRAINT_LIMITS, and there are 2 resources"),
-    ("pcpsp", "OBJECTIVE_FUNCTION:", "OBJECTIVE_FUNCTION: max", "line 9: nothing stands behind OBJ"),
-    ("pcpsp", "RESOURCE_CONSTRAINT_LIMITS:", "OBJECTIVE_FUNCTION:",
-     "line 41: the section stands in line 9 too"),
+    ("pcpsp", "RESOURCE_CONSTRAINT_LIMITS:\n0 0 L 60000\n0 1 L 60000\n0 2 L 60000\n1 0 I 0 "
+     "120000\n", "", "no section RESOURCE_CONSTRAINT_LIMITS, and there are 2 resources"),
+    ("pcpsp", "OBJECTIVE_FUNCTION:", "OBJECTIVE_FUNCTION: max", "line 9: nothing stands behind "
+     "OBJ"), ("pcpsp", "RESOURCE_CONSTRAINT_LIMITS:", "OBJECTIVE_FUNCTION:",
+              "line 41: the section stands in line 9 too"),
     ("pcpsp", "1 309420 197640 -5400", "1 309420 197640", "line 11: 3 fields"),
-    ("pcpsp", "1 309420 197640 -5400", "0 309420 197640 -5400", "line 11: the objective has 6 lines"),
-    ("pcpsp", "1 309420 197640 -5400", "1 inf 197640 -5400", "line 11: field 2"),
+    ("pcpsp", "1 309420 197640 -5400", "0 309420 197640 -5400", "line 11: the objective has 6 "
+     "lines"), ("pcpsp", "1 309420 197640 -5400", "1 inf 197640 -5400", "line 11: field 2"),
     ("pcpsp", "1 309420 197640 -5400", "1 1e400 197640 -5400", "`1e400`, is too great"),
     ("pcpsp", "1 309420 197640 -5400", "1 1e-400 197640 -5400", "`1e-400`, is too small"),
-    ("pcpsp", "1 309420 197640 -5400", "1 1e15 197640 -5400", "line 11: a value is too great to be held"),
-    ("prec", "0 2 3 4", "0 2 3 9", "line 1: a predecessor 9 is not one of the 6"),
+    ("pcpsp", "1 309420 197640 -5400", "1 1e15 197640 -5400", "line 11: a value is too great to be "
+     "held"), ("prec", "0 2 3 4", "0 2 3 9", "line 1: a predecessor 9 is not one of the 6"),
     ("prec", "2 2 4 5", "7 2 4 5", "line 3: the block 7 is not one of the 6"),
-    ("prec", "0 2 3 4", "0 3 3 4", "line 1: 2 predecessors stand in a line `id k p1 .. pk`, and k is 3"),
-    ("prec", "2 2 4 5", "2 2 4 x", "line 3: no line `id k p1 .. pk`"),
+    ("prec", "0 2 3 4", "0 3 3 4", "line 1: 2 predecessors stand in a line `id k p1 .. pk`, and k "
+     "is 3"), ("prec", "2 2 4 5", "2 2 4 x", "line 3: no line `id k p1 .. pk`"),
     ("prec", "2 2 4 5", "1 2 4 5", "line 3: the block has a line before"),
     ("prec", "2 2 4 5", "2 2 4 4", "line 3: the block names a predecessor twice, or itself"),
     ("prec", "2 2 4 5", "2 2 2 5", "line 3: the block names a predecessor twice, or itself"),
     ("prec", "5 0", "5 1 1", "blocks wait for one another in a ring: 1, 5, 1"),
-    ("blocks", "0 0 0 0", "9 0 0 0", "line 1: identifiers are not consecutive: 5 is the one before"),
-    ("blocks", "1 1 0 0", "2 1 0 0", "line 2: identifiers are not consecutive: 0 is the one before"),
-    ("blocks", "5 2 0 1", "5 20000 0 1", "are these metres"),
+    ("blocks", "0 0 0 0", "9 0 0 0", "line 1: identifiers are not consecutive: 5 is the one "
+     "before"), ("blocks", "1 1 0 0", "2 1 0 0", "line 2: identifiers are not consecutive: 0 is "
+                 "the one before"), ("blocks", "5 2 0 1", "5 20000 0 1", "are these metres"),
     ("blocks", "5 2 0 1", "5 2 0.5 1", "line 6: the index y is 0.5"),
-    ("blocks", "5 2 0 1 2650", "5 2 0 1 5100000",
-     "line 6: the tonnes is 5100000, and `pitc check` takes 0 to 1,000,000"),
-    ("blocks", "5 2 0 1 2650", "5 2 0 1 -1", "line 6: the tonnes is -1"),
-    ("blocks", "5 2 0 1 2650", "5 2 0 1 waste", "line 6: field 5 of a block line, `waste`, is no number"),
+    ("blocks", "5 2 0 1 2650", "5 2 0 1 5100000", "line 6: the tonnes is 5100000, and `pitc check` "
+     "takes 0 to 1,000,000"), ("blocks", "5 2 0 1 2650", "5 2 0 1 -1", "line 6: the tonnes is -1"),
+    ("blocks", "5 2 0 1 2650", "5 2 0 1 waste",
+     "line 6: field 5 of a block line, `waste`, is no number"),
     ("blocks", "5 2 0 1 2650 0 0", "5 2 0 1", "line 6: 4 fields, and a block line has at least 6"),
     ("blocks", "5 2 0 1", "EOF\n5 2 0 1", "line 7: it stands behind EOF"),
-    ("blocks", "5 2 0 1", "5\0 2 0 1", "bytes of 0"),
-])
+    ("blocks", "5 2 0 1", "5\0 2 0 1", "bytes of 0")])
 def test_what_cannot_be_brought_in_is_told_by_its_line(tmp_path, capsys, ending, old, new, told):
     base = mines.six_blocks(tmp_path)
     whole = (tmp_path / f"mine.{ending}").read_text()
@@ -174,29 +185,32 @@ def test_what_cannot_be_brought_in_is_told_by_its_line(tmp_path, capsys, ending,
 
 
 @pytest.mark.parametrize("ending, old, new, told, line", [
-    ("blocks", "1 1 0 0 2700 2.4 0", "1 1 0 0 2700.00049 2.4000001 0", "line 2: tonnes were rounded to 3 decimals",
-     "1 1 0 0 2700 2.4 0"),
-    ("blocks", "1 1 0 0 2700 2.4 0", "1 1 0 0 2700 2.4000001 waste 7 ox", "line 2: grade were rounded to 6 decimals",
-     "1 1 0 0 2700 2.4 0"),
-    ("blocks", "0 0 0 0 2700 1.8 0", "0 0 0 0 2700 1.8 ORE", "fields that were left out, as the first line has them: 7 (`ORE`)",
-     "0 0 0 0 2700 1.8 0"),
-    ("pcpsp", "1 309420 197640 -5400", "1 309420.0000004 197640.12345678 -5400", "line 11 and 1 more: values were rounded",
-     "1 309420 197640.123457 -5400"),
+    ("blocks", "1 1 0 0 2700 2.4 0", "1 1 0 0 2700.00049 2.4000001 0",
+     "line 2: tonnes were rounded to 3 decimals", "1 1 0 0 2700 2.4 0"),
+    ("blocks", "1 1 0 0 2700 2.4 0", "1 1 0 0 2700 2.4000001 waste 7 ox",
+     "line 2: grade were rounded to 6 decimals", "1 1 0 0 2700 2.4 0"),
+    ("blocks", "0 0 0 0 2700 1.8 0", "0 0 0 0 2700 1.8 ORE",
+     "fields that were left out, as the first line has them: 7 (`ORE`)", "0 0 0 0 2700 1.8 0"),
+    ("pcpsp", "1 309420 197640 -5400", "1 309420.0000004 197640.12345678 -5400",
+     "line 11 and 1 more: values were rounded", "1 309420 197640.123457 -5400"),
     ("pcpsp", "0 0 1 2700", "0 0 1 27e2", None, "0 0 1 2700"),
     ("pcpsp", "0 0 1 2700", "0 0 1 1e-7", "line 18: amounts were rounded to 6 decimals", "0 0 1 0"),
     ("pcpsp", "0 0 L 60000", "0 0 L Infinity", "line 42: it sets no limit, and was left out", None),
-    ("pcpsp", "1 0 I 0 120000", "1 0 I -Infinity 5200", "line 45: one end is infinite: it is L now", "1 0 L 5200"),
-    ("pcpsp", "1 0 I 0 120000", "1 0 I 7 inf", "line 45: one end is infinite: it is G now", "1 0 G 7"),
+    ("pcpsp", "1 0 I 0 120000", "1 0 I -Infinity 5200", "line 45: one end is infinite: it is L now",
+     "1 0 L 5200"), ("pcpsp", "1 0 I 0 120000", "1 0 I 7 inf",
+                     "line 45: one end is infinite: it is G now", "1 0 G 7"),
     ("pcpsp", "1 0 I 0 120000", "1 0 I -inf inf", "line 45: it sets no limit", None),
-    ("pcpsp", "0 0 L 60000", "0 0 L 60000.1234567", "line 42: rounded to 6 decimals", "0 0 L 60000.123457"),
-    ("pcpsp", "0 0 L 60000", "0 0 le 60000 -1", "line 42: the second number was left out", "0 0 L 60000"),
-    ("pcpsp", "DISCOUNT_RATE: 0.08", "DISCOUNT_RATE: 0.0800001", "DISCOUNT_RATE rounded to 6 decimals", "DISCOUNT_RATE: 0.08"),
+    ("pcpsp", "0 0 L 60000", "0 0 L 60000.1234567", "line 42: rounded to 6 decimals",
+     "0 0 L 60000.123457"), ("pcpsp", "0 0 L 60000", "0 0 le 60000 -1",
+                             "line 42: the second number was left out", "0 0 L 60000"),
+    ("pcpsp", "DISCOUNT_RATE: 0.08", "DISCOUNT_RATE: 0.0800001",
+     "DISCOUNT_RATE rounded to 6 decimals", "DISCOUNT_RATE: 0.08"),
     ("pcpsp", "TYPE: PCPSP\n", "", "no TYPE; it was read as a PCPSP", "TYPE: PCPSP"),
     ("pcpsp", "NBLOCKS: 6\n", "", "no NBLOCKS; the objective has 6 blocks", "NBLOCKS: 6"),
-    ("pcpsp", "NBLOCKS: 6\n", "NBLOCKS: 6\nAUTHOR: a b\n", "line 4: AUTHOR is no key that is known, and was left out", "NBLOCKS: 6"),
+    ("pcpsp", "NBLOCKS: 6\n", "NBLOCKS: 6\nAUTHOR: a b\n",
+     "line 4: AUTHOR is no key that is known, and was left out", "NBLOCKS: 6"),
     ("pcpsp", "NAME: mine", "NAME: my mine", "NAME is my_mine now", "NAME: my_mine"),
-    ("prec", "3 0\n", "", "1 blocks had no line in the precedence file", "3 0"),
-])
+    ("prec", "3 0\n", "", "1 blocks had no line in the precedence file", "3 0")])
 def test_what_is_changed_or_left_out_is_told(tmp_path, capsys, ending, old, new, told, line):
     base = mines.six_blocks(tmp_path, ("name,pit", "name,mine"))
     whole = (tmp_path / f"mine.{ending}").read_text()
@@ -216,7 +230,8 @@ def test_what_is_changed_or_left_out_is_told(tmp_path, capsys, ending, old, new,
 def uses_of(problem):
     """The coefficients of a problem as a set of lines."""
     uses = problem.uses
-    return set(zip(uses.block.tolist(), uses.destination.tolist(), uses.resource.tolist(), uses.amount.tolist()))
+    return set(zip(uses.block.tolist(), uses.destination.tolist(), uses.resource.tolist(),
+                   uses.amount.tolist()))
 
 
 @pytest.mark.parametrize("first", [0, 1])
@@ -229,7 +244,8 @@ def test_blocks_come_before_what_they_wait_for_and_both_ways_are_kept(tmp_path, 
     assert main(["minelib", *words, "--out", again]) == 0
     assert "blocks have other identifiers now" in capsys.readouterr().out
     mine, wanted = read_instance(again), read_instance(base)
-    assert np.all(np.repeat(np.arange(n), np.diff(mine.precedence.indptr)) < mine.precedence.indices)
+    assert np.all(np.repeat(np.arange(n), np.diff(mine.precedence.indptr))
+                  < mine.precedence.indices)
     pairs = np.array([list(map(int, line.split())) for line in lines_of(again + ".ids")])
     assert pairs[:, 0].tolist() == list(range(n))
     before = n - 1 - (pairs[:, 1] - first)
@@ -243,44 +259,59 @@ def test_blocks_come_before_what_they_wait_for_and_both_ways_are_kept(tmp_path, 
         assert {(int(before[b]), *rest) for b, *rest in uses_of(here)} == uses_of(there)
     pit = tmp_path / "pit"
     pit.write_text("".join(f"{block} 1\n" for block in range(0, n, 3)))
-    assert main(["minelib", "--to-published", str(pit), "--ids", again + ".ids", "--out", str(tmp_path / "theirs")]) == 0
+    assert main(["minelib", "--to-published", str(pit), "--ids", again + ".ids", "--out",
+                 str(tmp_path / "theirs")]) == 0
     assert lines_of(tmp_path / "theirs") == [f"{pairs[block, 1]} 1" for block in range(0, n, 3)]
-    assert main(["minelib", "--from-published", str(tmp_path / "theirs"), "--ids", again + ".ids", "--out", str(tmp_path / "ours")]) == 0
+    assert main(["minelib", "--from-published", str(tmp_path / "theirs"), "--ids", again + ".ids",
+                 "--out", str(tmp_path / "ours")]) == 0
     assert (tmp_path / "ours").read_text() == pit.read_text()
-    assert main(["minelib", "--publish", again, "--ids", again + ".ids", "--out", str(tmp_path / "theirs")]) == 0
+    assert main(["minelib", "--publish", again, "--ids", again + ".ids", "--out",
+                 str(tmp_path / "theirs")]) == 0
     theirs = read_instance(str(tmp_path / "theirs"), ("blocks", "prec"))
-    assert np.array_equal(theirs.blocks.x, wanted.blocks.x[::-1]) and (theirs.precedence != wanted.precedence[::-1][:, ::-1]).nnz == 0
+    assert np.array_equal(theirs.blocks.x, wanted.blocks.x[::-1]) and (
+        theirs.precedence != wanted.precedence[::-1][:, ::-1]).nnz == 0
 
 
-@pytest.mark.parametrize("line, told", [("9 1", "line 2: `9` is no block"), ("x 1", "line 2: `x` is no block"), ("-1", "line 2: `-1` is no block")])
+@pytest.mark.parametrize("line, told",
+                         [("9 1", "line 2: `9` is no block"), ("x 1", "line 2: `x` is no block"),
+                          ("-1", "line 2: `-1` is no block")])
 def test_a_line_of_no_block_is_not_renamed(tmp_path, capsys, line, told):
     (tmp_path / "ids").write_text("0 2\n1 1\n2 3\n")
     (tmp_path / "pit").write_text(f"1\n{line}\n")
     for way in ("--to-published", "--from-published"):
-        assert main(["minelib", way, str(tmp_path / "pit"), "--ids", str(tmp_path / "ids"), "--out", str(tmp_path / "out")]) == 2
+        assert main(["minelib", way, str(tmp_path / "pit"), "--ids", str(tmp_path / "ids"), "--out",
+                     str(tmp_path / "out")]) == 2
         assert told in capsys.readouterr().err and not (tmp_path / "out").exists()
 
 
 def test_an_order_of_fields_is_not_guessed(tmp_path, capsys):
-    """Of two destinations and two resources `b d r` and `b r d` both fit; of three and two one does."""
+    """Of two destinations and two resources `b d r` and `b r d` both fit; of three and two one
+    does."""
     base = mines.six_blocks(tmp_path, ("leach,heap,6000000,600,0.3,350,1,550\n", ""), (",heap", ""))
-    words = ["--blocks", base + ".blocks", "--prec", base + ".prec", "--pcpsp", base + ".pcpsp", "--out", str(tmp_path / "again")]
+    words = ["--blocks", base + ".blocks", "--prec", base + ".prec", "--pcpsp", base + ".pcpsp",
+             "--out", str(tmp_path / "again")]
     assert main(["minelib", *words]) == 2
-    assert "fit the orders bdr and brd, which are other models: say which by --order" in capsys.readouterr().err
+    assert ("fit the orders bdr and brd, which are other models: say which by "
+            "--order" in capsys.readouterr().err)
     assert main(["minelib", *words, "--order", "bdr"]) == 0
-    assert uses_of(read_instance(str(tmp_path / "again")).pcpsp) == uses_of(read_instance(base).pcpsp)
+    assert uses_of(read_instance(str(tmp_path / "again")).pcpsp) == uses_of(
+        read_instance(base).pcpsp)
     assert main(["minelib", *words, "--order", "brd"]) == 0
-    assert uses_of(read_instance(str(tmp_path / "again")).pcpsp) == {(b, r, d, a) for b, d, r, a in uses_of(read_instance(base).pcpsp)}
+    assert uses_of(read_instance(str(tmp_path / "again")).pcpsp) == {
+        (b, r, d, a) for b, d, r, a in uses_of(read_instance(base).pcpsp)}
 
 
 @pytest.mark.parametrize("order", ["bdr", "brd", "rbd"])
 def test_the_only_order_that_fits_is_taken(tmp_path, capsys, order):
     base = mines.six_blocks(tmp_path)
-    assert main(["minelib", "--publish", base, "--out", str(tmp_path / "published"), "--order", order]) == 0
+    assert main(["minelib", "--publish", base, "--out", str(tmp_path / "published"), "--order",
+                 order]) == 0
     files = {ending: str(tmp_path / f"published.{ending}") for ending in instance.TEXTS}
-    words = [*words_of(files, *instance.TEXTS), "--tonnes", "5", "--grade", "6", "--out", str(tmp_path / "again")]
+    words = [*words_of(files, *instance.TEXTS), "--tonnes", "5", "--grade", "6", "--out",
+             str(tmp_path / "again")]
     assert main(["minelib", *words]) == 0
-    assert (f"in the order {order}, the only one that fits" in capsys.readouterr().out) == (order != "bdr")
+    assert (f"in the order {order}, the only one that "
+            "fits" in capsys.readouterr().out) == (order != "bdr")
     for ending in instance.TEXTS:
         assert lines_of(tmp_path / f"again.{ending}") == lines_of(f"{base}.{ending}"), ending
 
@@ -289,25 +320,31 @@ def test_small_pieces_are_read_as_large_ones(tmp_path, monkeypatch):
     base = mines.deposit(tmp_path, K=2)
     files = foreign(base, tmp_path)
     monkeypatch.setattr(published_lines, "_PIECE", 300)
-    words = [*words_of(files, *instance.TEXTS), "--tonnes", "7", "--grade", "8", "--out", str(tmp_path / "again")]
+    words = [*words_of(files, *instance.TEXTS), "--tonnes", "7", "--grade", "8", "--out",
+             str(tmp_path / "again")]
     assert main(["minelib", *words]) == 0
     for ending in ("prec", "upit", "pcpsp", "cpit"):
-        assert [line.replace("the_mine", "mine") for line in lines_of(tmp_path / f"again.{ending}")] == lines_of(f"{base}.{ending}")
+        assert [line.replace("the_mine", "mine")
+                for line in lines_of(tmp_path / f"again.{ending}")] == lines_of(f"{base}.{ending}")
 
 
 def test_outward_and_back(tmp_path):
     base = mines.six_blocks(tmp_path)
-    assert main(["minelib", "--publish", base, "--out", str(tmp_path / "published"), "--order", "brd"]) == 0
+    assert main(["minelib", "--publish", base, "--out", str(tmp_path / "published"), "--order",
+                 "brd"]) == 0
     lines = lines_of(tmp_path / "published.pcpsp")
-    assert lines[-1] == "EOF" and lines[lines.index(instance.COEFFICIENTS + ":") + 1:][:4] == ["0 0 0 2700", "0 1 0 2700", "0 1 1 2700", "0 1 2 2700"]
+    assert lines[-1] == "EOF" and lines[lines.index(instance.COEFFICIENTS + ":") + 1:][:4] == [
+        "0 0 0 2700", "0 1 0 2700", "0 1 1 2700", "0 1 2 2700"]
     files = {ending: str(tmp_path / f"published.{ending}") for ending in instance.TEXTS}
-    assert main(["minelib", *words_of(files, *instance.TEXTS), "--tonnes", "5", "--grade", "6", "--order", "brd", "--out", str(tmp_path / "again")]) == 0
+    assert main(["minelib", *words_of(files, *instance.TEXTS), "--tonnes", "5", "--grade", "6",
+                 "--order", "brd", "--out", str(tmp_path / "again")]) == 0
     for ending in instance.TEXTS:
         assert lines_of(tmp_path / f"again.{ending}") == lines_of(f"{base}.{ending}"), ending
 
 
 def test_arcs_that_others_imply_may_stay_behind(tmp_path):
     base = mines.deposit(tmp_path, K=4)
-    assert main(["minelib", "--publish", base, "--out", str(tmp_path / "fewer"), "--immediate"]) == 0
+    assert main(["minelib", "--publish", base, "--out", str(tmp_path / "fewer"),
+                 "--immediate"]) == 0
     fewer = instance.read_precedence(str(tmp_path / "fewer.prec"))
     assert 0 < fewer.nnz < read_instance(base).precedence.nnz and np.all(np.diff(fewer.indptr) >= 0)

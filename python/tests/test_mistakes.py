@@ -1,8 +1,8 @@
 """Mistakes that nothing refuses, and where a survey shows each.
 
-The mine is the example deposit with its corner at the origin and K = 9, in a model that is wide enough.
-A mistake is told where the survey of the mine with it has a line that matches and the sound one has none;
-it is drawn where an array that a picture shows is another.
+The mine is the example deposit with its corner at the origin and K = 9, in a model that is wide
+enough. A mistake is told where the survey of the mine with it has a line that matches and the sound
+one has none; it is drawn where an array that a picture shows is another.
 """
 import re
 from typing import Callable, NamedTuple, Optional
@@ -22,7 +22,8 @@ ZONES = ("oxide", "west", "east")
 
 
 class Mine(NamedTuple):
-    """A plan, the rows of its zone files in metres, tonnes and g/t, and what its files are named."""
+    """A plan, the rows of its zone files in metres, tonnes and g/t, and what its files are
+    named."""
 
     plan: str
     rows: pd.DataFrame
@@ -60,9 +61,11 @@ def sound() -> Mine:
                 if z <= ground and not in_deposit and (x, y, z) not in taken:
                     zone = 0 if z >= 100 else 1 if x < 360 else 2
                     density = (9600 if zone == 0 else 10800) + random.integers(0, 400)
-                    added.append((x, y, z, float(density), random.integers(0, 90000) / 1e6 if random.random() < 0.7 else 0.0, zone))
+                    added.append((x, y, z, float(density), random.integers(0, 90000) / 1e6
+                                  if random.random() < 0.7 else 0.0, zone))
     table = pd.concat([table, pd.DataFrame(added, columns=table.columns)], ignore_index=True)
-    plan = Deposit().plan().replace("grid,1000,2000,300", "grid,0,0,0").replace(",2500000", ",5000000")
+    plan = Deposit().plan().replace("grid,1000,2000,300",
+                                    "grid,0,0,0").replace(",2500000", ",5000000")
     plan = re.sub(r"(?m)^(zone.*),\d$", r"\1,14", plan)
     return Mine(plan, table)
 
@@ -71,11 +74,14 @@ def facts_of(mine: Mine, of_plan: Optional[str] = None) -> Facts:
     """The facts of a mine; those of an instance by another plan where it is given."""
     plan = plan_of(mine.plan)
     rows = pd.DataFrame({axis: np.rint(mine.rows[axis] * 1000).astype(np.int64) for axis in "xyz"})
-    rows["tonnes"], rows["grade"] = np.rint(mine.rows.tonnes * 1000).astype(np.int64), np.rint(mine.rows.grade * 1e6).astype(np.int64)
+    rows["tonnes"], rows["grade"] = (np.rint(mine.rows.tonnes * 1000).astype(np.int64),
+                                     np.rint(mine.rows.grade * 1e6).astype(np.int64))
     rows["zone"] = mine.rows.zone.astype(np.int64)
     made = instance_of(plan_of(of_plan or mine.plan), blocks_of(plan.grid, rows))
-    header = {"NAME": made.pcpsp.name, "NBLOCKS": str(len(made.blocks)), "NPERIODS": str(made.pcpsp.periods), "DISCOUNT_RATE": str(made.pcpsp.rate)}
-    facts = Facts(plan, made.blocks, np.diff(made.precedence.indptr), Outline(header, made.pcpsp.values, len(made.pcpsp.uses), made.pcpsp.limits))
+    header = {"NAME": made.pcpsp.name, "NBLOCKS": str(len(made.blocks)),
+              "NPERIODS": str(made.pcpsp.periods), "DISCOUNT_RATE": str(made.pcpsp.rate)}
+    facts = Facts(plan, made.blocks, np.diff(made.precedence.indptr),
+                  Outline(header, made.pcpsp.values, len(made.pcpsp.uses), made.pcpsp.limits))
     counts = np.bincount(made.blocks.zone, minlength=len(plan.zones))
     lines = mine.lines or counts.tolist()
     facts.zone_files = [ZoneFile(name, count) for name, count in zip(mine.names, lines)]
@@ -107,91 +113,168 @@ def swapped(mine):
 
 def filled(mine):
     """Air that has a default density."""
-    grid = pd.MultiIndex.from_product([sorted(mine.rows[axis].unique()) for axis in "xyz"], names=list("xyz")).to_frame(index=False)
+    grid = pd.MultiIndex.from_product([sorted(mine.rows[axis].unique()) for axis in "xyz"],
+                                      names=list("xyz")).to_frame(index=False)
     table = grid.merge(mine.rows, "left", on=list("xyz"))
     return mine._replace(rows=table.fillna({"tonnes": 10800.0, "grade": 0.0, "zone": 0}))
 
 
 def sectors(mine):
     """Zones by azimuth in place of the sides of one zone: east of the middle is steeper."""
-    plan = re.sub(r"(?m)^zone.*\n", "", mine.plan).replace("mill,mill", "zone,1,1,14\nzone,2,1,14\nmill,mill", 1)
-    return mine._replace(plan=plan, rows=mine.rows.assign(zone=(mine.rows.x >= 300).astype(int)), names=("west.csv", "zast.csv"))
+    plan = re.sub(r"(?m)^zone.*\n", "", mine.plan).replace("mill,mill",
+                                                           "zone,1,1,14\nzone,2,1,14\nmill,mill", 1)
+    return mine._replace(plan=plan, rows=mine.rows.assign(zone=(mine.rows.x >= 300).astype(int)),
+                         names=("west.csv", "zast.csv"))
 
 
 def by_record(mine, order):
     """Zone files in another order: each zone has another's record."""
-    return mine._replace(names=tuple(mine.names[at] for at in order), rows=mine.rows.assign(zone=mine.rows.zone.map({old: new for new, old in enumerate(order)})))
+    return mine._replace(names=tuple(mine.names[at] for at in order), rows=mine.rows.assign(
+        zone=mine.rows.zone.map({old: new for new, old in enumerate(order)})))
 
 
 def share_of(mine, part):
     """Tonnes of a block that is ore in part, as the part alone."""
-    return mine.with_rows(tonnes=np.where(mine.rows.grade > 0.5, mine.rows.tonnes * part, mine.rows.tonnes))
+    return mine.with_rows(tonnes=np.where(mine.rows.grade > 0.5, mine.rows.tonnes * part,
+                                          mine.rows.tonnes))
 
 
 #: The thirty-five of docs/causes.md, but those of files that are refused or are not of one run.
 OF_THE_PAGE = [
-    Told("a grade in percent", lambda m: m.with_rows(grade=m.rows.grade / 10000), r"^- BEST FOR: no block is worth more than 0"),
-    Told("a grade in parts a billion", lambda m: m.with_rows(grade=m.rows.grade * 1000), r"^- ROCK: the mean grade, .* times the one that pays"),
-    Told("a recovery in percent", lambda m: m.edited("^mill,mill,920", "mill,mill,92"), r"^- DESTINATIONS: mill recovers 9\.2 % at most"),
-    Told("a price in dollars", lambda m: m.edited("5800000", "180400"), r"^- DESTINATIONS: mill pays from 9\.9\d+ g/t, and the highest grade is 3\.907"),
-    Told("a cost in dollars", lambda m: m.edited(",1650$", ",16"), r"^- DESTINATIONS: a tonne costs 0\.16 at mill, no more than at dump"),
-    Told("a cost without mining", lambda m: m.edited(",1650$", ",150"), r"^- DESTINATIONS: a tonne costs 1\.50 at mill, no more than at dump"),
-    Told("price and cost swapped", lambda m: m.edited("920,5800000,1650", "920,1650,5800000"), r"^- BEST FOR: mill is best for no block"),
-    Told("pairs of a leach swapped", lambda m: m.edited("0.2,300,0.6,480,1.2,560", "300,0,480,1,560,2"), r"^- DESTINATIONS: a band of heap begins at 560 g/t"),
-    Told("no dump", lambda m: m.edited(r"^dump.*\n", "").edited(",dump$", ""), r"^- DESTINATIONS: there is no dump: waste goes to heap"),
-    Told("kilotonnes as tonnes", lambda m: m.with_rows(tonnes=m.rows.tonnes / 1000), r"^- ROCK: .* blocks have less than 0\.5 or more than 10 t/m3"),
-    Told("a density as tonnes", lambda m: m.with_rows(tonnes=m.rows.tonnes / 4000), r"^- ROCK: .* blocks have less than 0\.5 or more than 10 t/m3"),
-    Told("limits from period 1 on", lambda m: m.edited(r"^limit,crusher,0.*\n", ""), r"^- RESOURCES: crusher takes any tonnes in period 0"),
-    Told("`L` taken for a lower bound", lambda m: m.edited("^limit,crusher,0,L", "limit,crusher,0,G"), r"^- RESOURCES: crusher has limits at least and at most"),
-    Told("limits in kilotonnes", lambda m: m.edited(",5000000$", ",5000"), r"^- RESOURCES: the tonnes of the pit take [\d,]+ periods of crusher, and there are 4: are limits in kilotonnes"),
-    Told("a fleet that does not cover the dump", lambda m: m.edited("^(resource,fleet.*),dump$", r"\1"), r"^- RESOURCES: no resource covers dump"),
-    Told("a rate of 0.8", lambda m: m.edited("^rate,0.08", "rate,0.8"), r"^- RESOURCES: the rate is 80 %"),
-    Told("limits of a year and periods of a quarter", lambda m: m.edited(",L,5000000$", ",L,20000000"), r"^- RESOURCES: the tonnes of the pit take 0\.\d+ periods of crusher, of 4"),
-    Told("half the block size", lambda m: m.edited("20,20,10$", "10,10,5"), r"^- PLACES: x has no odd index"),
-    Told("indices in place of coordinates", lambda m: m.with_rows(x=m.rows.x / 20, y=m.rows.y / 20, z=m.rows.z / 10).edited("20,20,10$", "1,1,1"), r"^- PLACES: blocks are 1 x 1 x 1 m"),
-    Told("depths in place of heights", lambda m: m.with_rows(z=TOP - m.rows.z), r"^- PLACES: the highest bench is whole and the lowest ones are not"),
-    Told("run over rise, or degrees", lambda m: m.edited("^zone,1,1,14", "zone,45,1,14"), r"^- SLOPES: zone oxide asks 88\.7 to 88\.7 degrees"),
-    Told("K first", lambda m: m.edited("^zone,1,1,14", "zone,9,1,1"), r"^- SLOPES: zone oxide asks 83\.7 to 83\.7 degrees"),
-    Told("the four slopes in another order", lambda m: m.edited("^zone,3,2,1,1,5,4,5,4", "zone,5,4,5,4,3,2,1,1"), r"^zone 1 asks +56\.3 "),
-    Told("K too small", lambda m: m.edited("^zone,1,1,14", "zone,1,1,2"), r"^- SLOPES: K is too small: zone oxide: K = 2 makes a pit of \d+ benches \d+\.\d degrees too steep, and K = 14 "),
-    Told("one K for all", lambda m: m.edited(r"^zone,1,1,14\n(zone.*\n)*", "zone,2,1,9\nzone,1,2,9\nzone,1,2,9\n"), r"^- SLOPES: zone west lies below zone oxide, which is steeper"),
-    Told("rock of a zone at a mill that does not take it", lambda m: m, r"^0 mill .* 339 595 853$", re.sub("(?m)^mill,mill,920,5800000,1650", "mill,mill,920,5800000,1650000", MINE.plan)),
-    Told("rows without a grade left out", lambda m: m.of(lambda rows: rows.grade >= 0.05), r"^- ROCK: no block has less than 0\.05"),
-    Told("zone files in the order of a glob", lambda m: by_record(m, (2, 0, 1)), r"^- ROCK: zone files are in alphabetical order"),
-    Told("a header alone", lambda m: m.of(lambda rows: rows.zone != 1), r"^- ROCK: zone west has no blocks"),
-    Told("a zone file cut short", lambda m: m.of(lambda rows: ~((rows.zone == 1) & (rows.z > 30))), r"^- PLACES: [\d,]+ places below a block have none"),
-    Told("a quote that is never closed", lambda m: m._replace(lines=(1, 9999, 2)), r"^- ROCK: deposit-west.csv has 9,999 lines, and zone west"),
-    Told("files of two runs", lambda m: m, r"^- FILES: values that are not the plan's", MINE.plan.replace("5800000", "5000000")),
-]
+    Told("a grade in percent", lambda m: m.with_rows(grade=m.rows.grade / 10000),
+         "^- BEST FOR: no block is worth more than 0"),
+    Told("a grade in parts a billion", lambda m: m.with_rows(grade=m.rows.grade * 1000),
+         "^- ROCK: the mean grade, .* times the one that pays"),
+    Told("a recovery in percent", lambda m: m.edited("^mill,mill,920", "mill,mill,92"),
+         r"^- DESTINATIONS: mill recovers 9\.2 % at most"),
+    Told("a price in dollars", lambda m: m.edited("5800000", "180400"),
+         r"^- DESTINATIONS: mill pays from 9\.9\d+ g/t, and the highest grade is 3\.907"),
+    Told("a cost in dollars", lambda m: m.edited(",1650$", ",16"),
+         r"^- DESTINATIONS: a tonne costs 0\.16 at mill, no more than at dump"),
+    Told("a cost without mining", lambda m: m.edited(",1650$", ",150"),
+         r"^- DESTINATIONS: a tonne costs 1\.50 at mill, no more than at dump"),
+    Told("price and cost swapped", lambda m: m.edited("920,5800000,1650", "920,1650,5800000"),
+         "^- BEST FOR: mill is best for no block"),
+    Told("pairs of a leach swapped",
+         lambda m: m.edited("0.2,300,0.6,480,1.2,560", "300,0,480,1,560,2"),
+         "^- DESTINATIONS: a band of heap begins at 560 g/t"),
+    Told("no dump", lambda m: m.edited(r"^dump.*\n", "").edited(",dump$", ""),
+         "^- DESTINATIONS: there is no dump: waste goes to heap"),
+    Told("kilotonnes as tonnes", lambda m: m.with_rows(tonnes=m.rows.tonnes / 1000),
+         r"^- ROCK: .* blocks have less than 0\.5 or more than 10 t/m3"),
+    Told("a density as tonnes", lambda m: m.with_rows(tonnes=m.rows.tonnes / 4000),
+         r"^- ROCK: .* blocks have less than 0\.5 or more than 10 t/m3"),
+    Told("limits from period 1 on", lambda m: m.edited(r"^limit,crusher,0.*\n", ""),
+         "^- RESOURCES: crusher takes any tonnes in period 0"),
+    Told("`L` taken for a lower bound",
+         lambda m: m.edited("^limit,crusher,0,L", "limit,crusher,0,G"),
+         "^- RESOURCES: crusher has limits at least and at most"),
+    Told("limits in kilotonnes", lambda m: m.edited(",5000000$", ",5000"),
+         r"^- RESOURCES: the tonnes of the pit take [\d,]+ periods of crusher, and there are 4: "
+         "are limits in kilotonnes"),
+    Told("a fleet that does not cover the dump",
+         lambda m: m.edited("^(resource,fleet.*),dump$", r"\1"),
+         "^- RESOURCES: no resource covers dump"),
+    Told("a rate of 0.8", lambda m: m.edited("^rate,0.08", "rate,0.8"),
+         "^- RESOURCES: the rate is 80 %"),
+    Told("limits of a year and periods of a quarter",
+         lambda m: m.edited(",L,5000000$", ",L,20000000"),
+         r"^- RESOURCES: the tonnes of the pit take 0\.\d+ periods of crusher, of 4"),
+    Told("half the block size", lambda m: m.edited("20,20,10$", "10,10,5"),
+         "^- PLACES: x has no odd index"),
+    Told("indices in place of coordinates",
+         lambda m: m.with_rows(x=m.rows.x / 20, y=m.rows.y / 20, z=m.rows.z / 10)
+         .edited("20,20,10$", "1,1,1"), "^- PLACES: blocks are 1 x 1 x 1 m"),
+    Told("depths in place of heights", lambda m: m.with_rows(z=TOP - m.rows.z),
+         "^- PLACES: the highest bench is whole and the lowest ones are not"),
+    Told("run over rise, or degrees", lambda m: m.edited("^zone,1,1,14", "zone,45,1,14"),
+         r"^- SLOPES: zone oxide asks 88\.7 to 88\.7 degrees"),
+    Told("K first", lambda m: m.edited("^zone,1,1,14", "zone,9,1,1"),
+         r"^- SLOPES: zone oxide asks 83\.7 to 83\.7 degrees"),
+    Told("the four slopes in another order",
+         lambda m: m.edited("^zone,3,2,1,1,5,4,5,4", "zone,5,4,5,4,3,2,1,1"),
+         r"^zone 1 asks +56\.3 "),
+    Told("K too small", lambda m: m.edited("^zone,1,1,14", "zone,1,1,2"),
+         r"^- SLOPES: K is too small: zone oxide: K = 2 makes a pit of \d+ benches \d+\.\d degrees "
+         "too steep, and K = 14 "),
+    Told("one K for all",
+         lambda m: m.edited(r"^zone,1,1,14\n(zone.*\n)*", "zone,2,1,9\nzone,1,2,9\nzone,1,2,9\n"),
+         "^- SLOPES: zone west lies below zone oxide, which is steeper"),
+    Told("rock of a zone at a mill that does not take it", lambda m: m, "^0 mill .* 339 595 853$",
+         re.sub("(?m)^mill,mill,920,5800000,1650", "mill,mill,920,5800000,1650000", MINE.plan)),
+    Told("rows without a grade left out", lambda m: m.of(lambda rows: rows.grade >= 0.05),
+         r"^- ROCK: no block has less than 0\.05"),
+    Told("zone files in the order of a glob", lambda m: by_record(m, (2, 0, 1)),
+         "^- ROCK: zone files are in alphabetical order"),
+    Told("a header alone", lambda m: m.of(lambda rows: rows.zone != 1),
+         "^- ROCK: zone west has no blocks"),
+    Told("a zone file cut short", lambda m: m.of(lambda rows: ~((rows.zone == 1) & (rows.z > 30))),
+         r"^- PLACES: [\d,]+ places below a block have none"),
+    Told("a quote that is never closed", lambda m: m._replace(lines=(1, 9999, 2)),
+         "^- ROCK: deposit-west.csv has 9,999 lines, and zone west"),
+    Told("files of two runs", lambda m: m, "^- FILES: values that are not the plan's",
+         MINE.plan.replace("5800000", "5000000"))]
 
 #: Twenty-six more.
 MORE = [
-    Told("a model that ends too near the ore", lambda m: m.of(lambda rows: (rows.y <= 400) & (rows.x <= 560)), r"^- SIDES: north: of [\d,]+ paying blocks the slope of"),
-    Told("deep rock lost", lambda m: m.of(lambda rows: rows.z >= 40), r"^- SIDES: the pit reaches the lowest rock"),
-    Told("rock near the ground lost", lambda m: m.of(lambda rows: rows.z < columns_top(rows) - 20), r"^- BENCHES: the highest bench of most columns pays"),
-    Told("a bench lost", lambda m: m.of(lambda rows: rows.z != 70), r"^- BENCHES: 1 bench without a block"),
-    Told("air with a default density", filled, r"^- PLACES: blocks fill a box"),
-    Told("rock whose density is -99 left out as air", lambda m: m.of(lambda rows: (rows.index % 7 != 0) | (rows.z == TOP)), r"^- PLACES: [\d,]+ places below a block have none"),
-    Told("rock with a grade and 0 t", lambda m: m.with_rows(tonnes=np.where(m.rows.index % 9 == 0, 0, m.rows.tonnes)), r"^- ROCK: [\d,]+ blocks of 0 t have a grade"),
-    Told("one density for all", lambda m: m.with_rows(tonnes=10800.0), r"^- ROCK: all blocks have 2\.700 t/m3"),
-    Told("a percent model by parts alone", lambda m: share_of(m, 0.4), r"^- ROCK: [\d,]+ blocks have less than 0\.6 of the mean t/m3"),
-    Told("sectors of azimuth as zones", sectors, r"^- SLOPES: zone west lies beside zone zast, which is steeper"),
-    Told("a contact beside", lambda m: m.edited(r"^zone,3,2,1,1,5,4,5,4,14\nzone,3,2,14", "zone,1,2,14\nzone,2,1,14"), r"^- SLOPES: zone west lies beside zone east, which is steeper"),
-    Told("a recovery of 100 %", lambda m: m.edited("^mill,mill,920", "mill,mill,1000"), r"^- DESTINATIONS: mill recovers 100 %"),
-    Told("a recovery under 30 %", lambda m: m.edited("300,0.6,480,1.2,560", "30,0.6,48,1.2,56"), r"^- DESTINATIONS: heap recovers 5\.6 % at most"),
-    Told("a leach that recovers less of richer rock", lambda m: m.edited("480,1.2,560", "560,1.2,480"), r"^- DESTINATIONS: heap recovers less of richer rock"),
-    Told("prices that differ by destination", lambda m: m.edited("heap,5800000", "heap,5600000"), r"^- DESTINATIONS: the price of metal differs"),
-    Told("a dump that costs nothing", lambda m: m.edited("dump,dump,180", "dump,dump,0"), r"^- DESTINATIONS: a tonne costs nothing at dump"),
-    Told("fewer periods than the tonnes take", lambda m: m.edited(",5000000$", ",2500000"), r"^- RESOURCES: the tonnes of the pit take 7\.\d+ periods of crusher, and there are 4: the rest is left"),
-    Told("lower limits above the tonnes", lambda m: m.edited("I,1000000,", "I,90000000,").edited(r"(?<=I,90000000,)\d+", "100000000"), r"^- RESOURCES: fleet asks for 360,000,000 t in all"),
-    Told("a limit with a digit too many", lambda m: m.edited("^limit,crusher,2,L,5000000", "limit,crusher,2,L,50000000"), r"^- RESOURCES: limits of crusher go from 5,000,000 to 50,000,000 t"),
-    Told("lower limits alone", lambda m: m.edited("^limit,crusher,(.),L", r"limit,crusher,\1,G"), r"^- RESOURCES: crusher has lower limits alone"),
-    Told("a rate of 0", lambda m: m.edited("^rate,0.08", "rate,0"), r"^- RESOURCES: the rate is 0"),
-    Told("lines other than rows", lambda m: m._replace(lines=(768, 1, 1)), r"^- ROCK: deposit-west.csv has 1 lines"),
-    Told("a zone in another unit of grade", lambda m: m.with_rows(grade=np.where(m.rows.zone == 0, m.rows.grade / 1000, m.rows.grade)), r"^- ROCK: the mean grades of zones are .* a hundredfold apart"),
-    Told("a grade that was not cut", lambda m: m.with_rows(grade=np.where(m.rows.index == 1999, 999, m.rows.grade)), r"^- ROCK: the highest grade, 999 g/t, is"),
-    Told("walls lower than K's table", lambda m: m.of(lambda rows: rows.z >= 80), r"^- SLOPES: blocks are whole: whatever K is, walls of pits of \d+ to \d+ benches are up to (9|[123]\d)\.\d degrees"),
-]
+    Told("a model that ends too near the ore",
+         lambda m: m.of(lambda rows: (rows.y <= 400) & (rows.x <= 560)),
+         r"^- SIDES: north: of [\d,]+ paying blocks the slope of"),
+    Told("deep rock lost", lambda m: m.of(lambda rows: rows.z >= 40),
+         "^- SIDES: the pit reaches the lowest rock"),
+    Told("rock near the ground lost", lambda m: m.of(lambda rows: rows.z < columns_top(rows) - 20),
+         "^- BENCHES: the highest bench of most columns pays"),
+    Told("a bench lost", lambda m: m.of(lambda rows: rows.z != 70),
+         "^- BENCHES: 1 bench without a block"),
+    Told("air with a default density", filled, "^- PLACES: blocks fill a box"),
+    Told("rock whose density is -99 left out as air",
+         lambda m: m.of(lambda rows: (rows.index % 7 != 0) | (rows.z == TOP)),
+         r"^- PLACES: [\d,]+ places below a block have none"),
+    Told("rock with a grade and 0 t",
+         lambda m: m.with_rows(tonnes=np.where(m.rows.index % 9 == 0, 0, m.rows.tonnes)),
+         r"^- ROCK: [\d,]+ blocks of 0 t have a grade"),
+    Told("one density for all", lambda m: m.with_rows(tonnes=10800.0),
+         r"^- ROCK: all blocks have 2\.700 t/m3"),
+    Told("a percent model by parts alone", lambda m: share_of(m, 0.4),
+         r"^- ROCK: [\d,]+ blocks have less than 0\.6 of the mean t/m3"),
+    Told("sectors of azimuth as zones", sectors,
+         "^- SLOPES: zone west lies beside zone zast, which is steeper"),
+    Told("a contact beside",
+         lambda m: m.edited(r"^zone,3,2,1,1,5,4,5,4,14\nzone,3,2,14", "zone,1,2,14\nzone,2,1,14"),
+         "^- SLOPES: zone west lies beside zone east, which is steeper"),
+    Told("a recovery of 100 %", lambda m: m.edited("^mill,mill,920", "mill,mill,1000"),
+         "^- DESTINATIONS: mill recovers 100 %"),
+    Told("a recovery under 30 %", lambda m: m.edited("300,0.6,480,1.2,560", "30,0.6,48,1.2,56"),
+         r"^- DESTINATIONS: heap recovers 5\.6 % at most"),
+    Told("a leach that recovers less of richer rock",
+         lambda m: m.edited("480,1.2,560", "560,1.2,480"),
+         "^- DESTINATIONS: heap recovers less of richer rock"),
+    Told("prices that differ by destination", lambda m: m.edited("heap,5800000", "heap,5600000"),
+         "^- DESTINATIONS: the price of metal differs"),
+    Told("a dump that costs nothing", lambda m: m.edited("dump,dump,180", "dump,dump,0"),
+         "^- DESTINATIONS: a tonne costs nothing at dump"),
+    Told("fewer periods than the tonnes take", lambda m: m.edited(",5000000$", ",2500000"),
+         r"^- RESOURCES: the tonnes of the pit take 7\.\d+ periods of crusher, and there are 4: "
+         "the rest is left"),
+    Told("lower limits above the tonnes", lambda m: m.edited("I,1000000,", "I,90000000,").edited(
+    r"(?<=I,90000000,)\d+", "100000000"), "^- RESOURCES: fleet asks for 360,000,000 t in all"),
+    Told("a limit with a digit too many",
+         lambda m: m.edited("^limit,crusher,2,L,5000000", "limit,crusher,2,L,50000000"),
+         "^- RESOURCES: limits of crusher go from 5,000,000 to 50,000,000 t"),
+    Told("lower limits alone", lambda m: m.edited("^limit,crusher,(.),L", r"limit,crusher,\1,G"),
+         "^- RESOURCES: crusher has lower limits alone"),
+    Told("a rate of 0", lambda m: m.edited("^rate,0.08", "rate,0"), "^- RESOURCES: the rate is 0"),
+    Told("lines other than rows", lambda m: m._replace(lines=(768, 1, 1)),
+         "^- ROCK: deposit-west.csv has 1 lines"),
+    Told("a zone in another unit of grade",
+         lambda m: m.with_rows(grade=np.where(m.rows.zone == 0, m.rows.grade / 1000, m.rows.grade)),
+         "^- ROCK: the mean grades of zones are .* a hundredfold apart"),
+    Told("a grade that was not cut",
+         lambda m: m.with_rows(grade=np.where(m.rows.index == 1999, 999, m.rows.grade)),
+         "^- ROCK: the highest grade, 999 g/t, is"),
+    Told("walls lower than K's table", lambda m: m.of(lambda rows: rows.z >= 80),
+         r"^- SLOPES: blocks are whole: whatever K is, walls of pits of \d+ to \d+ benches are up "
+         r"to (9|[123]\d)\.\d degrees")]
 
 
 @pytest.mark.parametrize("mistake", OF_THE_PAGE + MORE, ids=lambda mistake: mistake.name)
@@ -219,12 +302,15 @@ def test_a_sound_mine_has_nothing_to_look_at():
     ("turned by a quarter", lambda m: m.with_rows(x=m.rows.y, y=700 - m.rows.x)),
 ])
 def test_a_turned_model_is_drawn(name, make):
-    """The map of metal is another; that it is the wrong one, the planner sees beside the package."""
+    """The map of metal is another; that it is the wrong one, the planner sees beside the
+    package."""
     shown, sound_map = facts_of(make(MINE)).metal_by_column(), FACTS.metal_by_column()
-    assert shown.shape != sound_map.shape or np.nansum(np.abs(shown - sound_map)) > 0.1 * np.nansum(sound_map)
+    assert (shown.shape != sound_map.shape
+            or np.nansum(np.abs(shown - sound_map)) > 0.1 * np.nansum(sound_map))
 
 
 def test_mined_out_rock_is_drawn():
     """The map of the ground shows a pit that was dug, or none where it should be."""
-    dug = facts_of(MINE.of(lambda rows: ~((rows.x.between(300, 400)) & (rows.y.between(200, 300)) & (rows.z > 70))))
+    dug = facts_of(MINE.of(lambda rows: ~((rows.x.between(300, 400)) & (rows.y.between(200, 300))
+                                          & (rows.z > 70))))
     assert (dug.ground() < FACTS.ground()).sum() > 20

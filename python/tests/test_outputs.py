@@ -1,4 +1,5 @@
-"""The door for all that is written: old or new files, all of them or none, and nothing that is read."""
+"""The door for all that is written: old or new files, all of them or none, and nothing that is
+read."""
 import errno
 import os
 import signal
@@ -14,7 +15,8 @@ from pit_tools.errors import UserError
 
 HERE = os.path.dirname(os.path.dirname(os.path.abspath(__file__)))
 
-EXPORT = "X,Y,Z,T,AU,DOMAIN\n" + "".join(f"{x},0,{z},1000,{x % 3}.5,d{x % 2}\n" for x in range(0, 40, 10) for z in (0, 10))
+EXPORT = "X,Y,Z,T,AU,DOMAIN\n" + "".join(f"{x},0,{z},1000,{x % 3}.5,d{x % 2}\n"
+                                         for x in range(0, 40, 10) for z in (0, 10))
 
 WORDS = ["--x", "X", "--y", "Y", "--z", "Z", "--tonnes", "T", "--grade", "AU", "--size", "10,10,10"]
 
@@ -39,7 +41,8 @@ def linked(make, here):
     make("export.csv", "mine-all.csv")
 
 
-@pytest.mark.parametrize("make", [os.rename, os.link, os.symlink], ids=["itself", "hard link", "link"])
+@pytest.mark.parametrize("make", [os.rename, os.link, os.symlink],
+                         ids=["itself", "hard link", "link"])
 def test_an_export_is_not_written_over(here, capsys, make):
     linked(make, here)
     read = "export.csv" if os.path.exists("export.csv") else "mine-all.csv"
@@ -70,7 +73,8 @@ def test_a_file_of_another_kind_is_kept_but_by_force(here, capsys):
     (here / "export.csv").write_text(EXPORT)
     (here / "mine-all.csv").write_text("assays of 1998\n")
     assert main(["import", "export.csv", *WORDS, "--base", "mine"]) == 2
-    assert "mine-all.csv: the file there is of another kind than `zone file`" in capsys.readouterr().err
+    assert ("mine-all.csv: the file there is of another kind than `zone "
+            "file`" in capsys.readouterr().err)
     assert set(files_of(here)) == {"export.csv", "mine-all.csv"}
     assert main(["import", "export.csv", *WORDS, "--base", "mine", "--force"]) == 0
     assert main(["import", "export.csv", *WORDS, "--base", "mine"]) == 0
@@ -79,7 +83,8 @@ def test_a_file_of_another_kind_is_kept_but_by_force(here, capsys):
 
 def test_a_name_of_one_kind_is_not_taken_by_another(here):
     (here / "deposit.prec").write_text("0 1 2\n1 0\n2 0\n")
-    with outputs.of_command(), pytest.raises(UserError, match="deposit.prec: the file there is of another kind"):
+    with outputs.of_command(), pytest.raises(UserError, match="deposit.prec: the file there is of "
+                                             "another kind"):
         write("deposit.prec", "0 1\n", "schedule")
 
 
@@ -144,7 +149,8 @@ def test_a_link_stays_a_link(here):
     os.symlink("far/new", "dangling")
     write("link", "2\n")
     write("dangling", "3\n")
-    assert os.readlink("link") == "far/old" and files_of(here / "far") == {"new": b"3\n", "old": b"2\n"}
+    assert os.readlink("link") == "far/old" and files_of(here / "far") == {"new": b"3\n",
+                                                                           "old": b"2\n"}
 
 
 def test_a_hard_link_keeps_the_old_file(here):
@@ -177,8 +183,8 @@ with outputs.together():
 
 def ended(number):
     """The status of a run that is ended by a signal while files are unfinished."""
-    run = subprocess.Popen([sys.executable, "-c", SCRIPT], stdout=subprocess.PIPE, stderr=subprocess.DEVNULL,
-                           env={**os.environ, "PYTHONPATH": HERE})
+    run = subprocess.Popen([sys.executable, "-c", SCRIPT], stdout=subprocess.PIPE,
+                           stderr=subprocess.DEVNULL, env={**os.environ, "PYTHONPATH": HERE})
     assert run.stdout.readline() == b"written\n"
     run.send_signal(number)
     return run.wait()
@@ -195,7 +201,8 @@ def test_a_kill_leaves_the_old_files_and_names_that_say_what_they_are(here):
     write("one", "1\n")
     assert ended(signal.SIGKILL) == -signal.SIGKILL
     found = files_of(here)
-    assert found.pop("one") == b"1\n" and len(found) == 2 and all(".unfinished-" in name for name in found)
+    assert (found.pop("one") == b"1\n" and len(found) == 2
+            and all(".unfinished-" in name for name in found))
     write("one", "3\n")
     assert files_of(here)["one"] == b"3\n"
 
@@ -215,8 +222,9 @@ def test_a_folder_that_was_made_goes_again(here):
 
 
 def test_every_command_that_writes_says_what_it_replaces(capsys):
-    for command in ("import", "plan", "back", "section", "survey", "read", "pit", "lp", "solve", "dimacs", "texts",
-                    "check-schedule", "minelib", "deposit", "vary", "by-zone", "library"):
+    for command in ("import", "plan", "back", "report", "nested", "section", "shell", "survey",
+                    "read", "pit", "lp", "solve", "dimacs", "texts", "check-schedule", "minelib",
+                    "deposit", "vary", "by-zone", "library"):
         assert main([command, "--help"]) == 0
         told = capsys.readouterr().out
         assert "It replaces" in told and "--force" in told, command
@@ -267,7 +275,8 @@ def test_each_refused_call_leaves_all_old_or_all_new(here, versions, name, capsy
             return
         told = capsys.readouterr().err
         assert (status, files_of(here)) in ((2, old), (0, new)), f"{name} {nth}: {told}"
-        assert told.count("\n") == (status == 2) and (status == 0 or any(file in told for file in old))
+        assert told.count("\n") == (status == 2) and (status == 0
+                                                      or any(file in told for file in old))
 
 
 @pytest.mark.parametrize("name", CALLS)
@@ -284,7 +293,8 @@ def test_a_kill_before_each_call_leaves_each_file_old_or_new(here, versions, nam
         is_done = os.waitstatus_to_exitcode(os.waitpid(child, 0)[1]) == 0
         found = files_of(here)
         left = {file: found.pop(file) for file in set(found) - set(old)}
-        assert all(content in (old[file], new[file]) for file, content in found.items()) and set(found) == set(old)
+        assert all(content in (old[file], new[file])
+                   for file, content in found.items()) and set(found) == set(old)
         assert all(".unfinished-" in file or ".before-" in file for file in left)
         for file in left:
             os.remove(here / file)

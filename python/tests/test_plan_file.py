@@ -34,7 +34,8 @@ def test_a_plan_is_read_with_its_units_and_written_as_it_was():
     assert plan.zones[1].slopes == (Slope(3, 2), Slope(1, 1), Slope(5, 4), Slope(4, 3))
     assert [zone.benches for zone in plan.zones] == [9, 13]
     assert [one.kind for one in plan.destinations] == ["mill", "leach", "dump"]
-    assert [plan.destinations[1].recovery(Decimal(grade)) for grade in ("0.1", "0.2", "0.6")] == [0, 300, 480]
+    assert [plan.destinations[1].recovery(Decimal(grade))
+            for grade in ("0.1", "0.2", "0.6")] == [0, 300, 480]
     assert plan.destinations[0].break_even == pytest.approx(0.30922, abs=1e-5)
     assert plan.destinations[2].break_even is None
     assert plan.limits_of(0, 0).upper == Decimal("2000.5")
@@ -58,11 +59,12 @@ def test_a_plan_that_cannot_be_understood_names_its_record(edit, told):
 
 
 # Where the nearest float lies on the other side of the middle, a rounding by floats is wrong.
-@pytest.mark.parametrize("text, places, parts", [
-    ("0.0005", 3, 1), ("1.0005", 3, 1001), ("2.6745", 3, 2675), ("-0.0005", 3, -1), ("1.005", 2, 101),
-    ("10935.537999900", 3, 10935538), ("999999.9994999999", 3, 999999999), ("0.0000005", 6, 1),
-    ("123456789012.3456785", 6, 123456789012345679), ("+5.", 3, 5000), (".5", 3, 500),
-])
+@pytest.mark.parametrize("text, places, parts",
+                         [("0.0005", 3, 1), ("1.0005", 3, 1001), ("2.6745", 3, 2675),
+                          ("-0.0005", 3, -1), ("1.005", 2, 101), ("10935.537999900", 3, 10935538),
+                          ("999999.9994999999", 3, 999999999), ("0.0000005", 6, 1),
+                          ("123456789012.3456785", 6, 123456789012345679), ("+5.", 3, 5000),
+                          (".5", 3, 500)])
 def test_decimals_are_rounded_as_decimals(text, places, parts):
     assert rounded(text, places) == parts
     found, wrong = parts_of(pd.Series([text]), places)
@@ -76,17 +78,20 @@ def test_what_is_no_number_is_told():
 
 
 def test_numbers_are_written_with_their_decimals():
-    assert texts_of([0, -1, 2700500, 10 ** 12], 3).tolist() == ["0.000", "-0.001", "2700.500", "1000000000.000"]
+    assert texts_of([0, -1, 2700500, 10 ** 12], 3).tolist() == ["0.000", "-0.001", "2700.500",
+                                                                "1000000000.000"]
     assert shortest(2700500, 3) == "2700.5" and shortest(-20000, 3) == "-20"
     assert plain(Decimal("1E+3")) == "1000" and plain(Decimal("-0.0")) == "0"
 
 
 def test_a_zone_file_is_read_by_names_and_written_back(tmp_path):
     path = tmp_path / "zone.csv"
-    path.write_text('rock,Grade,"TONNES",z,y,x\n"ore, rich",1.8,2700.0005,-10,0.25,20\nwaste,0,0,0,0,0\n')
+    path.write_text('rock,Grade,"TONNES",z,y,x\n"ore, '
+                    'rich",1.8,2700.0005,-10,0.25,20\nwaste,0,0,0,0,0\n')
     rows = read_zone_file(str(path))
     assert rows.index.tolist() == [2, 3]
-    assert rows.iloc[0].to_dict() == {"x": 20000, "y": 250, "z": -10000, "tonnes": 2700001, "grade": 1800000}
+    assert rows.iloc[0].to_dict() == {"x": 20000, "y": 250, "z": -10000, "tonnes": 2700001,
+                                      "grade": 1800000}
     write_zone_file(str(path), rows)
     first = path.read_text().splitlines()[1]
     assert first == "20,0.25,-10,2700.001,1.8"

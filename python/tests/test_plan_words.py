@@ -11,12 +11,12 @@ from pit_tools.units import Measures
 
 GRID = Grid((Decimal(1000), Decimal(2000), Decimal(300)), (Decimal(20), Decimal(20), Decimal(10)))
 
-WORDS = {
-    "name": "deposit", "price": "1,804 USD/oz", "mill": ["recovery 92 %, cost 16.50 USD/t"],
-    "leach": ["heap: cost 6.20 USD/t, 30 % from 0.2 g/t, 48 % from 0.6 g/t"], "dump": ["cost 1.80 USD/t"],
-    "slope": ["45", "west: E 56.3, W 45, N 51.3, S 51.3"], "K": 9, "periods": "4 years", "rate": "8 %",
-    "limit": ["crusher: mill heap, at most 2.5 Mt", "fleet: all, 1 Mt to 6 Mt, period 0", "fleet: at most 6.5 Mt, periods 1 to 3"],
-}
+WORDS = {"name": "deposit", "price": "1,804 USD/oz", "mill": ["recovery 92 %, cost 16.50 USD/t"],
+         "leach": ["heap: cost 6.20 USD/t, 30 % from 0.2 g/t, 48 % from 0.6 g/t"],
+         "dump": ["cost 1.80 USD/t"], "slope": ["45", "west: E 56.3, W 45, N 51.3, S 51.3"], "K": 9,
+         "periods": "4 years", "rate": "8 %",
+         "limit": ["crusher: mill heap, at most 2.5 Mt", "fleet: all, 1 Mt to 6 Mt, period 0",
+                   "fleet: at most 6.5 Mt, periods 1 to 3"]}
 
 
 def plan_text(**changed) -> str:
@@ -50,17 +50,19 @@ limit,fleet,3,L,6500000
 """
 
 
-@pytest.mark.parametrize("text, parts, cents", [
-    ("1 USD/oz", 1, 3215), ("100 USD/oz", 1, 321_507), ("1 USD/lb", 100, 22_046), ("4 USD/lb", 1, 882), ("8000 USD/t", 1, 800),
-    ("61 USD/t", 100, 610), ("58 USD/g", 1, 5_800_000), ("1804 USD/oz, payable 99.5 %, selling 45 USD/oz", 1, 5_626_316),
-    ("1000 USD/kg, royalty 3 %", 1, 97_000),
-])
+@pytest.mark.parametrize("text, parts, cents",
+                         [("1 USD/oz", 1, 3215), ("100 USD/oz", 1, 321_507),
+                          ("1 USD/lb", 100, 22_046), ("4 USD/lb", 1, 882), ("8000 USD/t", 1, 800),
+                          ("61 USD/t", 100, 610), ("58 USD/g", 1, 5_800_000),
+                          ("1804 USD/oz, payable 99.5 %, selling 45 USD/oz", 1, 5_626_316),
+                          ("1000 USD/kg, royalty 3 %", 1, 97_000)])
 def test_a_price_is_cents_a_kilogram(text, parts, cents):
     assert price_of(text, parts, Purse()).value == cents
 
 
 def test_mining_is_added_to_each_cost_and_periods_share_a_year():
-    text = plan_text(mining="2 USD/t", periods="8 quarters", limit=["crusher: mill, at most 2.5 Mt a year"])
+    text = plan_text(mining="2 USD/t", periods="8 quarters",
+                     limit=["crusher: mill, at most 2.5 Mt a year"])
     assert "mill,mill,920,5799995,1850\n" in text and "dump,dump,380\n" in text
     assert "rate,0.019427\n" in text                   # 1.08 to the power 1/4
     assert text.count("L,625000\n") == 8
@@ -71,7 +73,8 @@ def test_a_short_ton_of_rock_is_less_than_a_tonne():
 
 
 def test_a_return_brings_what_it_says():
-    # A return of 30 a tonne, as grade 30: 1 t has 0.03 kg, which bring 3,000 cents at 100,000 cents a kilogram.
+    # A return of 30 a tonne, as grade 30: 1 t has 0.03 kg, which bring 3,000 cents at 100,000 cents
+    # a kilogram.
     text = plan_text(price="", grade_unit="USD/t", mill=["cost 12 USD/t"], leach=[], limit=[])
     assert "mill,mill,1000,100000,1200\n" in text
 
@@ -80,8 +83,10 @@ def test_a_flat_slope_is_never_steeper_than_its_degrees():
     for degrees in range(1, 90):
         found = degrees_of(slope_of(degrees))
         assert degrees - 0.06 < found <= degrees + 1e-9
-    assert slope_of(45) == Slope(1, 1) and slope_of(40) == Slope(839, 1000) and slope_of(55) == Slope(1000, 701)
-    assert slopes_of("+x 3:2, -x 1:1, N 5:4, south 5:4") == (Slope(3, 2), Slope(1, 1), Slope(5, 4), Slope(5, 4))
+    assert slope_of(45) == Slope(1, 1) and slope_of(40) == Slope(839, 1000) and slope_of(
+        55) == Slope(1000, 701)
+    assert slopes_of("+x 3:2, -x 1:1, N 5:4, south 5:4") == (Slope(3, 2), Slope(1, 1), Slope(5, 4),
+                                                             Slope(5, 4))
 
 
 def test_sectors_of_azimuth_become_the_sides_that_lie_in_them():
@@ -102,28 +107,26 @@ def test_sectors_of_azimuth_become_the_sides_that_lie_in_them():
     ({"mill": ["recovery 920 %, cost 16.50 USD/t"]}, "not from 0 to 100"),
     ({"mill": ["recovery 92 %, cost 16.50 USD"]}, "say for what"),
     ({"mill": ["recovery 92 %, cost 16,50 USD/t"]}, "numbers have a decimal point"),
-    ({"price": "1804 USD"}, "say for what"),
-    ({"price": "61 USD/t"}, "count all money in parts"),
+    ({"price": "1804 USD"}, "say for what"), ({"price": "61 USD/t"}, "count all money in parts"),
     ({"price": "1804 USD/oz/t"}, "say for what"),
     ({"leach": ["heap: cost 6 USD/t, 48 % from 0.6 g/t, 30 % from 0.2 g/t"]}, "bands rise"),
     ({"leach": ["heap: cost 6 USD/t, 0.2 300"]}, "a band is as"),
     ({"slope": ["45", "north: 50"]}, "no zone `north`"),
-    ({"slope": ["E 45, W 50"]}, r"no slope for \+y, -y"),
-    ({"slope": ["95"]}, "give 1 to 89"),
+    ({"slope": ["E 45, W 50"]}, r"no slope for \+y, -y"), ({"slope": ["95"]}, "give 1 to 89"),
     ({"slope": ["0-90 45, 90-180 50"]}, "180 degrees wide"),
     ({"limit": ["crusher: plant, at most 1 Mt"]}, "no destination `plant`"),
     ({"limit": ["crusher: mill, at most 2.5 million"]}, "the unit is t, kt or Mt"),
     ({"limit": ["crusher: mill, at most 1 Mt", "crusher: at least 0.5 Mt"]}, "give both ends"),
     ({"limit": ["crusher: mill, at most 1 Mt, period 4"]}, "periods are 0 to 3"),
     ({"limit": ["crusher: mill, 2 Mt to 1 Mt"]}, "falls"),
-    ({"periods": "16 quarters"}, "a year or a period"),
-    ({"rate": "0.08"}, "give percent a year"),
+    ({"periods": "16 quarters"}, "a year or a period"), ({"rate": "0.08"}, "give percent a year"),
     ({"dump": ["mill: cost 1 USD/t"]}, "two destinations `mill`"),
-    ({"price": "1804 AUD/oz"}, "--mill: mill: cost is in USD, and --price in AUD: a plan has one currency"),
+    ({"price": "1804 AUD/oz"},
+     "--mill: mill: cost is in USD, and --price in AUD: a plan has one currency"),
     ({"price": "1804 USD/oz, selling 45 AUD/oz"}, "--price: selling is in AUD, and --price in USD"),
     ({"mining": "2 EUR/t"}, "--price is in USD, and --mining in EUR"),
-    ({"price": "", "grade_unit": "AUD/t", "mill": ["cost 12 USD/t"], "leach": []}, "--mill: mill: cost is in USD, and the grade in AUD"),
-])
+    ({"price": "", "grade_unit": "AUD/t", "mill": ["cost 12 USD/t"], "leach": []},
+     "--mill: mill: cost is in USD, and the grade in AUD")])
 def test_words_that_cannot_be_right_are_named(changed, told):
     with pytest.raises(UserError, match=told):
         plan_text(**changed)
@@ -145,16 +148,20 @@ def test_what_may_be_wrong_is_told(changed, told):
 
 
 def test_what_is_taken_without_a_word_is_a_note():
-    plan, explained = plan_from(Spoken(**{**WORDS, "rate": "", "periods": "", "limit": []}), GRID, ["oxide", "west"], 12)
+    plan, explained = plan_from(Spoken(**{**WORDS, "rate": "", "periods": "", "limit": []}), GRID,
+                                ["oxide", "west"], 12)
     assert (plan.periods, plan.rate) == (1, Decimal("0.08"))
-    assert {"--periods was not given: 1 year is taken", "--rate was not given: 8 % a year is taken"} <= set(explained.notes)
+    assert {"--periods was not given: 1 year is taken",
+            "--rate was not given: 8 % a year is taken"} <= set(explained.notes)
     _, sound = plan_from(Spoken(**WORDS), GRID, ["oxide", "west"], 12)
     assert not any("not given" in note for note in sound.notes)
 
 
 def test_an_ore_in_percent_is_told_in_percent():
-    """A pound is 0.45359237 kg, so 4 USD/lb are 882 cents a kilogram, and 16.50 USD/t are paid by 1,650 / (0.92 x 882) kg a tonne, 0.2033 %."""
-    plan, explained = plan_from(Spoken(**{**WORDS, "price": "4 USD/lb", "grade_unit": "%", "leach": ["heap: cost 6.20 USD/t, 30 % from 0.2 %"],
+    """A pound is 0.45359237 kg, so 4 USD/lb are 882 cents a kilogram, and 16.50 USD/t are paid by
+    1,650 / (0.92 x 882) kg a tonne, 0.2033 %."""
+    plan, explained = plan_from(Spoken(**{**WORDS, "price": "4 USD/lb", "grade_unit": "%",
+                                          "leach": ["heap: cost 6.20 USD/t, 30 % from 0.2 %"],
                                           "limit": []}), GRID, ["oxide", "west"], 12)
     said = dict(explained.lines)
     assert said["mill,mill,920,882,1650"].endswith("pays from 0.2033 %")

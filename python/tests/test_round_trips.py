@@ -1,4 +1,5 @@
-"""What is written is read back, and what a reader takes it can write, of made and of changed files."""
+"""What is written is read back, and what a reader takes it can write, of made and of changed
+files."""
 import functools
 import os
 import tempfile
@@ -16,7 +17,8 @@ from pit_tools import instance
 from pit_tools.cli import main
 from pit_tools.errors import UserError
 from pit_tools.identifiers import Identifiers, order_of, read_identifiers, write_identifiers
-from pit_tools.instance import Blocks, Instance, Limit, Problem, UltimatePit, Uses, read_instance, write_instance
+from pit_tools.instance import (Blocks, Instance, Limit, Problem, UltimatePit, Uses, read_instance,
+                                write_instance)
 from pit_tools.minelib import Columns, read_published, write_published
 from pit_tools.schedules import Schedule, read_schedule, write_schedule
 
@@ -32,24 +34,30 @@ def decimals(places, most):
 
 
 # Values of few and of many places, and such as are too great for more than two.
-VALUES = st.one_of(st.sampled_from([0.0, -0.01, 9e9 + 0.25, -9e13 + 0.5]), decimals(2, 10**9), decimals(6, 10**6))
+VALUES = st.one_of(st.sampled_from([0.0, -0.01, 9e9 + 0.25, -9e13 + 0.5]), decimals(2, 10**9),
+                   decimals(6, 10**6))
 
 
 @st.composite
 def uses(draw, blocks, destinations, resources):
-    places = draw(st.lists(st.tuples(st.integers(0, blocks - 1), st.integers(0, destinations - 1), st.integers(0, resources - 1)),
-                           unique=True, max_size=12)) if resources else []
+    places = draw(st.lists(st.tuples(st.integers(0, blocks - 1), st.integers(0, destinations - 1),
+                                     st.integers(0, resources - 1)), unique=True,
+                           max_size=12)) if resources else []
     block, destination, resource = zip(*sorted(places)) if places else ((), (), ())
-    amounts = draw(st.lists(st.one_of(VALUES, decimals(3, 10**6)), min_size=len(places), max_size=len(places)))
-    return Uses(np.array(block, np.int32), np.array(destination, np.int8), np.array(resource, np.int8), np.array(amounts, float))
+    amounts = draw(st.lists(st.one_of(VALUES, decimals(3, 10**6)), min_size=len(places),
+                            max_size=len(places)))
+    return Uses(np.array(block, np.int32), np.array(destination, np.int8),
+                np.array(resource, np.int8), np.array(amounts, float))
 
 
 @st.composite
 def limits(draw, resources, periods):
-    places = draw(st.lists(st.tuples(st.integers(0, resources - 1), st.integers(0, periods - 1)), unique=True, max_size=5)) if resources else []
+    places = draw(st.lists(st.tuples(st.integers(0, resources - 1), st.integers(0, periods - 1)),
+                           unique=True, max_size=5)) if resources else []
     ends = st.one_of(decimals(6, 10**6), decimals(0, 10**9))
-    return [Limit.of(*place, letter, sorted([draw(ends), draw(ends)]) if letter == "I" else [draw(ends)])
-            for place, letter in ((place, draw(st.sampled_from("LGI"))) for place in sorted(places))]
+    return [Limit.of(*place, letter, sorted([draw(ends), draw(ends)]) if letter == "I"
+                     else [draw(ends)]) for place, letter in ((place, draw(st.sampled_from("LGI")))
+                                                              for place in sorted(places))]
 
 
 @st.composite
@@ -64,8 +72,10 @@ def problems(draw, kind, blocks):
 @st.composite
 def instances(draw, in_order=True):
     n = draw(st.integers(1, 7))
-    whole = [draw(arrays.arrays(np.int32, n, elements=st.integers(0, most))) for most in (9999, 9999, 9999, 63)]
-    tonnes, grade = (draw(arrays.arrays(float, n, elements=decimals(places, 10**6).map(abs))) for places in (3, 6))
+    whole = [draw(arrays.arrays(np.int32, n, elements=st.integers(0, most)))
+             for most in (9999, 9999, 9999, 63)]
+    tonnes, grade = (draw(arrays.arrays(float, n, elements=decimals(places, 10**6).map(abs)))
+                     for places in (3, 6))
     above = np.triu(draw(arrays.arrays(np.int8, (n, n), elements=st.integers(0, 1))), 1)
     if not in_order:
         order = np.array(draw(st.permutations(range(n))))
@@ -80,7 +90,8 @@ def same(one, other):
     for part in ("blocks", "upit", "pcpsp", "cpit"):
         here, there = vars(getattr(one, part)), vars(getattr(other, part))
         for name, value in here.items():
-            pairs = zip(vars(value).values(), vars(there[name]).values()) if isinstance(value, Uses) else [(value, there[name])]
+            pairs = (zip(vars(value).values(), vars(there[name]).values())
+                     if isinstance(value, Uses) else [(value, there[name])])
             assert all(np.array_equal(a, b) for a, b in pairs), (part, name, value, there[name])
     assert (one.precedence != other.precedence).nnz == 0
     return True
@@ -122,16 +133,19 @@ def test_an_instance_that_is_written_is_read_back(mine):
 
 
 @SOME
-@given(st.sampled_from(instance.TEXTS), st.integers(0, 10**6), st.sampled_from(
-    ["", "0", "-1", "7", "0.5", "300", "1e3", "1e15", "nan", "inf", "x", ".", "4294967296", "5.0000001", "1 2", ":", "%", "\n", '"', "NAME: a b"]))
+@given(st.sampled_from(instance.TEXTS), st.integers(0, 10**6),
+       st.sampled_from(["", "0", "-1", "7", "0.5", "300", "1e3", "1e15", "nan", "inf", "x", ".",
+                        "4294967296", "5.0000001", "1 2", ":", "%", "\n", '"', "NAME: a b"]))
 def test_what_a_reader_takes_it_can_write(text, place, cell):
-    """One field of one file is another one: it is refused in one line, or what is read is written and read back."""
+    """One field of one file is another one: it is refused in one line, or what is read is written
+    and read back."""
     with tempfile.TemporaryDirectory() as folder:
         base = changed(folder, text, place, cell)
         try:
             mine = read_instance(base)
         except UserError as error:
-            assert "\n" not in str(error) and f"mine.{text}" in str(error) or "not of as many blocks" in str(error)
+            assert ("\n" not in str(error) and f"mine.{text}" in str(error)
+                    or "not of as many blocks" in str(error))
             return
         write_instance(mine, os.path.join(folder, "copy"))
         assert same(mine, read_instance(os.path.join(folder, "copy")))
@@ -144,7 +158,8 @@ def test_published_files_are_read_back(mine, order):
     with tempfile.TemporaryDirectory() as folder:
         base = os.path.join(folder, "mine")
         write_published(mine, base, order)
-        found, identifiers = read_published({ending: f"{base}.{ending}" for ending in instance.TEXTS}, Columns(5, 6, 7), order)
+        found, identifiers = read_published({ending: f"{base}.{ending}"
+                                             for ending in instance.TEXTS}, Columns(5, 6, 7), order)
         assert same(mine, found) and identifiers.published.tolist() == list(range(len(mine.blocks)))
 
 
@@ -154,13 +169,15 @@ def test_blocks_come_before_what_they_wait_for(mine):
     with tempfile.TemporaryDirectory() as folder:
         base = os.path.join(folder, "mine")
         write_published(mine, base)
-        found, identifiers = read_published({ending: f"{base}.{ending}" for ending in instance.TEXTS}, Columns(5, 6, 7), "bdr")
+        found, identifiers = read_published({ending: f"{base}.{ending}"
+                                             for ending in instance.TEXTS}, Columns(5, 6, 7), "bdr")
         assert order_of(found.precedence) is None
         before = identifiers.published
         assert sorted(before) == list(range(len(mine.blocks)))
         assert (found.precedence != mine.precedence[before][:, before]).nnz == 0
         assert np.array_equal(found.upit.values, mine.upit.values[before])
-        assert np.array_equal(found.pcpsp.use_matrix(0).toarray(), mine.pcpsp.use_matrix(0).toarray()[before])
+        assert np.array_equal(found.pcpsp.use_matrix(0).toarray(),
+                              mine.pcpsp.use_matrix(0).toarray()[before])
 
 
 @SOME
@@ -176,7 +193,8 @@ def test_identifiers_are_read_back(order, first):
 
 
 @SOME
-@given(st.lists(st.tuples(st.integers(0, 5), st.integers(0, 2), st.integers(0, 2), decimals(6, 1).map(abs)), max_size=9), st.booleans())
+@given(st.lists(st.tuples(st.integers(0, 5), st.integers(0, 2), st.integers(0, 2),
+                          decimals(6, 1).map(abs)), max_size=9), st.booleans())
 def test_a_schedule_is_read_back(lines, is_pcpsp):
     mine = six_blocks()
     block, period, destination, share = zip(*lines) if lines else ((), (), (), ())
@@ -190,14 +208,16 @@ def test_a_schedule_is_read_back(lines, is_pcpsp):
 
 
 @SOME
-@given(st.sampled_from(instance.TEXTS), st.integers(0, 10**6), st.sampled_from(
-    ["", "0", "-1", "7", "0.5", "300", "1e3", "1e15", "nan", "inf", "x", ".", "4294967296", "5.0000001", "1 2", ":", "%", "\n", '"', "EOF"]))
+@given(st.sampled_from(instance.TEXTS), st.integers(0, 10**6),
+       st.sampled_from(["", "0", "-1", "7", "0.5", "300", "1e3", "1e15", "nan", "inf", "x", ".",
+                        "4294967296", "5.0000001", "1 2", ":", "%", "\n", '"', "EOF"]))
 def test_a_changed_published_file_is_taken_or_refused_in_a_line(text, place, cell):
     """What is brought in is an instance that the reader takes."""
     with tempfile.TemporaryDirectory() as folder:
         base = changed(folder, text, place, cell)
         words = [word for ending in instance.TEXTS for word in (f"--{ending}", f"{base}.{ending}")]
-        status = main(["minelib", *words, "--tonnes", "5", "--grade", "6", "--zone", "7", "--out", os.path.join(folder, "again")])
+        status = main(["minelib", *words, "--tonnes", "5", "--grade", "6", "--zone", "7", "--out",
+                       os.path.join(folder, "again")])
         assert status in (0, 2)
         if status == 0:
             assert read_instance(os.path.join(folder, "again")).blocks is not None

@@ -1,4 +1,5 @@
-"""A search for schedules: its start from shells, and what it finds of programs whose best is known."""
+"""A search for schedules: its start from shells, and what it finds of programs whose best is
+known."""
 import numpy as np
 import pytest
 from scipy import sparse
@@ -15,29 +16,37 @@ def mine_of(tmp_path, size=(6, 5, 4), shape="lens"):
 
 
 def columns(values):
-    """Three columns of two blocks of 10 t, the upper one of each above the lower one; 20 t may be mined in each of two
-    periods, at a rate of 0.5."""
+    """Three columns of two blocks of 10 t, the upper one of each above the lower one; 20 t may be
+    mined in each of two periods, at a rate of 0.5."""
     count = len(values)
     zeros = np.zeros(count, dtype=np.int32)
-    blocks = Blocks(np.arange(count, dtype=np.int32) % 3, zeros, np.arange(count, dtype=np.int32) // 3, np.full(count, 10.0), np.zeros(count), zeros)
+    blocks = Blocks(np.arange(count, dtype=np.int32) % 3, zeros,
+                    np.arange(count, dtype=np.int32) // 3, np.full(count, 10.0), np.zeros(count),
+                    zeros)
     uses = Uses(np.arange(count), zeros, zeros, np.full(count, 10.0))
     limits = [Limit.of(0, period, "L", [20.0]) for period in range(2)]
-    arcs = sparse.csr_matrix((np.ones(3, dtype=np.int8), ([0, 1, 2], [3, 4, 5])), shape=(count, count))
-    return Problem("CPIT", "columns", 2, 1, 0.5, np.array(values, dtype=float)[:, None], uses, limits), blocks, arcs
+    arcs = sparse.csr_matrix((np.ones(3, dtype=np.int8), ([0, 1, 2], [3, 4, 5])),
+                             shape=(count, count))
+    return Problem("CPIT", "columns", 2, 1, 0.5, np.array(values, dtype=float)[:, None], uses,
+                   limits), blocks, arcs
 
 
 def test_shells_hold_their_predecessors_and_the_last_is_the_pit():
     problem, blocks, arcs = columns([100, 30, 5, -10, -10, -10])
     shell = shells(blocks.tonnes, problem.values[:, 0], arcs)
-    assert shell[0] == shell[3] < shell[1] == shell[4] <= SHELLS and shell[2] == shell[5] == SHELLS + 1
+    assert (shell[0] == shell[3] < shell[1] == shell[4] <= SHELLS
+            and shell[2] == shell[5] == SHELLS + 1)
 
 
 def test_the_richest_shell_comes_first():
-    """The column worth 90 in period 0, that worth 20 in period 1, and the one that is worth less than nothing never."""
+    """The column worth 90 in period 0, that worth 20 in period 1, and the one that is worth less
+    than nothing never."""
     problem, blocks, arcs = columns([30, 100, 5, -10, -10, -10])
     start = from_shells(problem, blocks, arcs)
-    assert sorted(zip(start.block.tolist(), start.period.tolist())) == [(0, 1), (1, 0), (3, 1), (4, 0)]
-    assert start.worth(problem) == pytest.approx(90 + 20 / 1.5) and check(start, problem, arcs).holds
+    assert sorted(zip(start.block.tolist(), start.period.tolist())) == [(0, 1), (1, 0), (3, 1),
+                                                                        (4, 0)]
+    assert start.worth(problem) == pytest.approx(90 + 20 / 1.5) and check(start, problem,
+                                                                          arcs).holds
 
 
 @pytest.mark.parametrize("kind", ["cpit", "pcpsp"])
@@ -46,7 +55,8 @@ def test_a_start_from_shells_keeps_order_and_upper_limits(tmp_path, kind, shape)
     mine = mine_of(tmp_path, shape=shape)
     problem = getattr(mine, kind)
     start = from_shells(problem, mine.blocks, mine.precedence)
-    assert not [line for line in check(start, problem, mine.precedence).broken if " t of I" not in line]
+    assert not [line
+                for line in check(start, problem, mine.precedence).broken if " t of I" not in line]
     used = start.used(problem)
     assert all(used[limit.resource, limit.period] <= limit.most for limit in problem.limits)
 
@@ -58,7 +68,8 @@ def test_a_search_finds_what_is_best(tmp_path, kind):
     best = solve(program_of(problem, mine.precedence))
     found = Search(problem, mine.blocks, mine.precedence, 36000).run()
     assert best.status == "best" and check(found.schedule, problem, mine.precedence).holds
-    assert found.schedule.worth(problem) == pytest.approx(best.value, rel=1e-6) and found.bound == pytest.approx(best.value, rel=1e-6)
+    assert found.schedule.worth(problem) == pytest.approx(
+        best.value, rel=1e-6) and found.bound == pytest.approx(best.value, rel=1e-6)
 
 
 def test_a_part_never_makes_a_schedule_worse_and_leaves_what_it_holds(tmp_path):
@@ -67,12 +78,13 @@ def test_a_part_never_makes_a_schedule_worse_and_leaves_what_it_holds(tmp_path):
     start = from_shells(mine.cpit, mine.blocks, mine.precedence)
     assert search._take(start, "shells")
     free = np.zeros(len(mine.blocks), dtype=bool)
-    search._some = lambda: free
-    search._part()
+    search._some = lambda _: free
+    search._part(start)
     assert search.best is start
     free[:] = True
-    search._part()
-    assert search.worth > start.worth(mine.cpit) + STEP and search.how == "shells, then parts of the program"
+    search._part(start)
+    assert (search.worth > start.worth(mine.cpit) + STEP
+            and search.how == "shells, then parts of the program")
     assert check(search.best, mine.cpit, mine.precedence).holds
 
 

@@ -17,13 +17,15 @@ PLAN = Deposit().plan()
 
 def test_all_combinations_of_cells(tmp_path, capsys):
     (tmp_path / "deposit.plan").write_text(PLAN)
-    words = ["vary", str(tmp_path / "deposit.plan"), "--set", "K=2,4", "--set", "price=5000000,5800000", "--folder", str(tmp_path),
-             "--zones", "a.csv", "b.csv", "--list", str(tmp_path / "LIST")]
+    words = ["vary", str(tmp_path / "deposit.plan"), "--set", "K=2,4", "--set",
+             "price=5000000,5800000", "--folder", str(tmp_path), "--zones", "a.csv", "b.csv",
+             "--list", str(tmp_path / "LIST")]
     assert main(words) == 0 and capsys.readouterr().out == "4 plans\n"
     lines = (tmp_path / "LIST").read_text().splitlines()
     assert lines[2] == "deposit-K4-price5000000.plan a.csv b.csv" and len(lines) == 4
     plan = plan_of((tmp_path / "deposit-K4-price5000000.plan").read_text())
-    assert [zone.benches for zone in plan.zones] == [4, 4, 4] and {one.price for one in plan.destinations if one.bands} == {5000000}
+    assert [zone.benches for zone in plan.zones] == [4, 4, 4] and {
+        one.price for one in plan.destinations if one.bands} == {5000000}
     assert plan.name == "deposit-K4-price5000000" and plan.limits == plan_of(PLAN).limits
 
 
@@ -45,8 +47,10 @@ def test_a_cell_is_changed_and_no_other(cell, value, old, new):
     assert varied(PLAN, "other", [(cell, value)]) == wanted and wanted != PLAN
 
 
-@pytest.mark.parametrize("sets, told", [(["cost=3"], "no record of the plan has the cell `cost`"), (["mill.heap.cost=3"], "no record"), (["K"], "no CELL=VALUE"),
-                                        (["K=2,2"], "comes twice"), (["rate=" + "0" * 70], "longer than 64")])
+@pytest.mark.parametrize("sets, told",
+                         [(["cost=3"], "no record of the plan has the cell `cost`"),
+                          (["mill.heap.cost=3"], "no record"), (["K"], "no CELL=VALUE"),
+                          (["K=2,2"], "comes twice"), (["rate=" + "0" * 70], "longer than 64")])
 def test_what_is_no_cell_is_told(sets, told):
     with pytest.raises(UserError, match=told):
         list(variations(PLAN, "deposit", [Change.of(text) for text in sets]))
@@ -57,10 +61,13 @@ def test_sections_of_the_pipe_form_become_files(tmp_path):
     endings = ("blocks", "prec", "upit", "pcpsp", "cpit")
     text = "".join(f"== {ending}\n" + open(f"{base}.{ending}").read() for ending in endings)
     words = [sys.executable, "-m", "pit_tools", "texts", str(tmp_path / "again")]
-    run = dict(env={**os.environ, "PYTHONPATH": os.path.join(mines.TOP, "python")}, capture_output=True, text=True)
+    run = dict(env={**os.environ, "PYTHONPATH": os.path.join(mines.TOP, "python")},
+               capture_output=True, text=True)
     assert subprocess.run(words, input=text, **run).returncode == 0
     for ending in endings:
         assert open(f"{base}.{ending}").read() == (tmp_path / f"again.{ending}").read_text()
-    for wrong, told in (("", "has the sections none"), ("pitc: plan row 1: Key\n", "does not begin with a section"), (text + "== blocks\n", "stands twice")):
+    for wrong, told in (("", "has the sections none"),
+                        ("pitc: plan row 1: Key\n", "does not begin with a section"),
+                        (text + "== blocks\n", "stands twice")):
         done = subprocess.run(words, input=wrong, **run)
         assert done.returncode == 2 and told in done.stderr and done.stderr.count("\n") == 1

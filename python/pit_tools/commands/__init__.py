@@ -14,4 +14,5 @@ PRECEDENCE = "BASE.prec, or what pitc_thin wrote"
 
 def add_precedence_option(parser: argparse.ArgumentParser) -> None:
     """The option --prec of commands that read an instance by its base."""
-    parser.add_argument("--prec", metavar="FILE", help="a precedence file in place of BASE.prec, as that of pitc_thin")
+    parser.add_argument("--prec", metavar="FILE",
+                        help="a precedence file in place of BASE.prec, as that of pitc_thin")

@@ -3,41 +3,46 @@ from __future__ import annotations
 
 import argparse
 
-HELP = """Makes one instance of several of the same blocks: each block has the values and coefficients of the one
-that is for its zone. So rock of a zone goes to its own mill, costs grow with depth, recoveries differ
-by rock.
+HELP = """Makes one instance of several of the same blocks: each block has the values and
+coefficients of the one that is for its zone. So rock of a zone goes to its own mill, costs grow
+with depth, recoveries differ by rock.
 
     pit-tools by-zone both oxide:0 sulphide:1,2
 
-reads oxide.blocks and so on for zone 0 and sulphide.blocks and so on for zones 1 and 2, counted from 0
-in the plan's order, and writes both.blocks, both.prec, both.upit, both.pcpsp and both.cpit. The plans
-have the same periods, destinations, resources and rate; names and limits are those of the first."""
+reads oxide.blocks and so on for zone 0 and sulphide.blocks and so on for zones 1 and 2, counted
+from 0 in the plan's order, and writes both.blocks, both.prec, both.upit, both.pcpsp and both.cpit.
+The plans have the same periods, destinations, resources and rate; names and limits are those of the
+first."""
 
 WRITES = "texts of an instance"
 
 
 def add_arguments(parser: argparse.ArgumentParser) -> None:
     parser.add_argument("out", metavar="OUT", help="the base of what is written")
-    parser.add_argument("parts", nargs="+", metavar="BASE:ZONE,..", help="an instance, and the zones that it is for")
+    parser.add_argument("parts", nargs="+", metavar="BASE:ZONE,..",
+                        help="an instance, and the zones that it is for")
 
 
 def run(args: argparse.Namespace) -> int:
+    import numpy as np
+
     from pit_tools import outputs
     from pit_tools.by_zone import by_zone
     from pit_tools.errors import UserError
-    from pit_tools.instance import read_instance, write_instance
+    from pit_tools.instance import present, read_instance, write_instance
 
     parts = []
     for text in args.parts:
         base, _, zones = text.rpartition(":")
         if not base or not all(cell.strip().isdigit() for cell in zones.split(",")):
             raise UserError(f"`{text}`: give an instance and its zones, as oxide:0,2")
-        parts.append(([int(cell) for cell in zones.split(",")], read_instance(base, ("blocks", "upit", "pcpsp", "cpit"))))
+        parts.append(([int(cell) for cell in zones.split(",")],
+                      read_instance(base, ("blocks", "upit", "pcpsp", "cpit"))))
     made = by_zone(parts)
     with outputs.together():
         write_instance(made, args.out)
         outputs.copied(args.parts[0].rpartition(":")[0] + ".prec", args.out + ".prec", "prec")
     for text, (zones, _) in zip(args.parts, parts):
-        count = sum(int((made.blocks.zone == zone).sum()) for zone in zones)
+        count = int(np.isin(present(made.blocks, "block file").zone, zones).sum())
         print(f"{count:,} blocks of {text.rpartition(':')[0]}")
     return 0

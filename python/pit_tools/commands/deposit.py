@@ -2,6 +2,7 @@
 from __future__ import annotations
 
 import argparse
+from typing import Optional
 
 HELP = """\
 Makes deposits in three zones with their plans, in the current folder: NAME.plan, NAME-oxide.csv,
@@ -19,14 +20,21 @@ shapes: lens, flat, and dips to the east; pipe, upright and round; vein, steep a
 
 WRITES = "plans, zone files and lists"
 
+WHAT_A_SIZE_IS = "a size is three numbers of blocks, as 24,18,12"
+
 
 def add_arguments(parser: argparse.ArgumentParser) -> None:
-    parser.add_argument("--name", default=None, help="the name, `deposit` where none is given; before the seed where there are several")
-    parser.add_argument("--seed", default=None, help="1 to 1000000, or a span as 1-100: it moves the ore and draws its width and grade")
-    parser.add_argument("--size", default="24,18,12", help="numbers of blocks of 20 x 20 x 10 m along x, y and z (24,18,12)")
-    parser.add_argument("--shape", default="lens", help="lens, pipe or vein, or several with commas (lens)")
+    parser.add_argument("--name", default=None, help="the name, `deposit` where none is given; "
+                        "before the seed where there are several")
+    parser.add_argument("--seed", default=None, help="1 to 1000000, or a span as 1-100: it moves "
+                        "the ore and draws its width and grade")
+    parser.add_argument("--size", default="24,18,12",
+                        help="numbers of blocks of 20 x 20 x 10 m along x, y and z (24,18,12)")
+    parser.add_argument("--shape", default="lens",
+                        help="lens, pipe or vein, or several with commas (lens)")
     parser.add_argument("--folder", default=".", help="where the files go")
-    parser.add_argument("--list", metavar="FILE", help="writes a line for each deposit, its plan and its zone files")
+    parser.add_argument("--list", metavar="FILE",
+                        help="writes a line for each deposit, its plan and its zone files")
 
 
 def _numbers(text: str, what: str) -> list[int]:
@@ -46,17 +54,23 @@ def _seeds(text: str) -> list[int]:
 def run(args: argparse.Namespace) -> int:
     from pit_tools import outputs
     from pit_tools.deposits import Deposit
+    from pit_tools.errors import UserError
 
-    size = tuple(_numbers(args.size, "a size is three numbers of blocks, as 24,18,12"))
-    shapes = args.shape.split(",")
-    seeds = [None] if args.seed is None else _seeds(args.seed)
+    size = _numbers(args.size, WHAT_A_SIZE_IS)
+    if len(size) != 3:
+        raise UserError(WHAT_A_SIZE_IS)
+    wide, deep, high = size
+    shapes: list[str] = args.shape.split(",")
+    seeds: list[Optional[int]] = [None] if args.seed is None else [*_seeds(args.seed)]
     is_one = len(seeds) == len(shapes) == 1
     lines = []
     with outputs.together():
         for seed in seeds:
             for shape in shapes:
-                name = (args.name or "deposit") if is_one else f"{args.name or ''}{shape}{'' if seed is None else seed}"
-                lines.append(" ".join(Deposit(name, seed, size, shape).write(args.folder)))
+                name = ((args.name or "deposit") if is_one
+                        else f"{args.name or ''}{shape}{'' if seed is None else seed}")
+                lines.append(" ".join(Deposit(name, seed, (wide, deep, high),
+                                              shape).write(args.folder)))
         if args.list:
             with outputs.opened(args.list, "list", "ascii") as file:
                 file.write("".join(line + "\n" for line in lines))

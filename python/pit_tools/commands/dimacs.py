@@ -6,13 +6,14 @@ import argparse
 from pit_tools.commands import PRECEDENCE
 
 HELP = """\
-Writes the ultimate pit of an instance as a maximum flow in the DIMACS form, which solvers of flows read.
+Writes the ultimate pit of an instance as a maximum flow in the DIMACS form, which solvers of flows
+read.
 
     pit-tools dimacs deposit.upit deposit.thin --out deposit.max
 
-Node b + 1 is block b; then come the source and the sink. Capacities are cents. The flow from the source
-to blocks of worth, less the maximum flow, is what the pit is worth; the source's side of a minimum cut is
-the pit. (LEMON's solver wants `-long`, without which it answers 0.)
+Node b + 1 is block b; then come the source and the sink. Capacities are cents. The flow from the
+source to blocks of worth, less the maximum flow, is what the pit is worth; the source's side of a
+minimum cut is the pit. (LEMON's solver wants `-long`, without which it answers 0.)
 """
 
 WRITES = "flows"
@@ -39,8 +40,11 @@ def run(args: argparse.Namespace) -> int:
     head = np.where(worth[some] > 0, some + 1, n + 2)
     rows = np.repeat(np.arange(n), np.diff(precedence.indptr))
     with outputs.opened(args.out, "flow") as file:
-        file.write(f"p max {n + 2} {len(some) + precedence.nnz}\nn {n + 1} s\nn {n + 2} t\n".encode())
-        for tails, heads, most in ((tail, head, np.abs(worth[some])), (rows + 1, precedence.indices + 1, np.full(len(rows), no_limit))):
+        counts = f"p max {n + 2} {len(some) + precedence.nnz}"
+        file.write(f"{counts}\nn {n + 1} s\nn {n + 2} t\n".encode())
+        for tails, heads, most in ((tail, head, np.abs(worth[some])),
+                                   (rows + 1, precedence.indices + 1,
+                                    np.full(len(rows), no_limit))):
             for piece in lines_of([(tails, 0), (heads, 0), (most, 0)]):
                 file.write(b"".join(b"a " + line + b"\n" for line in piece.splitlines()))
     return 0

@@ -4,39 +4,46 @@ from __future__ import annotations
 import argparse
 
 HELP = """\
-Ten deposits by seed, with the sums of their instances, the values of their pits, bounds, and the best
-schedules that are known of their CPIT and PCPSP.
+Ten deposits by seed, with the sums of their instances, the values of their pits, bounds, and the
+best schedules that are known of their CPIT and PCPSP.
 
     pit-tools library                    prints the table
     pit-tools library --found            prints when each schedule was found, by whom, and how
     pit-tools library --write folder     makes the plans, zone files, instances and schedules there
-    pit-tools library --check            makes them, and compares sums, pits, schedules and their values
+    pit-tools library --check            makes them, and compares sums, pits, schedules and values
 
-A value is in units of 100 cents, discounted but for period 0 (pit_value is not discounted). No schedule is
-worth more than its bound. The instances are those of `pitc`, to the byte.
+A value is in units of 100 cents, discounted but for period 0 (pit_value is not discounted). No
+schedule is worth more than its bound. The instances are those of `pitc`, to the byte.
 
     pit-tools library --library folder --better lens1.cpit-schedule --by 'A. Miner' --how 'by hand'
     pit-tools library --library folder --seek lens1.cpit lens4.pcpsp
 
-take a better schedule into the library that --write made in a folder: of a file, whose name says of which
-deposit and problem it is, and whose lines are those of `check-schedule`; or of a search, which takes a lower
-bound too. A schedule that does not hold is refused; the status is 1 where none is better.
+take a better schedule into the library that --write made in a folder: of a file, whose name says of
+which deposit and problem it is, and whose lines are those of `check-schedule`; or of a search,
+which takes a lower bound too. A schedule that does not hold is refused; the status is 1 where none
+is better.
 """
 
 WRITES = "plans, zone files, instances, schedules and tables"
 
 
 def add_arguments(parser: argparse.ArgumentParser) -> None:
-    parser.add_argument("--found", action="store_true", help="prints when each schedule was found, by whom, and how")
+    parser.add_argument("--found", action="store_true",
+                        help="prints when each schedule was found, by whom, and how")
     parser.add_argument("--write", metavar="FOLDER", help="makes all files there")
-    parser.add_argument("--check", action="store_true", help="compares all with the tables; ends with 1 where something differs")
-    parser.add_argument("--library", metavar="FOLDER", default="", help="another library than that of the package")
+    parser.add_argument("--check", action="store_true",
+                        help="compares all with the tables; ends with 1 where something differs")
+    parser.add_argument("--library", metavar="FOLDER", default="",
+                        help="another library than that of the package")
     parser.add_argument("--better", metavar="FILE", help="takes a schedule that is better")
     parser.add_argument("--by", metavar="NAME", help="who found it")
     parser.add_argument("--how", metavar="WORDS", help="how it was found")
-    parser.add_argument("--seek", nargs="+", metavar="NAME.KIND", help="seeks better schedules, and takes them")
-    parser.add_argument("--build", metavar="FOLDER", help="seeks all schedules anew, and writes tables, sums and schedules there")
-    parser.add_argument("--seconds", type=float, default=600, metavar="N", help="for each schedule of --seek and --build (600)")
+    parser.add_argument("--seek", nargs="+", metavar="NAME.KIND",
+                        help="seeks better schedules, and takes them")
+    parser.add_argument("--build", metavar="FOLDER", help="seeks all schedules anew, and writes "
+                        "tables, sums and schedules there")
+    parser.add_argument("--seconds", type=float, default=600, metavar="N",
+                        help="for each schedule of --seek and --build (600)")
 
 
 def run(args: argparse.Namespace) -> int:
@@ -55,7 +62,8 @@ def run(args: argparse.Namespace) -> int:
     else:
         if args.write:
             library.write_all(args.write)
-        with open(os.path.join(args.library or library.FOLDER, "FOUND" if args.found else "TABLE"), encoding="utf-8") as file:
+        with open(os.path.join(args.library or library.FOLDER, "FOUND" if args.found else "TABLE"),
+                  encoding="utf-8") as file:
             print(file.read(), end="")
     return 0
 
@@ -83,7 +91,8 @@ def _checked(folder: str) -> int:
     from pit_tools import library
 
     with tempfile.TemporaryDirectory() as made:
-        faults = [fault for deposit in library.DEPOSITS for fault in library.faults_of(deposit, made, folder)]
+        faults = [fault for deposit in library.DEPOSITS
+                  for fault in library.faults_of(deposit, made, folder)]
     for fault in faults:
         print(fault, file=sys.stderr)
     print(f"{len(library.DEPOSITS)} deposits, {len(faults)} differences")

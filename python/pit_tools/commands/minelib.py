@@ -4,22 +4,23 @@ from __future__ import annotations
 import argparse
 
 HELP = """\
-Brings MineLib files of other programs into the form that `pitc check` and this tool read, and writes an
-instance as the library publishes its files. **The library's files are known here by hearsay alone: none
-was tried.** Look at what is told, and at docs/formats.md, before you trust a file.
+Brings MineLib files of other programs into the form that `pitc check` and this tool read, and
+writes an instance as the library publishes its files. **The library's files are known here by
+hearsay alone: none was tried.** Look at what is told, and at docs/formats.md, before you trust a
+file.
 
-    pit-tools minelib --blocks marvin.blocks --prec marvin.prec --cpit marvin.cpit --tonnes 5 --grade 6 \\
-        --out mine
+    pit-tools minelib --blocks marvin.blocks --prec marvin.prec --cpit marvin.cpit \\
+        --tonnes 5 --grade 6 --out mine
     pit-tools minelib --to-published mine.pit --ids mine.ids --out marvin.pit
     pit-tools minelib --publish deposit --out published --order brd --immediate
 
-Inward, comments, `EOF`, exponents, other cases, orders and spellings, identifiers from 1, lines only for
-blocks that have predecessors, and a second number behind `L` or `G` are taken; of UPIT, CPIT and PCPSP
-what is lacking is made of the others; --tonnes, --grade and --zone are fields of a block line, counted
-from 1, and its other fields are skipped, words too. What is changed, rounded or left out is told, with
-its first line. What is not known, does not fit, or is none that `pitc check` takes is refused with its
-line. General side constraints are refused, or left out by --without-general. Where a coefficient's
-fields fit several orders, --order has to say which.
+Inward, comments, `EOF`, exponents, other cases, orders and spellings, identifiers from 1, lines
+only for blocks that have predecessors, and a second number behind `L` or `G` are taken; of UPIT,
+CPIT and PCPSP what is lacking is made of the others; --tonnes, --grade and --zone are fields of a
+block line, counted from 1, and its other fields are skipped, words too. What is changed, rounded or
+left out is told, with its first line. What is not known, does not fit, or is none that `pitc check`
+takes is refused with its line. General side constraints are refused, or left out by
+--without-general. Where a coefficient's fields fit several orders, --order has to say which.
 
 Where a predecessor stands before its block, blocks are put into an order in which it comes later.
 OUT.ids has a line for each block: its identifier in OUT and the one in the published files.
@@ -42,7 +43,8 @@ def add_arguments(parser: argparse.ArgumentParser) -> None:
                         help="a pit or a schedule, to be written with published identifiers")
     parser.add_argument("--from-published", metavar="FILE", help="the same from these")
     parser.add_argument("--ids", metavar="FILE", help="BASE.ids of an instance of published files")
-    parser.add_argument("--out", required=True, metavar="BASE", help="where the files go, or the lines")
+    parser.add_argument("--out", required=True, metavar="BASE",
+                        help="where the files go, or the lines")
     for name in ("tonnes", "grade", "zone"):
         parser.add_argument(f"--{name}", type=int, default=0, metavar="N",
                             help=f"the field of a block line that has the {name}, counted from 1")
@@ -61,8 +63,8 @@ def run(args: argparse.Namespace) -> int:
     files = {ending: getattr(args, ending) for ending in ENDINGS if getattr(args, ending)}
     lines = args.to_published or args.from_published
     if sum(map(bool, (files, args.publish, args.to_published, args.from_published))) != 1:
-        raise UserError("give published files, or an instance by --publish, or lines by --to-published "
-                        "or --from-published")
+        raise UserError("give published files, or an instance by --publish, or lines by "
+                        "--to-published or --from-published")
     if lines and not args.ids:
         raise UserError("give the file of identifiers by --ids")
     if lines:
@@ -113,7 +115,8 @@ def _publish(args: argparse.Namespace) -> int:
                             f"{args.publish} has others")
         mine = reordered(mine, identifiers.blocks())
         if identifiers.first:
-            print(f"identifiers count from 0: each is {identifiers.first} less than the published one")
+            print(f"identifiers count from 0: each is {identifiers.first} less than the published "
+                  "one")
     write_published(mine, args.out, args.order or "bdr")
     print(mine.counts())
     return 0

@@ -28,8 +28,8 @@ reads the arcs of deposit.thin, which pitc_thin wrote: the same pit, by fewer ar
 
     pit-tools pit deposit --plan deposit.plan --K 1,2,4,9,plan --out k
 
-finds the pit for one K after the other, that of all zones, or the plan's own where `plan` stands. It
-reads no precedences, since they follow from the plan, and writes k1.pit, k2.pit and so on.
+finds the pit for one K after the other, that of all zones, or the plan's own where `plan` stands.
+It reads no precedences, since they follow from the plan, and writes k1.pit, k2.pit and so on.
 """
 
 WRITES = "pits"
@@ -38,15 +38,19 @@ WRITES = "pits"
 def add_arguments(parser: argparse.ArgumentParser) -> None:
     parser.add_argument("base", help="the instance: BASE.blocks, BASE.prec, BASE.upit")
     add_precedence_option(parser)
-    parser.add_argument("--out", metavar="FILE", help="where the pit's blocks go; with --K the beginning of the names")
-    parser.add_argument("--plan", metavar="PLAN", help="finds the arcs by this plan, and not by BASE.prec")
-    parser.add_argument("--K", metavar="LIST", default="plan", help="benches that cones go up, as 1,2,4,plan; needs --plan")
+    parser.add_argument("--out", metavar="FILE",
+                        help="where the pit's blocks go; with --K the beginning of the names")
+    parser.add_argument("--plan", metavar="PLAN",
+                        help="finds the arcs by this plan, and not by BASE.prec")
+    parser.add_argument("--K", metavar="LIST", default="plan",
+                        help="benches that cones go up, as 1,2,4,plan; needs --plan")
 
 
 def run(args: argparse.Namespace) -> int:
+    from pit_tools import progress
     from pit_tools.closure import ultimate_pit
     from pit_tools.errors import UserError
-    from pit_tools.instance import read_instance
+    from pit_tools.instance import present, read_instance
     from pit_tools.pits import told, write_pit
 
     if args.plan and args.prec:
@@ -55,18 +59,21 @@ def run(args: argparse.Namespace) -> int:
         return _by_plan(args)
     if args.K != "plan":
         raise UserError("--K needs --plan")
-    mine = read_instance(args.base, ("blocks", "prec", "upit"), args.prec)
-    if mine.upit is None:
-        raise UserError(f"cannot open {args.base}.upit: No such file or directory")
-    in_pit = ultimate_pit(mine.upit.values, mine.precedence)
+    with progress.shown("pit", 2):
+        progress.step(f"reads {args.base}")
+        mine = read_instance(args.base, ("blocks", "prec", "upit"), args.prec)
+        blocks, upit = present(mine.blocks, "block file"), present(mine.upit, f"{args.base}.upit")
+        progress.step("finds the ultimate pit")
+        in_pit = ultimate_pit(upit.values, mine.precedence)
     if args.out:
         write_pit(in_pit, args.out)
-    print(told(in_pit, mine.blocks, mine.upit.values, _note(args.base + ".plan", mine.upit.name)))
+    print(told(in_pit, blocks, upit.values, _note(args.base + ".plan", upit.name)))
     return 0
 
 
 def _note(plan_path: str, name: str) -> PlanNote:
-    """The note of the plan of an instance of this name; where one is there and does not fit, that is told."""
+    """The note of the plan of an instance of this name; where one is there and does not fit, that
+    is told."""
     import os
     import sys
 
@@ -82,42 +89,45 @@ def _note(plan_path: str, name: str) -> PlanNote:
 
 
 def _by_plan(args: argparse.Namespace) -> int:
-    from pit_tools import outputs
+    from pit_tools import outputs, progress
     from pit_tools.errors import UserError
-    from pit_tools.instance import read_instance
+    from pit_tools.instance import present, read_instance
     from pit_tools.plan_file import read_plan
 
     plan = read_plan(args.plan)
     mine = read_instance(args.base, ("blocks", "upit"))
-    if mine.upit is None:
-        raise UserError(f"cannot open {args.base}.upit: No such file or directory")
-    if mine.blocks.zone.max() >= len(plan.zones):
-        raise UserError(f"{args.base}.blocks has a zone {mine.blocks.zone.max()}, and the plan {len(plan.zones)} zones")
+    most = int(present(mine.blocks, "block file").zone.max())
+    if most >= len(plan.zones):
+        raise UserError(f"{args.base}.blocks has a zone {most}, and the plan {len(plan.zones)} "
+                        "zones")
     note = _note(args.plan, plan.name)
     benches = args.K.split(",")
     for K in benches:
         if K != "plan" and not (K.isdigit() and 1 <= int(K) <= 20):
             raise UserError(f"--K: `{K}` is neither 1 to 20 nor `plan`")
-    with outputs.together():
+    with outputs.together(), progress.shown("pit", len(benches)):
         _pits_by_K(args, plan, mine, benches, note)
     return 0
 
 
-def _pits_by_K(args: argparse.Namespace, plan: Plan, mine: Instance, benches: list[str], note: PlanNote) -> None:
+def _pits_by_K(args: argparse.Namespace, plan: Plan, mine: Instance, benches: list[str],
+               note: PlanNote) -> None:
     """The pit for each of these K, or the plan's own."""
     from dataclasses import replace
 
-    from pit_tools.closure import is_compiled, pit_of_plan, ultimate_pit
-    from pit_tools.cones import precedence_of
+    from pit_tools import progress
+    from pit_tools.closure import pit_by_cones
+    from pit_tools.instance import present
     from pit_tools.pits import told, write_pit
 
+    blocks, values = present(mine.blocks,
+                             "block file"), present(mine.upit, f"{args.base}.upit").values
     for K in benches:
-        zones = plan.zones if K == "plan" else tuple(replace(zone, benches=int(K)) for zone in plan.zones)
-        varied = replace(plan, zones=zones)
-        if is_compiled():
-            in_pit, _ = pit_of_plan(mine.upit.values, mine.blocks, varied)
-        else:
-            in_pit = ultimate_pit(mine.upit.values, precedence_of(mine.blocks, varied))
+        progress.step(f"K = {K}")
+        zones = plan.zones if K == "plan" else tuple(replace(zone, benches=int(K))
+                                                     for zone in plan.zones)
+        in_pit = pit_by_cones(values, blocks, replace(plan, zones=zones))
         if args.out:
             write_pit(in_pit, f"{args.out}{K}.pit")
-        print(f"K = {K}: {told(in_pit, mine.blocks, mine.upit.values, note)}", flush=True)
+        with progress.hidden():
+            print(f"K = {K}: {told(in_pit, blocks, values, note)}", flush=True)

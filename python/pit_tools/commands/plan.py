@@ -20,13 +20,14 @@ HELP = """Writes a first plan from words with units, and explains each record.
         --slope 45 --slope 'west: E 56, W 45, N 51, S 51' --periods '12 years' --rate '8 %' \\
         --limit 'crusher: mill heap, at most 2.5 Mt' --limit 'fleet: all, 1 Mt to 6 Mt'
 
-FROM is what `import` wrote: it has the grid and the zones in their order. A cost is all that a tonne
-costs which goes there, with mining and haulage; --mining adds that to each. Slopes are degrees or
-p:q, for all sides, by side, or by sectors of azimuth (`west: 0-90 50, 90-360 45`), which become the
-sides of the zone. K is as great as the model is high, 20 at the most. All money is of one currency.
+FROM is what `import` wrote: it has the grid and the zones in their order. A cost is all that a
+tonne costs which goes there, with mining and haulage; --mining adds that to each. Slopes are
+degrees or p:q, for all sides, by side, or by sectors of azimuth (`west: 0-90 50, 90-360 45`), which
+become the sides of the zone. K is as great as the model is high, 20 at the most. All money is of
+one currency.
 
-Beside PLAN it writes PLAN.json, a note by which survey, pit and report know the currency, the unit of
-grades and the names of zones."""
+Beside PLAN it writes PLAN.json, a note by which survey, pit and report know the currency, the unit
+of grades and the names of zones."""
 
 WRITES = "plans"
 
@@ -34,23 +35,35 @@ WRITES = "plans"
 def add_arguments(parser: argparse.ArgumentParser) -> None:
     add = parser.add_argument
     add("imported", metavar="FROM", help="BASE.json of `import`")
-    add("--out", default="", metavar="PLAN", help="where the plan is written; without it the plan is printed")
+    add("--out", default="", metavar="PLAN",
+        help="where the plan is written; without it the plan is printed")
     add("--name", default="mine", help="of the instance")
-    add("--price", default="", metavar="PRICE", help="of metal, as '1804 USD/oz', with payable, royalty and selling: ', selling 45 USD/oz'")
-    add("--mining", default="", metavar="COST", help="mining and haulage, which are added to each cost, as '1.80 USD/t'")
-    add("--mill", action="append", default=[], metavar="WORDS", help="'NAME: recovery 92 %%, cost 16.50 USD/t'")
-    add("--leach", action="append", default=[], metavar="WORDS", help="'NAME: cost 6.20 USD/t, 30 %% from 0.2 g/t, ..'")
+    add("--price", default="", metavar="PRICE",
+        help="of metal, as '1804 USD/oz', with payable, royalty and selling: ', selling 45 USD/oz'")
+    add("--mining", default="", metavar="COST",
+        help="mining and haulage, which are added to each cost, as '1.80 USD/t'")
+    add("--mill", action="append", default=[], metavar="WORDS",
+        help="'NAME: recovery 92 %%, cost 16.50 USD/t'")
+    add("--leach", action="append", default=[], metavar="WORDS",
+        help="'NAME: cost 6.20 USD/t, 30 %% from 0.2 g/t, ..'")
     add("--dump", action="append", default=[], metavar="WORDS", help="'NAME: cost 1.80 USD/t'")
     add("--slope", action="append", default=[], metavar="WORDS", help="of all zones, or 'ZONE: ..'")
     add("--K", type=int, default=None, metavar="K", help="of all zones")
-    add("--benches", type=int, default=0, metavar="N", help="how high walls are, where that is not the model's height")
-    add("--periods", default="", metavar="WORDS", help="as '12 years' or '16 quarters'; one year where it is not given")
-    add("--rate", default="", metavar="RATE", help="of discounting, a year; 8 %% where it is not given")
-    add("--limit", action="append", default=[], metavar="WORDS", help="'NAME: DESTINATION .., at most 2.5 Mt a year, period 0 to 3'")
-    add("--parts", type=int, default=1, metavar="N", help="count money in 1/N cents, where a kilogram of metal brings few cents")
+    add("--benches", type=int, default=0, metavar="N",
+        help="how high walls are, where that is not the model's height")
+    add("--periods", default="", metavar="WORDS",
+        help="as '12 years' or '16 quarters'; one year where it is not given")
+    add("--rate", default="", metavar="RATE",
+        help="of discounting, a year; 8 %% where it is not given")
+    add("--limit", action="append", default=[], metavar="WORDS",
+        help="'NAME: DESTINATION .., at most 2.5 Mt a year, period 0 to 3'")
+    add("--parts", type=int, default=1, metavar="N",
+        help="count money in 1/N cents, where a kilogram of metal brings few cents")
 
 
 def run(args: argparse.Namespace) -> int:
+    from dataclasses import fields
+
     from pit_tools import outputs
     from pit_tools.errors import UserError
     from pit_tools.imported import read_imported
@@ -62,9 +75,12 @@ def run(args: argparse.Namespace) -> int:
     if args.parts < 1:
         raise UserError(f"--parts: {args.parts} is below 1")
     imported = read_imported(args.imported)
-    told = {key: value for key, value in vars(args).items() if key in Spoken.__dataclass_fields__}
-    words = Spoken(**told, grade_unit=imported.grade_unit, x_bearing=imported.x_bearing, K_of=imported.benches)
-    plan, explained = plan_from(words, imported.grid, imported.zones, imported.blocks[2], lambda zones: _contacts(imported, zones))
+    known = {field.name for field in fields(Spoken)}
+    told = {key: value for key, value in vars(args).items() if key in known}
+    words = Spoken(**told, grade_unit=imported.grade_unit, x_bearing=imported.x_bearing,
+                   K_of=imported.benches)
+    plan, explained = plan_from(words, imported.grid, imported.zones, imported.blocks[2],
+                                lambda zones: _contacts(imported, zones))
     print(explained.text())
     print()
     if not args.out:
@@ -102,6 +118,8 @@ def _note(plan_text: str, imported: ImportedFile, explained: Told) -> PlanNote:
 
     plan_sum = hashlib.sha256(plan_text.encode("ascii")).hexdigest()
 
-    zones = [ZoneSeen(name, os.path.basename(path), sum_or_none(path)) for name, path in zip(imported.zones, imported.files)]
+    zones = [ZoneSeen(name, os.path.basename(path), sum_or_none(path))
+             for name, path in zip(imported.zones, imported.files)]
     return PlanNote(plan_sum, explained.measures, zones, explained.lines, explained.notes,
-                    [(path, sum_or_none(path)) for path in imported.exports], imported.told, imported.doubts)
+                    [(path, sum_or_none(path)) for path in imported.exports], imported.told,
+                    imported.doubts, imported.frame)

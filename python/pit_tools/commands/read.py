@@ -2,8 +2,12 @@
 from __future__ import annotations
 
 import argparse
+from typing import TYPE_CHECKING, Any
 
 from pit_tools.commands import add_precedence_option
+
+if TYPE_CHECKING:
+    from pit_tools.instance import Instance
 
 HELP = """\
 Reads the files of an instance into arrays and sparse matrices, and prints the counts that
@@ -22,13 +26,14 @@ WRITES = "texts of an instance and arrays"
 
 
 def add_arguments(parser: argparse.ArgumentParser) -> None:
-    parser.add_argument("base", help="the instance: BASE.blocks, BASE.prec, BASE.upit, BASE.pcpsp, BASE.cpit")
+    parser.add_argument("base", help="the instance: BASE.blocks, BASE.prec, BASE.upit, BASE.pcpsp, "
+                        "BASE.cpit")
     add_precedence_option(parser)
     parser.add_argument("--write", metavar="BASE", help="writes the files at another base")
-    parser.add_argument("--arrays", metavar="FILE", help="writes blocks, values, uses and the precedences' "
-                        "indptr and indices into a .npz file")
-    parser.add_argument("--immediate", metavar="BASE", help="writes the files with fewer arcs at another base: "
-                        "no pit and no schedule changes")
+    parser.add_argument("--arrays", metavar="FILE", help="writes blocks, values, uses and the "
+                        "precedences' indptr and indices into a .npz file")
+    parser.add_argument("--immediate", metavar="BASE", help="writes the files with fewer arcs at "
+                        "another base: no pit and no schedule changes")
 
 
 def run(args: argparse.Namespace) -> int:
@@ -53,20 +58,31 @@ def run(args: argparse.Namespace) -> int:
     return 0
 
 
-def _write_arrays(mine, path: str) -> None:
+def _write_arrays(mine: Instance, path: str) -> None:
+    import zipfile
+
     import numpy as np
 
     from pit_tools import outputs
+    from pit_tools.instance import present
 
-    parts = {f"block_{name}": array for name, array in vars(mine.blocks).items()}
-    parts |= {"precedence_indptr": mine.precedence.indptr, "precedence_indices": mine.precedence.indices}
+    precedence: Any = present(mine.precedence, "precedence file")
+    parts = {f"block_{name}": array
+             for name, array in vars(present(mine.blocks, "block file")).items()}
+    parts |= {"precedence_indptr": precedence.indptr, "precedence_indices": precedence.indices}
     if mine.upit:
         parts["upit_values"] = mine.upit.values
-    for problem in filter(None, (mine.pcpsp, mine.cpit)):
+    for problem in [one for one in (mine.pcpsp, mine.cpit) if one]:
         name = problem.kind.lower()
-        limits = [(limit.resource, limit.period, limit.least, limit.most) for limit in problem.limits]
-        parts |= {f"{name}_values": problem.values, f"{name}_rate": problem.rate, f"{name}_periods": problem.periods,
+        limits = [(limit.resource, limit.period, limit.least, limit.most)
+                  for limit in problem.limits]
+        parts |= {f"{name}_values": problem.values, f"{name}_rate": problem.rate,
+                  f"{name}_periods": problem.periods,
                   f"{name}_limits": np.array(limits, dtype=float).reshape(-1, 4)}
         parts |= {f"{name}_use_{part}": array for part, array in vars(problem.uses).items()}
-    with outputs.opened(path if path.endswith(".npz") else path + ".npz", "arrays") as file:
-        np.savez(file, **parts)
+    # numpy's savez leaves its archive open where a disk is full, which then tells of itself.
+    with outputs.opened(path if path.endswith(".npz") else path + ".npz", "arrays") as file, \
+            zipfile.ZipFile(file, "w") as archive:
+        for name, array in parts.items():
+            with archive.open(f"{name}.npy", "w", force_zip64=True) as part:
+                np.save(part, np.asanyarray(array), allow_pickle=False)

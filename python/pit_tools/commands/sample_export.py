@@ -3,10 +3,10 @@ from __future__ import annotations
 
 import argparse
 
-HELP = """Writes an export of zone files, with what such files mostly have: names of its own in quotes, a row of
-units, a row for each place of the box, coordinates and tonnes with the noise of floating point, -99
-where nothing is known, a column of zones, and lines ended by CR LF. Rock of less than 0.002 g/t has no
-grade. `import` is tried with it.
+HELP = """Writes an export of zone files, with what such files mostly have: names of its own in
+quotes, a row of units, a row for each place of the box, coordinates and tonnes with the noise of
+floating point, -99 where nothing is known, a column of zones, and lines ended by CR LF. Rock of
+less than 0.002 g/t has no grade. `import` is tried with it.
 
     pit-tools deposit
     pit-tools sample-export deposit-oxide.csv deposit-west.csv deposit-east.csv > export.csv
@@ -19,12 +19,10 @@ def add_arguments(parser: argparse.ArgumentParser) -> None:
 
 
 def run(args: argparse.Namespace) -> int:
-    import sys
-
+    from pit_tools import outputs
     from pit_tools.sample_export import sample_export
 
-    # The text has its own line ends.
-    sys.stdout.reconfigure(newline="")
-    for line in sample_export(args.zones):
-        sys.stdout.write(line + "\r\n")
+    with outputs.opened_or_printed(None, "rows of a pit", "utf-8", "\r\n") as out:
+        for line in sample_export(args.zones):
+            out.write(line + "\n")
     return 0

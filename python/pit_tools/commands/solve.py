@@ -6,17 +6,17 @@ import argparse
 from pit_tools.commands import PRECEDENCE
 
 HELP = """\
-Finds the best schedule of a CPIT or a PCPSP of some hundred blocks, or a good one of some thousand, by
-HiGHS, which comes with scipy; or the bound of the relaxation.
+Finds the best schedule of a CPIT or a PCPSP of some hundred blocks, or a good one of some thousand,
+by HiGHS, which comes with scipy; or the bound of the relaxation.
 
     pit-tools solve small.cpit small.prec --out small.schedule
     pit-tools solve deposit.pcpsp deposit.prec --ratio 0.01 --seconds 600 --out deposit.schedule
     pit-tools solve deposit.pcpsp deposit.prec --relaxed
 
-It prints how it ended (best; within the ratio; stopped; none), the value, and the bound that no schedule
-is worth more than. A line of the schedule is a block and its period, and for a PCPSP its destination and
-the share, where that is not 1. The status is 1 where no schedule was found. Whether period 0 is
-discounted is for the solver to say: here it is not.
+It prints how it ended (best; within the ratio; stopped; none), the value, and the bound that no
+schedule is worth more than. A line of the schedule is a block and its period, and for a PCPSP its
+destination and the share, where that is not 1. The status is 1 where no schedule was found. Whether
+period 0 is discounted is for the solver to say: here it is not.
 """
 
 WRITES = "schedules"
@@ -26,11 +26,16 @@ def add_arguments(parser: argparse.ArgumentParser) -> None:
     parser.add_argument("problem", help="BASE.cpit or BASE.pcpsp")
     parser.add_argument("precedence", help=PRECEDENCE)
     parser.add_argument("--out", metavar="FILE", help="where the schedule goes")
-    parser.add_argument("--relaxed", action="store_true", help="lets blocks be split over periods: its value is a bound")
-    parser.add_argument("--whole", action="store_true", help="lets no block of a PCPSP be split over destinations")
-    parser.add_argument("--all-arcs", action="store_true", help="all arcs of the file, also such as others imply")
-    parser.add_argument("--seconds", type=float, default=60, metavar="N", help="stops after so many (60); 0 for never")
-    parser.add_argument("--ratio", type=float, default=0.0, metavar="R", help="stops once no schedule can be better by more, as 0.01")
+    parser.add_argument("--relaxed", action="store_true",
+                        help="lets blocks be split over periods: its value is a bound")
+    parser.add_argument("--whole", action="store_true",
+                        help="lets no block of a PCPSP be split over destinations")
+    parser.add_argument("--all-arcs", action="store_true",
+                        help="all arcs of the file, also such as others imply")
+    parser.add_argument("--seconds", type=float, default=60, metavar="N",
+                        help="stops after so many (60); 0 for never")
+    parser.add_argument("--ratio", type=float, default=0.0, metavar="R",
+                        help="stops once no schedule can be better by more, as 0.01")
 
 
 def run(args: argparse.Namespace) -> int:
@@ -51,5 +56,6 @@ def run(args: argparse.Namespace) -> int:
     bound = "" if answer.bound is None else f", bound {answer.bound:.2f}"
     print(f"{answer.status}: worth {answer.value:.2f}{bound}")
     if args.out:
-        write_schedule(schedule_of(answer.values, problem, program.names), args.out, problem.kind == "PCPSP")
+        write_schedule(schedule_of(answer.values, problem, program.names), args.out,
+                       problem.kind == "PCPSP")
     return 0

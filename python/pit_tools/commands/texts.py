@@ -32,13 +32,17 @@ def run(args: argparse.Namespace) -> int:
             if line.startswith(b"== "):
                 name = line[3:].strip().decode("ascii", "replace")
                 if name not in TEXTS or name in found:
-                    raise UserError(f"`{line.decode('utf-8', 'replace').strip()}` is no section of an instance, or stands twice")
+                    raise UserError(f"`{line.decode('utf-8', 'replace').strip()}` is no section of "
+                                    "an instance, or stands twice")
                 found.append(name)
-                file = files.enter_context(outputs.opened(f"{args.base}.{name}", outputs.ENDINGS["." + name]))
+                file = files.enter_context(outputs.opened(f"{args.base}.{name}",
+                                                          outputs.ENDINGS["." + name]))
             elif not found:
-                raise UserError("standard input does not begin with a section, as `== blocks`: did pitc refuse its input?")
+                raise UserError("standard input does not begin with a section, as `== blocks`: did "
+                                "pitc refuse its input?")
             else:
                 file.write(line)
         if found != list(TEXTS):
-            raise UserError(f"standard input has the sections {', '.join(found) or 'none'}, and not {', '.join(TEXTS)}")
+            raise UserError(f"standard input has the sections {', '.join(found) or 'none'}, and "
+                            f"not {', '.join(TEXTS)}")
     return 0

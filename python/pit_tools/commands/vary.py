@@ -4,18 +4,20 @@ from __future__ import annotations
 import argparse
 
 HELP = """\
-Writes plans that differ from one in some cells, in all combinations, each under a name that says which.
+Writes plans that differ from one in some cells, in all combinations, each under a name that says
+which.
 
-    pit-tools vary deposit.plan --set K=2,4 --set price=5000000,5800000 --zones oxide.csv west.csv east.csv --list LIST
+    pit-tools vary deposit.plan --set K=2,4 --set price=5000000,5800000 \\
+        --zones oxide.csv west.csv east.csv --list LIST
     pit-tools vary deposit.plan --set rate=0.05,0.08,0.1 --set limit.crusher=x0.8,x1,x1.2
 
 A cell is one of
 
     K, price, rate, periods     in every record that has it
-    slope                       p and q of all zones, several with semicolons: --set 'slope=1,1;3,2'
+    slope                       p and q of all zones, several with semicolons: 'slope=1,1;3,2'
     zone.1.K, zone.1.slope      of one zone, counted from 0
     mill.NAME.recovery          or price, cost; leach.NAME.price, leach.NAME.cost, dump.NAME.cost
-    limit.NAME, limit.NAME.2    the (upper) number of all limits of a resource, or of those of period 2
+    limit.NAME, limit.NAME.2    the (upper) number of all limits of a resource, or of period 2
 
 A value that begins with x multiplies the plan's. --list writes the list that `batch` reads.
 """
@@ -25,10 +27,14 @@ WRITES = "plans and lists"
 
 def add_arguments(parser: argparse.ArgumentParser) -> None:
     parser.add_argument("plan", help="the plan")
-    parser.add_argument("--set", action="append", default=[], metavar="CELL=VALUE,..", help="a cell and its values; may be given again")
-    parser.add_argument("--name", help="the beginning of the names, that of the plan where none is given")
-    parser.add_argument("--zones", nargs="*", default=[], metavar="FILE", help="the zone files of all of them, for --list")
-    parser.add_argument("--list", metavar="FILE", help="writes a line for each plan: the plan and its zone files")
+    parser.add_argument("--set", action="append", default=[], metavar="CELL=VALUE,..",
+                        help="a cell and its values; may be given again")
+    parser.add_argument("--name",
+                        help="the beginning of the names, that of the plan where none is given")
+    parser.add_argument("--zones", nargs="*", default=[], metavar="FILE",
+                        help="the zone files of all of them, for --list")
+    parser.add_argument("--list", metavar="FILE",
+                        help="writes a line for each plan: the plan and its zone files")
     parser.add_argument("--folder", default=".", help="where the plans go")
 
 

@@ -1,0 +1,38 @@
+"""`pit-tools compile`: runs `pitc compile`, and shows how far it is."""
+from __future__ import annotations
+
+import argparse
+
+HELP = """\
+Runs `pitc compile` with the same words, and shows on a terminal how many bytes it has read and
+written.
+
+    pit-tools compile --plan mine.plan --out mine from-west.csv from-east.csv from-oxide.csv
+
+What pitc prints and the status with which it ends are its own. Files at BASE are replaced by pitc;
+as where it is called alone, no file is begun before all rows are read. Where pitc is in no folder
+of the PATH, --pitc names it.
+"""
+
+
+def add_arguments(parser: argparse.ArgumentParser) -> None:
+    parser.add_argument("--plan", metavar="PLAN", help="the plan")
+    parser.add_argument("--out", metavar="BASE",
+                        help="the front of the names of the instance's files")
+    parser.add_argument("--valuers", metavar="N", help="threads that value rows")
+    parser.add_argument("--capacity", metavar="N", help="rows that may wait for them")
+    parser.add_argument("--pitc", metavar="PROGRAM",
+                        help="the program, where it is not in the PATH")
+    parser.add_argument("zones", nargs="*", metavar="ZONE", help="zone files, in the plan's order")
+
+
+def run(args: argparse.Namespace) -> int:
+    from pit_tools.batch_build import found_program
+    from pit_tools.compiling import compile_shown
+
+    words = [found_program(args.pitc or "pitc", "--pitc"), "compile"]
+    for name in ("plan", "out", "valuers", "capacity"):
+        if (value := getattr(args, name)) is not None:
+            words += [f"--{name}", value]
+    reads = [path for path in (args.plan, *args.zones) if path]
+    return compile_shown([*words, "--", *args.zones], reads, args.out or "")

@@ -1,0 +1,136 @@
+"""A bar on standard error for work that takes long, where that is a terminal; elsewhere nothing.
+
+    with progress.shown("survey", 3):
+        progress.step("the ultimate pit")
+        ...
+
+Steps are told from wherever the work is done: outside of `shown` they tell nothing. Bars are those
+of tqdm, and where that is lacking there is none.
+"""
+from __future__ import annotations
+
+import sys
+import threading
+from contextlib import contextmanager
+from typing import TYPE_CHECKING, Iterator, Optional
+
+if TYPE_CHECKING:
+    from tqdm import tqdm
+
+#: Steps count whole ones; bytes have a unit and a rate.
+_STEPS = "{desc} |{bar:30}| {n_fmt} of {total_fmt}, {elapsed}{postfix}"
+_BYTES = "{desc} |{bar:30}| {n_fmt}{unit} of {total_fmt}{unit}, {elapsed}"
+_GROWING = "{desc} {n_fmt}{unit}, {rate_fmt}, {elapsed}"
+
+
+def is_terminal() -> bool:
+    """Whether standard error is a terminal."""
+    try:
+        return sys.stderr is not None and sys.stderr.isatty()
+    except ValueError:
+        return False
+
+
+def _made(**words: object) -> Optional[tqdm]:
+    """A bar, where it is to be seen."""
+    if not is_terminal():
+        return None
+    try:
+        from tqdm import tqdm
+    except ImportError:
+        return None
+    # Neither a thread that watches bars nor a lock among processes is wanted.
+    tqdm.monitor_interval = 0
+    tqdm.set_lock(threading.RLock())
+    return tqdm(file=sys.stderr, leave=False, dynamic_ncols=True, **words)
+
+
+class _Steps:
+    """A bar of steps, where it is to be seen, and how many of them were begun."""
+
+    #: The one that is shown now.
+    now: Optional[_Steps] = None
+
+    def __init__(self, name: str, total: int):
+        self.drawn = _made(desc=name, total=total, bar_format=_STEPS)
+        self.begun = 0
+
+    def tell(self, count: Optional[int], what: str) -> None:
+        """Shows how many steps are done, where that is given, and a text."""
+        if self.drawn is not None:
+            self.drawn.n = self.drawn.n if count is None else min(count, self.drawn.total)
+            self.drawn.set_postfix_str(what)
+
+
+@contextmanager
+def shown(name: str, steps: int) -> Iterator[None]:
+    """Shows a bar of so many steps until the block ends; within another it is a part of that."""
+    if _Steps.now is not None:
+        yield
+        return
+    one = _Steps.now = _Steps(name, steps)
+    try:
+        yield
+    finally:
+        _Steps.now = None
+        if one.drawn is not None:
+            one.drawn.close()
+
+
+def step(what: str) -> None:
+    """Begins the next step, so that those before are done."""
+    one = _Steps.now
+    if one is not None:
+        one.tell(one.begun, what)
+        one.begun += 1
+
+
+def done(what: str) -> None:
+    """One more step is done, of those that are done in any order."""
+    one = _Steps.now
+    if one is not None:
+        one.begun += 1
+        one.tell(one.begun, what)
+
+
+def tell(what: str) -> None:
+    """Says of the step what it does now."""
+    if _Steps.now is not None:
+        _Steps.now.tell(None, what)
+
+
+@contextmanager
+def hidden() -> Iterator[None]:
+    """Takes the bar away while something is printed."""
+    drawn = _Steps.now.drawn if _Steps.now else None
+    if drawn is not None:
+        drawn.clear()
+    yield
+    if drawn is not None:
+        sys.stdout.flush()
+        drawn.refresh()
+
+
+class Growth:
+    """Bytes that grow: of so many in all, or without an end."""
+
+    def __init__(self) -> None:
+        self.drawn: Optional[tqdm] = None
+        self.name = ""
+
+    def tell(self, name: str, count: int, total: Optional[int] = None) -> None:
+        """Shows how many bytes there are by now, in a bar of its own for each name."""
+        if self.drawn is None or name != self.name:
+            self.close()
+            form = _GROWING if total is None else _BYTES
+            self.name = name
+            self.drawn = _made(desc=name, total=total, unit="B", unit_scale=True, bar_format=form)
+        if self.drawn is not None:
+            self.drawn.update(max(0, count - self.drawn.n))
+            self.drawn.refresh()
+
+    def close(self) -> None:
+        """Takes the bar away."""
+        if self.drawn is not None:
+            self.drawn.close()
+        self.drawn = None

@@ -1,0 +1,199 @@
+"""Bars of progress: on a terminal alone; and `compile`, which hands on what pitc says."""
+import fcntl
+import os
+import pty
+import re
+import signal
+import struct
+import subprocess
+import sys
+import termios
+import time
+
+import pytest
+
+import mines
+from pit_tools import progress
+
+SOURCE = os.path.join(mines.TOP, "python")
+
+WORDS = [sys.executable, "-m", "pit_tools"]
+
+ENVIRONMENT = {**os.environ, "COLUMNS": "200",
+               "PYTHONPATH": os.pathsep.join(filter(None, [SOURCE, os.environ.get("PYTHONPATH")]))}
+
+#: What stands for pitc: it reads and writes slowly, tells a line, and ends as it is told.
+SLOW = """#!/bin/sh
+plan=$3 base=$5
+sleep 0.3
+cat "$7" > /dev/null
+sleep 0.3
+for part in 1 2; do head -c 100000 /dev/zero >> "$base.prec"; sleep 0.3; done
+[ -z "$FAULT" ] || { echo "pitc: $FAULT" >&2; exit 3; }
+echo "rows 7"
+"""
+
+
+def terminal():
+    """The two ends of a terminal of 200 columns."""
+    ours, theirs = pty.openpty()
+    fcntl.ioctl(theirs, termios.TIOCSWINSZ, struct.pack("HHHH", 50, 200, 0, 0))
+    return ours, theirs
+
+
+def on_terminal(words, folder, is_printed_there=False, **more):
+    """Runs pit-tools with a terminal as its standard error; answers the status, what was printed,
+    and what stood on the terminal."""
+    ours, theirs = terminal()
+    output = theirs if is_printed_there else subprocess.PIPE
+    child = subprocess.Popen([*WORDS, *words], cwd=folder, stdout=output, stderr=theirs,
+                             env={**ENVIRONMENT, **more}, text=True)
+    os.close(theirs)
+    shown = b""
+    while True:
+        try:
+            piece = os.read(ours, 1 << 16)
+        except OSError:
+            break
+        if not piece:
+            break
+        shown += piece
+    told = child.stdout.read() if child.stdout else ""
+    status = child.wait()
+    os.close(ours)
+    return status, told, shown.decode("utf-8", "replace")
+
+
+def apart(words, folder, **more):
+    """The same with pipes."""
+    done = subprocess.run([*WORDS, *words], cwd=folder, capture_output=True, text=True,
+                          env={**ENVIRONMENT, **more}, check=False)
+    return done.returncode, done.stdout, done.stderr
+
+
+def what_stays(shown: str) -> str:
+    """What is left to be read on a terminal: a carriage return goes back to the line's begin."""
+    lines = []
+    for line in shown.replace("\r\n", "\n").split("\n"):
+        seen = ""
+        for piece in line.split("\r"):
+            seen = piece + seen[len(piece):]
+        lines.append(seen.rstrip())
+    return "\n".join(lines)
+
+
+@pytest.fixture(name="folder")
+def folder_with_a_mine(tmp_path):
+    mines.six_blocks(tmp_path)
+    (tmp_path / "export.csv").write_text(mines.SIX_ROWS)
+    (tmp_path / "pitc").write_text(SLOW)
+    (tmp_path / "pitc").chmod(0o755)
+    return tmp_path
+
+
+IMPORT = ["import", "export.csv", "--x", "x", "--y", "y", "--z", "z", "--tonnes", "tonnes",
+          "--grade", "grade", "--size", "10,10,10", "--base", "from"]
+
+
+@pytest.mark.parametrize("words, seen", [
+    (IMPORT, ["reads rows", "6 rows of export.csv", "writes zone files"]),
+    (["survey", "mine.plan", "mine"], ["reads mine.prec", "counts", "finds the ultimate pit"]),
+    (["nested", "mine.plan", "mine", "--factors", "0.5,1"], ["0 of 2", "factor 0.5", "1 of 2"]),
+    (["pit", "mine", "--plan", "mine.plan", "--K", "1,2"], ["K = 1", "K = 2"]),
+])
+def test_a_bar_is_seen_on_a_terminal_alone_and_nothing_of_it_stays(folder, words, seen):
+    status, told, shown = on_terminal(words, folder)
+    assert status == 0 and all(text in shown for text in seen), shown
+    assert f"{words[0]} |" in shown and what_stays(shown).strip() == ""
+    assert apart(words, folder) == (0, told, "")
+    # What is printed on the same terminal stands there as it is elsewhere.
+    status, _, shown = on_terminal(words, folder, is_printed_there=True)
+    assert status == 0 and what_stays(shown) == told.rstrip("\n") + "\n"
+
+
+def test_rows_that_are_printed_have_no_bar(folder):
+    assert apart(IMPORT, folder)[0] == 0
+    (folder / "mine.pit").write_text("0\n3\n4\n")
+    words = ["back", "mine.plan", "mine", "mine.pit", "--onto", "from.json"]
+    status, told, error = apart(words, folder)
+    assert (status, error) == (0, "6 rows, of which 6 are blocks of the instance\n")
+    status, _, shown = on_terminal(words, folder, is_printed_there=True)
+    lines = (told + error).splitlines()
+    assert status == 0 and sorted(shown.replace("\r", "").splitlines()) == sorted(lines)
+    assert "back |" in on_terminal([*words, "--out", "rows.csv"], folder)[2]
+
+
+def test_a_fault_stands_alone_behind_the_bar(folder):
+    os.remove(folder / "mine.pcpsp")
+    words = ["survey", "mine.plan", "mine"]
+    status, _, shown = on_terminal(words, folder)
+    assert status == 2 and "reads mine.pcpsp" in shown
+    assert what_stays(shown) == apart(words, folder)[2]
+
+
+def test_without_tqdm_there_is_no_bar(monkeypatch, capsys):
+    monkeypatch.setitem(sys.modules, "tqdm", None)
+    monkeypatch.setattr(progress, "is_terminal", lambda: True)
+    with progress.shown("survey", 3):
+        progress.step("counts")
+        with progress.hidden():
+            assert capsys.readouterr().err == ""
+
+
+COMPILE = ["compile", "--plan", "mine.plan", "--out", "slow", "--pitc", "./pitc", "mine-0.csv"]
+
+
+@pytest.mark.parametrize("fault, status, line", [
+    ("", 0, "rows 7\n"), ("sink prec: SinkFailed", 3, "pitc: sink prec: SinkFailed\n")])
+def test_compile_shows_bytes_and_hands_on_line_and_status(folder, fault, status, line):
+    wanted = (status, "" if fault else line, line if fault else "")
+    assert apart(COMPILE, folder, FAULT=fault) == wanted
+    os.remove(folder / "slow.prec")
+    for is_printed_there in (False, True):
+        ended, told, shown = on_terminal(COMPILE, folder, is_printed_there, FAULT=fault)
+        assert ended == status and "compile reads |" in shown
+        assert re.search(r"compile writes slow.prec [1-9][0-9.]*k?B", shown)
+        assert what_stays(shown) == (line if fault or is_printed_there else "")
+        assert told == ("" if fault or is_printed_there else line)
+
+
+@pytest.mark.parametrize("number", [signal.SIGINT, signal.SIGTERM])
+@pytest.mark.parametrize("is_seen", [False, True])
+def test_a_signal_ends_pitc_too(folder, number, is_seen):
+    (folder / "pitc").write_text("#!/bin/sh\necho $$ > started\nexec sleep 60\n")
+    ours, theirs = terminal()
+    errors = theirs if is_seen else subprocess.PIPE
+    child = subprocess.Popen([*WORDS, *COMPILE], cwd=folder, stderr=errors, env=ENVIRONMENT)
+    try:
+        for _ in range(200):
+            if (folder / "started").exists() and (folder / "started").read_text():
+                break
+            time.sleep(0.05)
+        time.sleep(0.3)
+        other = int((folder / "started").read_text())
+        child.send_signal(number)
+        assert child.wait(20) == 128 + number
+        with pytest.raises(ProcessLookupError):
+            os.kill(other, 0)
+    finally:
+        child.kill()
+        os.close(ours)
+        os.close(theirs)
+
+
+def test_compile_says_what_pitc_says(tmp_path, pitc):
+    """A plan, a faulty plan, no zone file, and no plan at all."""
+    mines.six_blocks(tmp_path)
+    (tmp_path / "bad.plan").write_text("nothing\n")
+    for words in (["--plan", "mine.plan", "--out", "a", "mine-0.csv"],
+                  ["--plan", "bad.plan", "--out", "a", "mine-0.csv"],
+                  ["--plan", "gone.plan", "--out", "a", "mine-0.csv"],
+                  ["--plan", "mine.plan", "--out", "a"],
+                  ["--plan", "mine.plan", "--out", "a", "--valuers", "0", "mine-0.csv"],
+                  ["--out", "a", "mine-0.csv"]):
+        done = subprocess.run([pitc, "compile", *words], cwd=tmp_path, capture_output=True,
+                              text=True, check=False)
+        wanted = (done.returncode, done.stdout, done.stderr)
+        assert apart(["compile", "--pitc", pitc, *words], tmp_path) == wanted, words
+    done = apart(["compile", "--pitc", "no-such-program", "--plan", "mine.plan"], tmp_path)
+    assert done[0] == 2 and "no program `no-such-program`" in done[2]
