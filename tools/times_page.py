@@ -1,6 +1,7 @@
 """The parts of docs/times.md and docs/lane.md that tools write: what they measured, of which commit, on which machine.
 
-A part stands between a line `<!-- NAME -->` and a line `<!-- end of NAME -->`. Its first line has the commit and the machine.
+A part stands between a line `<!-- NAME -->` and a line `<!-- end of NAME -->`. Its first line has the commit, and the machine where it is
+not the one that docs/times.md names at its beginning.
 """
 import os
 import re
@@ -26,20 +27,21 @@ def commit() -> str:
 
 
 def machine() -> str:
-    """The processors and the memory of this machine, and its other work, where there is any."""
+    """The processors and the memory of this machine."""
     told = shared.read("/proc/cpuinfo")
     models = re.findall(r"(?m)^model name\s*: (.*)$", told)
     kilobytes = int(re.search(r"MemTotal:\s+(\d+)", shared.read("/proc/meminfo"))[1])
     kind = "virtual processors" if re.search(r"(?m)^flags.*\bhypervisor\b", told) else "processors"
-    load = os.getloadavg()[0]
-    busy = f", beside other work (a load of {load:.1f} at the beginning)" if load > 0.5 else ", with no other work"
     model = " ".join(models[0].split()) if models else os.uname().machine
-    return f"{os.cpu_count()} {kind} ({model}), {kilobytes / 2**20:.0f} GB{busy}"
+    return f"{os.cpu_count()} {kind} ({model}), {kilobytes / 2**20:.0f} gigabytes"
 
 
 def head() -> str:
-    """The first line of a part, as it is to be before anything is measured."""
-    return f"Commit {commit()}, {time.strftime('%Y-%m-%d', time.gmtime())}; {machine()}."
+    """The first line of a part, as it is to be before anything is measured. It names this machine where the page does not say so for all."""
+    load, here = os.getloadavg()[0], machine()
+    work = f"beside other work (a load of {load:.1f} at the beginning)" if load > 0.5 else "with no other work"
+    is_usual = f"of {here}, where they name no other" in " ".join(shared.read(os.path.join(shared.TOP, PAGES[0])).split())
+    return f"Commit {commit()}, {time.strftime('%Y-%m-%d', time.gmtime())}{'' if is_usual else '; ' + here}, {work}."
 
 
 def table(columns: Sequence[str], rows: Iterable[Sequence[object]]) -> List[str]:
