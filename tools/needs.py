@@ -45,8 +45,9 @@ NEEDS = [
     Need(["chromium", "chromium-browser", "google-chrome"], "chromium", "a test of python/: the page of a survey"),
 ]
 
-# Packages of Python that one interpreter has to have, all of them; Debian's begin with python3-.
-MODULES = ["pandas", "numpy", "scipy", "matplotlib", "openpyxl", "pytest", "distributed", "hypothesis", "ezdxf", "meshio", "tqdm"]
+# Modules of Python that one interpreter has to have, all of them; Debian's packages begin with python3-. By ensurepip `python3 -m venv`
+# makes the environment in which tools/archive tries the wheel.
+MODULES = ["pandas", "numpy", "scipy", "matplotlib", "openpyxl", "pytest", "distributed", "hypothesis", "ezdxf", "meshio", "tqdm", "ensurepip"]
 
 # What no package brings.
 DEVICES = ["/dev/full", "/proc/self/task", "/proc/self/io"]
@@ -87,6 +88,11 @@ def first_with_modules() -> Tuple[Optional[str], Dict[str, List[str]]]:
     return None, lacking
 
 
+def packages_of_modules() -> List[str]:
+    """The packages of Debian that bring all modules."""
+    return [f"python3-{'venv' if name == 'ensurepip' else name}" for name in MODULES]
+
+
 def of_recipes() -> List[str]:
     """The programs that blocks of commands on the pages name, behind ```sh."""
     pages = (shared.read(path) for path in shared.pages_with_recipes())
@@ -98,8 +104,8 @@ def lacking() -> Dict[str, Tuple[List[str], str]]:
     """What is not there, by its name: the packages that bring it, and what calls it."""
     found = {need.names[0]: (list(filter(None, [need.package])), need.callers) for need in NEEDS if not is_there(need)}
     if first_with_modules()[0] is None:
-        callers = "tests of python/, and recipes"
-        found["a python3 with " + ", ".join(MODULES)] = ([f"python3-{name}" for name in MODULES], callers)
+        callers = "tests of python/, recipes, and tools/archive: the wheel"
+        found["a python3 with " + ", ".join(MODULES)] = (packages_of_modules(), callers)
     known = {name for need in NEEDS for name in need.names} | {"python3"}
     for name in of_recipes():
         if name not in known and not shutil.which(name):
@@ -110,7 +116,7 @@ def lacking() -> Dict[str, Tuple[List[str], str]]:
 
 def packages() -> List[str]:
     """All packages of Debian, as they are installed by hand."""
-    return [need.package for need in NEEDS if need.package] + [f"python3-{name}" for name in MODULES]
+    return [need.package for need in NEEDS if need.package] + packages_of_modules()
 
 
 def left_out(count: int, names: Iterable[str]) -> str:

@@ -1,7 +1,10 @@
-"""The program of C++, closure.cpp: compiled once, and kept where nobody else can write.
+"""The program of C++, closure.cpp: as it was packed, or compiled once and kept where nobody else
+can write.
 
-It is kept in the folder `pit-tools` of the user's cache. Where that folder is not the user's own,
-or others may write there, or it cannot be written, the program is compiled for this run alone.
+A wheel, a package and an archive bring it compiled, beside this module: who could write there could
+write the modules too. Elsewhere it is compiled and kept in the folder `pit-tools` of the user's
+cache. Where that folder is not the user's own, or others may write there, or it cannot be written,
+the program is compiled for this run alone.
 """
 from __future__ import annotations
 
@@ -21,6 +24,9 @@ from pit_tools import interrupts, outputs
 from pit_tools.errors import UserError
 
 SOURCE = os.path.join(os.path.dirname(__file__), "closure.cpp")
+
+#: How it is compiled, behind the compiler's name: `-s` leaves out names that no call needs.
+OPTIONS = ["-O2", "-std=c++17", "-shared", "-fPIC", "-s"]
 
 #: What is told where there is no program.
 WITHOUT = ("so HiGHS finds pits, which takes minutes beyond some ten thousand blocks, and arcs "
@@ -78,16 +84,22 @@ def _told(text: str) -> None:
     print(f"pit-tools: {text}", file=sys.stderr)
 
 
-def _made(path: str) -> bool:
+def file_name() -> str:
+    """The name of the compiled program, which has the sum of its source: one of another source is
+    never loaded."""
+    with open(SOURCE, "rb") as file:
+        return f"closure-{platform.machine()}-{hashlib.sha256(file.read()).hexdigest()[:16]}.so"
+
+
+def made(path: str) -> bool:
     """Compiles the program to a path; tells where it cannot."""
     program = compiler()
     if program is None:
         _told(f"no C++ compiler is there (apt-get install g++), {WITHOUT}")
         return False
     try:
-        done = subprocess.run([program, "-O2", "-std=c++17", "-shared", "-fPIC", "-o", path,
-                               SOURCE], capture_output=True, text=True, errors="replace",
-                              check=False)
+        done = subprocess.run([program, *OPTIONS, "-o", path, SOURCE], capture_output=True,
+                              text=True, errors="replace", check=False)
     except OSError as error:
         _told(f"{program}: {error.strerror}, {WITHOUT}")
         return False
@@ -107,31 +119,33 @@ def _loaded(path: str) -> Optional[ctypes.CDLL]:
 @lru_cache(None)
 def library() -> Optional[ctypes.CDLL]:
     """The program; None where it is not there and cannot be made, which is told once."""
-    with open(SOURCE, "rb") as file:
-        name = f"closure-{platform.machine()}-{hashlib.sha256(file.read()).hexdigest()[:16]}.so"
+    name = file_name()
+    packed = os.path.join(os.path.dirname(SOURCE), name)
+    if os.path.exists(packed) and (found := _loaded(packed)):
+        return found
     folder = cache()
     path = os.path.join(folder, name) if folder else None
     if path and is_own(path, stat.S_IFREG) and (found := _loaded(path)):
         return found
     with interrupts.caught(), tempfile.TemporaryDirectory(prefix="pit-tools-") as apart:
-        made = os.path.join(apart, name)
-        if not _made(made):
+        new = os.path.join(apart, name)
+        if not made(new):
             return None
         if path:
-            _keep(made, path)
-        found = _loaded(made)
+            _keep(new, path)
+        found = _loaded(new)
         if found is None:
             _told(f"{apart}: no program may be run there (TMPDIR names another folder), {WITHOUT}")
         return found
 
 
-def _keep(made: str, path: str) -> None:
+def _keep(new: str, path: str) -> None:
     """Puts the program into the cache for later runs; where that fails they compile it too."""
     try:
         if os.path.lexists(path):
             os.unlink(path)
         with outputs.alone():
-            outputs.copied(made, path, "compiled program")
+            outputs.copied(new, path, "compiled program")
         os.chmod(path, 0o700)
     except (OSError, UserError):
         pass

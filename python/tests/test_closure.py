@@ -134,14 +134,14 @@ def test_the_program_is_made_where_the_cache_is_or_in_a_folder_of_the_run(tmp_pa
 def made(tmp_path_factory):
     """The program, compiled once for the tests below."""
     path = tmp_path_factory.mktemp("made") / "closure.so"
-    assert compiled._made(str(path))
+    assert compiled.made(str(path))
     return path
 
 
 @pytest.fixture()
 def kept(tmp_path, monkeypatch, made):
     """A cache that keeps a program which is none of ours, and answers 1 to each call."""
-    monkeypatch.setattr(compiled, "_made", lambda path: bool(shutil.copy(made, path)))
+    monkeypatch.setattr(compiled, "made", lambda path: bool(shutil.copy(made, path)))
     monkeypatch.setenv("XDG_CACHE_HOME", str(tmp_path / "cache"))
     monkeypatch.setenv("TMPDIR", str(tmp_path))
     monkeypatch.setattr("tempfile.tempdir", str(tmp_path))
@@ -198,6 +198,32 @@ def test_a_program_that_others_may_have_put_there_is_never_run(kept, tmp_path, m
 @pytest.mark.skipif(os.geteuid() != 0, reason="only root can give a file to another")
 def test_a_program_of_another_user_is_never_run(kept):
     os.chown(kept, 65534, 65534)
+    assert is_ours()
+
+
+@pytest.mark.parametrize("is_whole", [True, False])
+def test_a_program_that_was_packed_beside_the_module_is_run_unless_it_is_damaged(
+        kept, tmp_path, monkeypatch, is_whole):
+    """It answers 1 to each call, as `kept` does, so that one of ours is told from it; the cache has
+    none, and gets none but where the packed one is damaged."""
+    package = tmp_path / "package"
+    package.mkdir()
+    shutil.copy(compiled.SOURCE, package)
+    packed = package / kept.name
+    kept.rename(packed)
+    if not is_whole:
+        packed.write_bytes(packed.read_bytes()[:100])
+    monkeypatch.setattr(compiled, "SOURCE", str(package / "closure.cpp"))
+    assert is_ours() == (not is_whole)
+    assert kept.exists() == (not is_whole)
+
+
+def test_a_program_of_another_source_is_not_the_one_that_was_packed(kept, tmp_path, monkeypatch):
+    package = tmp_path / "package"
+    package.mkdir()
+    kept.rename(package / kept.name)
+    (package / "closure.cpp").write_bytes(open(compiled.SOURCE, "rb").read() + b"// more\n")
+    monkeypatch.setattr(compiled, "SOURCE", str(package / "closure.cpp"))
     assert is_ours()
 
 

@@ -1,0 +1,155 @@
+"""A wheel of pitc, pitc_thin and pit-tools, which pip installs without a network, and how it is tried.
+
+It has what the archive has: the package pit_tools with its compiled program, the two programs, and below share/ their man pages, completions,
+pages and examples. What pit-tools needs stands in python/pyproject.toml.
+"""
+import ast
+import base64
+import hashlib
+import io
+import os
+import re
+import shutil
+import stat
+import subprocess
+import tempfile
+import time
+import zipfile
+
+import page_recipes
+import shared
+
+METADATA = """Metadata-Version: 2.1
+Name: pitc
+Version: {version}
+Summary: Block models of an open pit mine as MineLib instances, from a mining package's export and back to it
+Author: The Jetburin team
+Classifier: Operating System :: POSIX :: Linux
+Classifier: Programming Language :: Python :: 3
+Requires-Python: {python}
+{needs}
+Description-Content-Type: text/markdown
+
+`pitc` turns the block models of an open pit mine into a MineLib instance. `pitc_thin` writes the precedences alone, without arcs that
+follow from others. `pit-tools` leads from a mining package's export to an instance and back. The pages stand in `share/pitc`, beside
+`bin`; licences are in `NOTICES.md` there, and pitc has none of its own yet.
+"""
+
+WHEEL = """Wheel-Version: 1.0
+Generator: tools/archive
+Root-Is-Purelib: false
+Tag: {tag}
+"""
+
+# The versions of the C++ library that systems with glibc 2.34 have, as manylinux_2_34 names them.
+OF_CPP = {b"GLIBCXX": (3, 4, 29), b"CXXABI": (1, 3, 13)}
+
+
+def settings():
+    """What python/pyproject.toml asks of Python and of packages, as lines of METADATA, and its commands."""
+    text = shared.read(os.path.join(shared.TOP, "python/pyproject.toml"))
+    lines = [f"Requires-Dist: {need}" for need in ast.literal_eval(re.search(r"(?ms)^dependencies = (\[.*?\])", text)[1])]
+    for name, needs in re.findall(r"(?m)^(\w+) = (\[.*\])$", text.split("[project.optional-dependencies]\n")[1].split("\n\n")[0]):
+        if name != "test":
+            lines.append(f"Provides-Extra: {name}")
+            lines += [f'Requires-Dist: {need} ; extra == "{name}"' for need in ast.literal_eval(needs)]
+    commands = re.findall(r'(?m)^(\S+) = "(\S+:\S+)"$', text.split("[project.scripts]\n")[1].split("\n\n")[0])
+    return re.search(r'(?m)^requires-python = "(.*)"', text)[1], "\n".join(lines), commands
+
+
+def summed(text):
+    """A sum as RECORD has it."""
+    return "sha256=" + base64.urlsafe_b64encode(hashlib.sha256(text).digest()).rstrip(b"=").decode()
+
+
+def files_of(version, tag, programs, below_share, texts):
+    """The files of the wheel by their paths: those of its package, of its programs and below share/, and what pip reads."""
+    front, (python, needs, commands) = f"pitc-{version}", settings()
+    package = {path[len("python/"):]: text for path, text in texts.items() if path.startswith("python/pit_tools/")}
+    data = {**below_share, **{f"pitc/{path}": text for path, text in texts.items() if not path.startswith("python/")}}
+    files = dict(sorted(package.items()))
+    files.update({f"{front}.data/scripts/{name}": program for name, program in programs.items()})
+    files.update({f"{front}.data/data/share/{path}": text for path, text in sorted(data.items())})
+    about = f"{front}.dist-info/"
+    files[about + "METADATA"] = METADATA.format(version=version, python=python, needs=needs).encode()
+    files[about + "WHEEL"] = WHEEL.format(tag=tag).encode()
+    files[about + "entry_points.txt"] = "\n".join(["[console_scripts]", *map(" = ".join, commands), ""]).encode()
+    lines = [f"{path},{summed(text)},{len(text)}\n" for path, text in files.items()]
+    files[about + "RECORD"] = "".join([*lines, f"{about}RECORD,,\n"]).encode()
+    return files
+
+
+def packed(files, day):
+    """These files as a wheel, the same for the same files and day."""
+    made = io.BytesIO()
+    with zipfile.ZipFile(made, "w") as wheel:
+        for path, text in files.items():
+            entry = zipfile.ZipInfo(path, time.gmtime(day)[:6])
+            mode = 0o755 if ".data/scripts/" in path or path.endswith(".so") else 0o644
+            entry.compress_type, entry.create_system, entry.external_attr = zipfile.ZIP_DEFLATED, 3, (stat.S_IFREG | mode) << 16
+            wheel.writestr(entry, text, compresslevel=9)
+    return made.getvalue()
+
+
+def too_new(name, program):
+    """What a compiled library calls that systems with its C library need not have."""
+    for library, least in OF_CPP.items():
+        needed = [tuple(map(int, found.split(b"."))) for found in re.findall(library + rb"_([\d.]+)", program)]
+        if needed and max(needed) > least:
+            yield f"{name} calls {library.decode()} {'.'.join(map(str, max(needed)))}"
+
+
+def fault_of(words, **more):
+    """None where a command ends with 0, else the last line of what it prints."""
+    done = subprocess.run(words, stdout=subprocess.PIPE, stderr=subprocess.STDOUT, text=True, check=False, **more)
+    return None if done.returncode == 0 else (done.stdout.strip().splitlines() or ["no word"])[-1]
+
+
+def is_there(path, text):
+    """Whether a file is there and has these bytes."""
+    if not os.path.exists(path):
+        return False
+    with open(path, "rb") as file:
+        return file.read() == text
+
+
+def listed(folder):
+    """The files in a folder and in those below it. (pip leaves folders that others may share, empty.)"""
+    return {os.path.relpath(os.path.join(above, name), folder) for above, _, names in os.walk(folder) for name in names}
+
+
+def of_commands(installed, folder):
+    """What is wrong of the six commands with which docs/planners.md begins, run from an installed wheel."""
+    begin, six = page_recipes.recipes_of(os.path.join(shared.TOP, "docs/planners.md"))[:2]
+    if len(re.findall("(?m)^pit-tools ", six.commands)) != 6:
+        yield f"{six.place} has other commands than six"
+    top, cache, apart = (os.path.join(folder, name) for name in ("top", "cache", "apart"))
+    shutil.copytree(os.path.join(installed, "share/pitc"), top)
+    os.mkdir(apart)
+    environment = {**os.environ, "PATH": f"{installed}/bin:{os.environ['PATH']}", "XDG_CACHE_HOME": cache}
+    for recipe, told in zip((begin, six), page_recipes.told_by((begin, six), top, apart, environment)):
+        yield from (f"{recipe.place}: {what}" for what in page_recipes.differences(recipe, *told))
+    if os.path.exists(os.path.join(cache, "pit-tools")):
+        yield "it compiles the program of C++ that it brings"
+
+
+def tried(path, python, programs, below_share):
+    """What is wrong of a wheel that is installed in a new environment over an interpreter's packages, used, and removed."""
+    quiet = {**os.environ, "PIP_DISABLE_PIP_VERSION_CHECK": "1", "PIP_NO_CACHE_DIR": "1"}
+    with tempfile.TemporaryDirectory() as folder:
+        installed = os.path.join(folder, "installed")
+        pip = [os.path.join(installed, "bin/python"), "-I", "-B", "-m", "pip"]
+        if fault := fault_of([python, "-m", "venv", "--system-site-packages", installed]):
+            return [f"no environment can be made: {fault}"]
+        before = listed(installed)
+        if fault := fault_of([*pip, "install", "--no-index", path], env=quiet):
+            return [f"it cannot be installed: {fault}"]
+        kept = {**{f"bin/{name}": program for name, program in programs.items()},
+                **{f"share/{name}": text for name, text in below_share.items()}}
+        wrong = [f"{name} is not installed, or another" for name, text in kept.items() if not is_there(os.path.join(installed, name), text)]
+        if fault := fault_of([os.path.join(shared.TOP, "tools/page-links"), os.path.join(installed, "share/pitc")]):
+            wrong.append(f"links of its pages: {fault}")
+        wrong += of_commands(installed, folder)
+        if fault := fault_of([*pip, "uninstall", "--yes", "pitc"], env=quiet):
+            return [*wrong, f"it cannot be removed: {fault}"]
+        return wrong + [f"removing it leaves {name}" for name in sorted(listed(installed) - before)]
