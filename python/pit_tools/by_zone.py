@@ -23,8 +23,7 @@ def by_zone(parts: Sequence[tuple[Sequence[int], Instance]]) -> Instance:
     part_of = np.full(int(zone.max(initial=0)) + 1, -1)
     for number, (zones, instance) in enumerate(parts):
         others = present(instance.blocks, "block file")
-        if (not np.array_equal(others.zone, zone)
-                or not np.array_equal(others.tonnes, blocks.tonnes)):
+        if not all(map(np.array_equal, vars(others).values(), vars(blocks).values())):
             raise UserError("the instances are not of the same blocks")
         for one in zones:
             if not 0 <= one < len(part_of):

@@ -129,7 +129,7 @@ def immediate(precedence: sparse.csr_matrix) -> sparse.csr_matrix:
     if np.any(arcs.indices <= rows):
         raise UserError("a block comes behind one that it waits for")
     starts, kept = arcs.indptr.astype(np.int64), np.empty(arcs.nnz, dtype=np.uint8)
-    _called("immediate", ctypes.c_int64(arcs.shape[0]),
-            *map(_pointer, (starts, arcs.indices, kept)))
+    above = np.ascontiguousarray(arcs.indices, dtype=np.int32)
+    _called("immediate", ctypes.c_int64(arcs.shape[0]), *map(_pointer, (starts, above, kept)))
     kept = kept.astype(bool)
     return sparse.csr_matrix((arcs.data[kept], (rows[kept], arcs.indices[kept])), shape=arcs.shape)

@@ -19,6 +19,9 @@ from pit_tools.plan_file import Grid, Plan, Zone
 #: No indices of blocks are further from each other.
 FARTHEST = 9999
 
+#: How many places a cone may have: some gigabytes.
+MOST_PLACES_OF_A_CONE = 100_000_000
+
 
 def size_in_millimetres(grid: Grid) -> tuple[int, int, int]:
     """The size of a block along x, y and z."""
@@ -42,7 +45,9 @@ def cone_offsets(size: Sequence[int], zone: Zone, benches: Optional[int] = None,
     east, west, north, south = ((slope.rise, slope.run) for slope in zone.slopes)
     sx, sy, sz = size
     rows = []
-    for dz in range(1, (zone.benches if benches is None else benches) + 1):
+    levels = range(1, (zone.benches if benches is None else benches) + 1)
+    _judge_cone(size, zone, levels, most)
+    for dz in levels:
         _, _, up, down = reach_along(size, zone, dz)
         for dy in range(-min(down, most[1]), min(up, most[1]) + 1):
             py, qy = north if dy > 0 else south
@@ -54,6 +59,18 @@ def cone_offsets(size: Sequence[int], zone: Zone, benches: Optional[int] = None,
                 dx = np.arange(-ends[0], ends[1] + 1)
                 rows.append(np.stack([dx, np.full_like(dx, dy), np.full_like(dx, dz)], axis=1))
     return np.concatenate(rows).astype(np.int32) if rows else np.empty((0, 3), np.int32)
+
+
+def _judge_cone(size: Sequence[int], zone: Zone, levels: range, most: Sequence[int]) -> None:
+    """Stops where a cone has more places than memory for them."""
+    count = 0
+    for dz in levels:
+        east, west, north, south = reach_along(size, zone, dz)
+        count += ((min(east, most[0]) + min(west, most[0]) + 1)
+                  * (min(north, most[1]) + min(south, most[1]) + 1))
+        if count > MOST_PLACES_OF_A_CONE:
+            raise UserError(f"a cone of the slopes {zone} has more than "
+                            f"{MOST_PLACES_OF_A_CONE:,} places: are they so flat?")
 
 
 def reach_along(size: Sequence[int], zone: Zone, dz: int) -> tuple[int, int, int, int]:
@@ -72,6 +89,8 @@ class Places:
     """Which block lies at a place of the model's box: the identifier, or -1."""
 
     def __init__(self, blocks: Blocks):
+        if not len(blocks):
+            raise UserError("there are no blocks")
         self.least = np.array([axis.min() for axis in (blocks.x, blocks.y, blocks.z)])
         self.most = np.array([axis.max() for axis in (blocks.x, blocks.y, blocks.z)])
         self.shape = tuple((self.most - self.least + 1).tolist())

@@ -16,7 +16,6 @@ from __future__ import annotations
 import csv
 import io
 import os
-import re
 from dataclasses import dataclass, field
 from itertools import chain
 from typing import (Any, BinaryIO, Callable, Iterable, Iterator, Optional, Sequence, Type, TypeVar,
@@ -28,12 +27,19 @@ from scipy import sparse
 
 from pit_tools import outputs, spelling
 from pit_tools.errors import UserError
+from pit_tools.formats import (MOST_AMOUNT, MOST_DESTINATIONS, MOST_INDEX, MOST_PERIODS,
+                               MOST_RESOURCES, MOST_ZONE, NAME, WHAT_A_NAME_IS)
 
 TEXTS = ("blocks", "prec", "upit", "pcpsp", "cpit")
 
 OBJECTIVE = "OBJECTIVE_FUNCTION"
 COEFFICIENTS = "RESOURCE_CONSTRAINT_COEFFICIENTS"
 LIMITS = "RESOURCE_CONSTRAINT_LIMITS"
+
+#: The header keys of models, in the order in which they are written, and the sections behind them.
+KEYS = ("NAME", "TYPE", "NBLOCKS", "NPERIODS", "NDESTINATIONS", "NRESOURCE_SIDE_CONSTRAINTS",
+        "NGENERAL_SIDE_CONSTRAINTS", "DISCOUNT_RATE")
+SECTIONS = (OBJECTIVE, COEFFICIENTS, LIMITS)
 
 #: Bytes that are read at a time.
 _PIECE = 1 << 23
@@ -186,7 +192,10 @@ def present(part: Optional[_Part], what: str) -> _Part:
 
 
 def cents(values: np.ndarray) -> np.ndarray:
-    """Values in whole cents, int64: their sums are exact."""
+    """Values, of any shape, in units of 100 cents, as whole cents, int64: their sums are exact.
+
+    Raises UserError where one is infinite, NaN, or above some 90,000 billion.
+    """
     return spelling.scaled(values, 2)
 
 
@@ -267,9 +276,10 @@ def _rounded(values: np.ndarray, path: str, decimals: int) -> np.ndarray:
 
 
 def read_blocks(path: str) -> Blocks:
-    """A block file, `id x y z tonnes grade zone`.
+    """A block file, `id x y z tonnes grade zone`: tonnes in t, grades in g/t.
 
-    Raises BadInstance where a line has other fields or identifiers are not 0, 1, 2, ..
+    Raises BadInstance where a line has other fields or numbers than `pitc check` takes, or
+    identifiers are not 0, 1, 2, ..
     """
     kinds: list[_Kind] = [np.int32, np.int32, np.int32, np.int32, 3, 6, np.int32]
     parts: list[list[np.ndarray]] = []
@@ -286,8 +296,17 @@ def read_blocks(path: str) -> Blocks:
             parts.append(columns)
     if not parts:
         raise BadInstance(f"{path}: there are no blocks")
-    x, y, z, tonnes, grade, zone = (np.concatenate(column) for column in zip(*parts))
+    columns = [np.concatenate(column) for column in zip(*parts)]
+    for (name, most), column in zip(_MOST_OF_A_BLOCK.items(), columns):
+        if not 0 <= column.min() <= column.max() <= most:
+            raise BadInstance(f"{path}: {name} is not from 0 to {most:,} in each line")
+    x, y, z, tonnes, grade, zone = columns
     return Blocks(x, y, z, tonnes, grade, zone)
+
+
+#: What the fields of a block are, and the greatest number of each.
+_MOST_OF_A_BLOCK = {"x": MOST_INDEX, "y": MOST_INDEX, "z": MOST_INDEX, "tonnes": MOST_AMOUNT,
+                    "the grade": MOST_AMOUNT, "the zone": MOST_ZONE}
 
 
 def _first(piece: bytes) -> bytes:
@@ -409,8 +428,8 @@ class _Model:
         self.header: dict[str, str] = {}
 
     def sections(self) -> Iterator[tuple[str, bytes]]:
-        """Pieces of lines, each with the section that has them. Header lines are taken on the
-        way."""
+        """Pieces of lines, each with the section that has them, and an empty one where a section
+        begins. Header lines are taken on the way."""
         section = ""
         with _opened(self.path) as file:
             for piece in _pieces(file):
@@ -422,13 +441,22 @@ class _Model:
                     key = piece[start:colon].strip().decode("utf-8", "replace")
                     value = piece[colon + 1:end].strip().decode("utf-8", "replace")
                     if value:
-                        self.header[key] = value
+                        self._take(key, value, section)
                     else:
                         section = key
                         yield section, b""
                     piece = piece[end + 1:]
                 if piece.strip():
                     yield section, piece
+
+    def _take(self, key: str, value: str, section: str) -> None:
+        """A line of the header."""
+        if key not in KEYS or section:
+            where = f"below {section}" if section else "in the header"
+            raise BadInstance(f"{self.path}: no key `{key[:60]}` stands {where} of a model")
+        if key in self.header:
+            raise BadInstance(f"{self.path}: {key} stands twice")
+        self.header[key] = value
 
     def number(self, key: str) -> float:
         try:
@@ -437,18 +465,21 @@ class _Model:
             raise BadInstance(f"{self.path}: no number behind {key}") from None
         return float(_rounded(number, self.path, 6)[0])
 
-    def count(self, key: str) -> int:
+    def count(self, key: str, least: int = 0, most: Optional[int] = None) -> int:
+        """The whole number behind a key. Raises BadInstance where it is none, or lies outside."""
         number = self.number(key)
         if number % 1 or number < 0:
             raise BadInstance(f"{self.path}: {key} is no count: {self.header[key]}")
+        if number < least or most is not None and number > most:
+            raise BadInstance(f"{self.path}: {key} is {self.header[key]}, and no number from "
+                              f"{least} to {most}")
         return int(number)
 
     def name(self) -> str:
         """Its NAME. Raises BadInstance where it has none, or one that is none."""
         name = self.header.get("NAME", "")
-        if not re.fullmatch(r"[A-Za-z0-9_.-]{1,64}", name, re.ASCII):
-            raise BadInstance(f"{self.path}: NAME is `{name[:64]}`, and has 1 to 64 letters, "
-                              "digits, `_`, `-` and `.`")
+        if not NAME.fullmatch(name):
+            raise BadInstance(f"{self.path}: NAME is `{name[:64]}`, and has {WHAT_A_NAME_IS}")
         return name
 
 
@@ -476,7 +507,17 @@ def read_outline(path: str, kind: str = "PCPSP") -> Outline:
     Raises BadInstance where it is none.
     """
     model, values, uses, limits = _read_model(path, kind, take_uses=_lines_in)
+    _counts_of(model)
     return Outline(model.header, values, sum(uses), _limits_of(model, limits))
+
+
+def _counts_of(model: _Model) -> tuple[int, int, float]:
+    """Its periods, its resources, and its rate. Raises BadInstance where one is none."""
+    rate = model.number("DISCOUNT_RATE")
+    if not 0 <= rate <= 1:
+        raise BadInstance(f"{model.path}: DISCOUNT_RATE is {rate:g}, and no number from 0 to 1")
+    return (model.count("NPERIODS", 1, MOST_PERIODS),
+            model.count("NRESOURCE_SIDE_CONSTRAINTS", 0, MOST_RESOURCES), rate)
 
 
 def _lines_in(_model: _Model, piece: bytes, _fields: int) -> int:
@@ -518,40 +559,55 @@ def _read_model(path: str, kind: str, take_uses: Callable[[_Model, bytes, int], 
     uses: list[Any] = []
     limits: list[bytes] = []
     done, destinations = 0, 1
+    to_come = list(SECTIONS[:1] if kind == "UPIT" else SECTIONS)
     for section, piece in model.sections():
-        if section == OBJECTIVE and not piece:
-            if model.header.get("TYPE") != kind:
-                raise BadInstance(f"{path}: TYPE is `{model.header.get('TYPE', '')}` and not "
-                                  f"{kind}")
-            destinations = model.count("NDESTINATIONS") if kind == "PCPSP" else 1
+        if not piece:
+            if to_come[:1] != [section]:
+                raise BadInstance(f"{path}: a section `{section[:60]}` stands where a {kind} file "
+                                  f"has {to_come[0] if to_come else 'none'}")
+            to_come.pop(0)
+            if section == OBJECTIVE:
+                destinations = _destinations_of(model, kind)
         elif section == OBJECTIVE:
             values.append(_objective_part(model, piece, destinations, done))
             done += len(values[-1])
-        elif section == COEFFICIENTS and piece:
+        elif section == COEFFICIENTS:
             uses.append(take_uses(model, piece, 4 if kind == "PCPSP" else 3))
-        elif section == LIMITS and piece:
+        elif section == LIMITS:
             limits.append(piece)
-        elif piece:
+        else:
             raise BadInstance(f"{path}: no line of a {kind} file: {_shown(piece)}")
     if "NAME" not in model.header:
         raise BadInstance(f"{path}: no line of a {kind} file: it has no NAME")
+    if to_come:
+        raise BadInstance(f"{path}: it has no section {to_come[0]}: was it cut short?")
     whole = np.concatenate(values) if values else np.empty((0, destinations))
     if model.count("NBLOCKS") != len(whole):
         raise BadInstance(f"{path}: NBLOCKS is {model.count('NBLOCKS')}, and {len(whole)} blocks "
                           "have values")
+    if not len(whole):
+        raise BadInstance(f"{path}: there are no blocks")
     return model, whole, uses, limits
 
 
+def _destinations_of(model: _Model, kind: str) -> int:
+    """How many values a block has. Raises BadInstance where the model is of another kind."""
+    if model.header.get("TYPE") != kind:
+        raise BadInstance(f"{model.path}: TYPE is `{model.header.get('TYPE', '')}` and not {kind}")
+    return model.count("NDESTINATIONS", 1, MOST_DESTINATIONS) if kind == "PCPSP" else 1
+
+
 def read_upit(path: str) -> UltimatePit:
-    """A UPIT file. Raises BadInstance where it is none."""
+    """A UPIT file: its values, (n,), in units of 100 cents. Raises BadInstance where it is none."""
     model, values, _, _ = _read_model(path, "UPIT")
     return UltimatePit(model.name(), values[:, 0])
 
 
 def read_problem(path: str, kind: Optional[str] = None) -> Problem:
-    """A PCPSP or a CPIT file; the kind is that of the file's ending where none is given.
+    """A PCPSP or a CPIT file: values (n, D) in units of 100 cents, uses and limits in tonnes, the
+    rate for one period. The kind is that of the file's ending where none is given.
 
-    Raises BadInstance where it is none, or its parts do not fit.
+    Raises BadInstance where it is none, a section is lacking, or its parts do not fit.
     """
     kind = kind or os.path.splitext(path)[1][1:].upper()
     if kind not in ("PCPSP", "CPIT"):
@@ -559,9 +615,8 @@ def read_problem(path: str, kind: Optional[str] = None) -> Problem:
     model, values, uses, limits = _read_model(path, kind)
     columns = [np.concatenate(part) for part in zip(*uses)] if uses else \
         [np.empty(0, np.int32), np.empty(0, np.int8), np.empty(0, np.int8), np.empty(0)]
-    problem = Problem(kind, model.name(), model.count("NPERIODS"),
-                      model.count("NRESOURCE_SIDE_CONSTRAINTS"), model.number("DISCOUNT_RATE"),
-                      values, Uses(*columns), _limits_of(model, limits))
+    problem = Problem(kind, model.name(), *_counts_of(model), values, Uses(*columns),
+                      _limits_of(model, limits))
     _look_at_ranges(problem, path)
     return problem
 
@@ -690,7 +745,11 @@ def _write(path: str, kind: str, pieces: Iterable[bytes]) -> None:
 
 def write_instance(instance: Instance, base: str, end: bytes = b"") -> None:
     """The parts of an instance that are there, to BASE.blocks and so on: the bytes of `pitc`. They
-    come together, or none does; `end` stands behind each model."""
+    come together, or none does; `end` stands behind each model.
+
+    Raises UserError where a number is infinite, NaN or too great for its decimals, and where a file
+    cannot be written.
+    """
     with outputs.together():
         if instance.blocks is not None:
             write_blocks(instance.blocks, base + ".blocks")

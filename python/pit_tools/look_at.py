@@ -119,7 +119,7 @@ def _grades(facts: Facts) -> Iterator[str]:
     if whole.top_grade == 0:
         yield "no block has a grade"
         return
-    ends = [one.break_even for one in facts.plan.destinations if one.break_even is not None]
+    ends = [one.break_even for one in facts.plan.destinations if one.break_even]
     if ends and whole.grade > 30 * min(ends):
         yield (f"the mean grade, {told(whole.grade)}, is {with_commas(whole.grade / min(ends))} "
                f"times the one that pays, {told(min(ends))}: are grades in parts a billion, or a "
@@ -128,7 +128,7 @@ def _grades(facts: Facts) -> Iterator[str]:
     if len(rich) > 1 and max(rich) >= 100 * min(rich):
         yield (f"the mean grades of zones are {told(min(rich))} to {told(max(rich))}, a "
                "hundredfold apart: do all have one unit?")
-    if whole.top_grade > 200 * max(whole.grade, 1e-12):
+    if whole.top_grade > 200 * whole.grade > 0:
         yield (f"the highest grade, {told(whole.top_grade)}, is "
                f"{with_commas(whole.top_grade / whole.grade)} times the mean: was it cut?")
     least = float(grade.min())

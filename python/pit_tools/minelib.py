@@ -16,14 +16,12 @@ import numpy as np
 from scipy import sparse
 
 from pit_tools.errors import UserError
+from pit_tools.formats import MOST_AMOUNT, MOST_BLOCKS, MOST_INDEX, MOST_ZONE
 from pit_tools.identifiers import Identifiers, order_of, reordered
 from pit_tools.instance import Blocks, Instance, Problem, UltimatePit, Uses, write_instance
 from pit_tools.published_lines import (Piece, Rounding, Told, line_lengths, numbers_of, pieces_of,
                                        refuse_row, whole_of)
 from pit_tools.published_models import read_problem, read_upit
-
-#: What `pitc check` takes of a block (docs/formats.md).
-MOST_BLOCKS, MOST_INDEX, MOST_AMOUNT, MOST_ZONE = 64_000_000, 9999, 1_000_000, 63
 
 
 @dataclass(frozen=True)
@@ -321,7 +319,10 @@ def _with_fields(problem: Optional[Problem], order: str) -> Optional[Problem]:
 
 def write_published(mine: Instance, base: str, order: str = "bdr", with_end: bool = True) -> None:
     """Writes an instance as the library's files are remembered: `EOF` behind each model, and
-    coefficients in an order of their fields, one of published_models.ORDERS."""
+    coefficients in an order of their fields, one of published_models.ORDERS.
+
+    Raises UserError as `write_instance` does.
+    """
     swapped = replace(mine, pcpsp=_with_fields(mine.pcpsp, order),
                       cpit=_with_fields(mine.cpit, order))
     write_instance(swapped, base, b"EOF\n" if with_end else b"")

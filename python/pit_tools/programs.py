@@ -100,7 +100,8 @@ class Names:
 
 
 def program_of_upit(upit: UltimatePit, precedence: sparse.csr_matrix) -> Program:
-    """The ultimate pit as a linear program: x_b <= x_p for each predecessor p of b."""
+    """The ultimate pit as a linear program: x_b <= x_p for each predecessor p of b, arcs (n, n).
+    Its value is in units of 100 cents."""
     arcs = precedence.tocoo()
     count, n = precedence.nnz, len(upit.values)
     rows = sparse.csr_matrix((np.tile([1.0, -1.0], count), (np.repeat(np.arange(count), 2),
@@ -140,8 +141,9 @@ class _Builder:
 
 def program_of(problem: Problem, precedence: sparse.csr_matrix, relaxed: bool = False,
                whole_blocks: bool = False) -> Program:
-    """A CPIT or a PCPSP as a mixed integer program; `relaxed` lets blocks be split over periods,
-    and `whole_blocks` lets no block of a PCPSP be split over destinations."""
+    """A CPIT or a PCPSP, with its arcs (n, n), as a mixed integer program; `relaxed` lets blocks be
+    split over periods, and `whole_blocks` lets no block of a PCPSP be split over destinations. Its
+    value is in units of 100 cents, discounted."""
     n, periods, has_y = len(problem.values), problem.periods, problem.kind == "PCPSP"
     names = Names(n, periods, problem.destinations if has_y else 0, has_x=not relaxed)
     builder, discounts = _Builder(names.count), problem.discounts()
@@ -256,7 +258,8 @@ def by_period(program: Program) -> Program:
 
 
 def write_lp(program: Program, file: IO[str]) -> None:
-    """Writes a program in the LP format that most solvers read."""
+    """Writes a program to a file that is open for text, in the LP format that most solvers
+    read."""
     names = program.names.list()
     file.write(f"\\ {program.title}\nMaximize\n value:\n")
     file.writelines(_lines(f"{_term(factor, names[at], 6)}"
@@ -334,7 +337,10 @@ class Answer:
 def solve(program: Program, seconds: Optional[float] = None, ratio: float = 0.0,
           bounds: Optional[optimize.Bounds] = None) -> Answer:
     """Solves a program by scipy's HiGHS, up to so many seconds and up to a ratio of the best.
-    Bounds of the variables may be closer than 0 and 1."""
+    Bounds of the variables may be closer than 0 and 1.
+
+    Raises UserError where HiGHS says that the program is unbounded or it came to no end.
+    """
     options = {"mip_rel_gap": ratio, **({"time_limit": seconds} if seconds else {})}
     scale = max(1.0, float(np.abs(program.objective).max(initial=1)))
     constraints = optimize.LinearConstraint(program.rows, program.lower,
@@ -361,7 +367,7 @@ def solve(program: Program, seconds: Optional[float] = None, ratio: float = 0.0,
 # The interface has `problem`, though the names of the variables say all.
 # pylint: disable-next=unused-argument
 def schedule_of(values: np.ndarray, problem: Problem, names: Names) -> Schedule:
-    """The schedule that the variables of `program_of` state."""
+    """The schedule that the variables of `program_of` state, their values being (variables,)."""
     n, periods = names.blocks, names.periods
     if names.destinations:
         return schedule_of_shares(values[names.first_y:].reshape(n, names.destinations, periods))

@@ -12,13 +12,11 @@ from typing import Iterator, Optional
 import numpy as np
 
 from pit_tools.errors import UserError
-from pit_tools.instance import COEFFICIENTS, LIMITS, OBJECTIVE, Limit, Problem, UltimatePit, Uses
+from pit_tools.formats import MOST_BLOCKS, MOST_DESTINATIONS, MOST_PERIODS, MOST_RESOURCES
+from pit_tools.instance import (COEFFICIENTS, KEYS, LIMITS, OBJECTIVE, SECTIONS, Limit, Problem,
+                                UltimatePit, Uses)
 from pit_tools.published_lines import (Piece, Rounding, Told, line_lengths, numbers_of, pieces_of,
                                        refuse_row, whole_of)
-
-KEYS = ("NAME", "TYPE", "NBLOCKS", "NPERIODS", "NDESTINATIONS", "NRESOURCE_SIDE_CONSTRAINTS",
-        "NGENERAL_SIDE_CONSTRAINTS", "DISCOUNT_RATE")
-SECTIONS = (OBJECTIVE, COEFFICIENTS, LIMITS)
 
 #: Orders of the fields of a coefficient, in front of its amount: block, destination, resource.
 ORDERS = ("bdr", "brd", "rbd")
@@ -26,9 +24,6 @@ ORDERS = ("bdr", "brd", "rbd")
 #: How limits may be spelled.
 LETTERS = {"L": "L", "<=": "L", "<": "L", "LE": "L", "G": "G", ">=": "G", ">": "G", "GE": "G",
            "I": "I"}
-
-#: What an instance of `pitc` may have at most (docs/formats.md).
-MOST_PERIODS, MOST_DESTINATIONS, MOST_RESOURCES = 100, 8, 8
 
 
 class Model:
@@ -345,7 +340,7 @@ def _read(path: str, kind: str, first: int, without_general: bool,
     by_block = values.by_block()
     if "NBLOCKS" not in model.header:
         told.tell(f"{model.file_name}: no NBLOCKS; the objective has {len(by_block)} blocks")
-    elif model.count("NBLOCKS", 0, 64_000_000) != len(by_block):
+    elif model.count("NBLOCKS", 0, MOST_BLOCKS) != len(by_block):
         raise UserError(f"{path}: NBLOCKS is {model.header['NBLOCKS']}, and the objective has "
                         f"{len(by_block)} lines")
     return model, by_block, uses, limits

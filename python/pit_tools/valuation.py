@@ -94,9 +94,12 @@ def _uses(pairs: Sequence[tuple[int, int]], tonnes: np.ndarray) -> Uses:
 
 
 def instance_of(plan: Plan, blocks: Blocks) -> Instance:
-    """The instance that a plan and its blocks define, as `pitc` writes it. It lists all arcs, and
-    is for instances that tools make and solve themselves; those that are published come from
-    `pitc`."""
+    """The instance that a plan and its blocks define, as `pitc` writes it: values in units of 100
+    cents. It lists all arcs, and is for instances that tools make and solve themselves; those that
+    are published come from `pitc`.
+
+    Raises UserError where there is no block, or blocks lie too far apart.
+    """
     values = values_of(plan, blocks)
     best = values.argmax(axis=1)
     covers = [(at, number) for at in range(len(plan.destinations))

@@ -94,6 +94,24 @@ def test_files_that_check_accepts_are_read(tmp_path):
     ("pcpsp", "0 0 L 60000", "0 0 X 60000", "no limit"),
     ("pcpsp", "0 0 L 60000", "0 9 L 60000", "a limit's resource or period"),
     ("cpit", "0 0 2700", "0 5 2700", "a coefficient's resource"),
+    ("blocks", "5 2 0 1", "5 2 -1 1", "y is not from 0 to 9,999 in each line"),
+    ("blocks", "5 2 0 1", "5 20000 0 1", "x is not from 0 to 9,999 in each line"),
+    ("blocks", "2700 1.8 0", "-2700 1.8 0", "tonnes is not from 0 to 1,000,000"),
+    ("blocks", "2700 1.8 0", "2700 1.8 64", "the zone is not from 0 to 63"),
+    ("pcpsp", "RESOURCE_CONSTRAINT_LIMITS:\n0 0 L 60000\n0 1 L 60000\n0 2 L 60000\n1 0 I 0 120000\n",
+     "", "it has no section RESOURCE_CONSTRAINT_LIMITS: was it cut short"),
+    ("cpit", "RESOURCE_CONSTRAINT_COEFFICIENTS:\n", "", "mine.cpit"),
+    ("pcpsp", "CONSTRAINT_LIMITS:", "CONSTRAINTS_LIMITS:", "a section `RESOURCE_CONSTRAINTS_LIMITS` "
+     "stands where a PCPSP file has RESOURCE_CONSTRAINT_LIMITS"),
+    ("upit", "OBJECTIVE_FUNCTION:", "OBJECTIVE_FUNCTION:\nOBJECTIVE_FUNCTION:", "a section "
+     "`OBJECTIVE_FUNCTION` stands where a UPIT file has none"),
+    ("pcpsp", "NPERIODS: 3", "NPERIODS: 0", "NPERIODS is 0, and no number from 1 to 100"),
+    ("pcpsp", "NDESTINATIONS: 3", "NDESTINATIONS: 0", "NDESTINATIONS is 0"),
+    ("pcpsp", "NDESTINATIONS: 3", "NDESTINATIONS: 100000000", "no number from 1 to 8"),
+    ("pcpsp", "NPERIODS: 3", "NPERIODS: 3\nNPERIODS: 3", "NPERIODS stands twice"),
+    ("pcpsp", "NPERIODS: 3", "NPERIODS: 3\nAUTHOR: me", "no key `AUTHOR` stands in the header"),
+    ("pcpsp", "0 0 0 2700", "NBLOCKS: 6", "no key `NBLOCKS` stands below RESOURCE"),
+    ("pcpsp", "DISCOUNT_RATE: 0.08", "DISCOUNT_RATE: 8", "DISCOUNT_RATE is 8, and no number"),
     ("upit", "0 221940", "0 99999999999999999999", "cannot be held")])
 def test_a_damaged_file_is_refused_by_its_name(tmp_path, text, old, new, told):
     base = mines.six_blocks(tmp_path)
