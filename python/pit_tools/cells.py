@@ -126,7 +126,7 @@ def marks_of(columns: Iterable[pd.Series], *, decimal: str = "", thousands: str 
     cells = [text for column in columns for text in _telling(column) if "." in text or "," in text]
     cells = [text for text in cells if text.casefold() not in known
              and re.fullmatch(rf"[-+(]?[\d.,{BLANKS}{APOSTROPHES}]+[-)]?", text)]
-    if decimal and decimal not in ".,":
+    if decimal not in ("", ".", ","):
         raise UserError(f"--decimal is a point or a comma, and not `{decimal}`")
     unclear = ""
     if not decimal:

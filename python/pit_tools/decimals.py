@@ -5,6 +5,7 @@ A decimal with `places` decimals is an int64 of so many parts: 2700.5 t with 3 p
 """
 from __future__ import annotations
 
+import re
 from decimal import ROUND_HALF_UP, Decimal, InvalidOperation
 from typing import Optional, Sequence, Union
 
@@ -19,6 +20,9 @@ ROOM = 1e-14
 
 # Numbers of parts beyond this, as of -1e30, are held as this: no file of pitc has them.
 MOST = 1e18
+
+# Digits before the point, or zeros behind it, that a decimal of a plan may have: a limit has 13.
+MOST_DIGITS = 15
 
 
 def rounded(text: Union[str, Decimal, int], places: int) -> int:
@@ -86,9 +90,16 @@ def plain(value: Union[Decimal, int]) -> str:
 def decimal_of(text: str, what: str) -> Decimal:
     """A decimal of a plan or a word, exact. It raises UserError, which names what it was for."""
     try:
-        value: Optional[Decimal] = Decimal(text.strip())
+        value = Decimal(text.strip()) if text.isascii() else None
     except InvalidOperation:
         value = None
     if value is None or not value.is_finite():
-        raise UserError(f"{what}: `{text}` is no number")
+        raise UserError(f"{what}: `{text[:60]}` is no number")
+    if abs(value.adjusted()) > MOST_DIGITS:
+        raise UserError(f"{what}: `{text[:60]}` is too great or too small a number")
     return value
+
+
+def whole_of(text: str) -> Optional[int]:
+    """A whole number from 0 on, of 18 digits at the most; None where the text is none."""
+    return int(text) if re.fullmatch("[0-9]{1,18}", text) else None

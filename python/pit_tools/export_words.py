@@ -2,15 +2,17 @@
 header."""
 from __future__ import annotations
 
-from dataclasses import dataclass, field
+import csv
+import io
+import math
+from dataclasses import dataclass, field, fields
 from decimal import Decimal
-from typing import Optional, Sequence
-
-import pandas as pd
+from typing import Any, Optional, Sequence
 
 from pit_tools.errors import UserError
 from pit_tools.formula_values import code_name
 from pit_tools.formulas import Formula, Lacking, formula_of, plain_name
+from pit_tools.source import closest_separator
 from pit_tools.unnamed_columns import Unnamed, unnamed_in
 from pit_tools.units import factor_of, is_factor, is_money_a_tonne, named_in
 
@@ -75,6 +77,25 @@ class Words:
     in_feet: bool = False
     below: Sequence[str] = ()
 
+    @classmethod
+    def of_record(cls, told: dict[str, Any]) -> Words:
+        """Words as BASE.json has them. It raises TypeError for what are none."""
+        words = cls(**told)
+        for one in fields(cls):
+            value = getattr(words, one.name)
+            if isinstance(one.default, bool):
+                is_right = isinstance(value, bool)
+            elif isinstance(one.default, tuple):
+                is_right = isinstance(value, (list, tuple)) and all(isinstance(text, str)
+                                                                    for text in value)
+            elif one.default is None:
+                is_right = value is None or isinstance(value, (int, float))
+            else:
+                is_right = isinstance(value, str)
+            if not is_right:
+                raise TypeError(f"{one.name} is {value!r}")
+        return words
+
     @property
     def is_listed(self) -> bool:
         """Whether rows have no coordinates, and lie in an order."""
@@ -124,7 +145,21 @@ class Words:
                                 "others would move")
         if self.x_bearing is not None and self.y_azimuth is not None:
             raise UserError("give --x-bearing or --y-azimuth, not both")
+        if not all(math.isfinite(angle or 0) for angle in (self.x_bearing, self.y_azimuth)):
+            raise UserError("--x-bearing, --y-azimuth: give degrees, as 62.5")
         self._judge_masses()
+        self._judge_signs()
+
+    def _judge_signs(self) -> None:
+        """The same of the signs by which an export is written."""
+        sign = self.separator
+        if sign and (len(sign) > 1 or not sign.isascii() or sign.isalnum() or sign in "\"'.+-\r\n"):
+            raise UserError(f"--separator is one sign, as ; or tab, and not `{sign}`")
+        sign = self.thousands
+        if sign not in ("", "blank") and (len(sign) > 1 or sign.isalnum() or sign in "+-"):
+            raise UserError(f"--thousands is one sign, or `blank`, and not `{sign}`")
+        if sign and sign == self.decimal:
+            raise UserError(f"--decimal and --thousands are both `{sign}`")
 
     def _judge_masses(self) -> None:
         """The same of what says tonnes and grades."""
@@ -239,19 +274,40 @@ def table_of(text: str, value: str, names: Sequence[str]) -> Table:
         at = column_of(name, names)
         pairs = [pair.rpartition("=") for pair in rest.split(",")]
         return Table([at], [([code_name(key)], found.strip()) for key, _, found in pairs], text)
-    try:
-        table = pd.read_csv(text, dtype=str, keep_default_na=False, sep=None, engine="python",
-                            encoding="utf-8-sig")
-    except (OSError, ValueError, pd.errors.ParserError) as error:
-        raise UserError(f"{text}: {' '.join(str(error).split())}") from None
-    named = [name for name in table.columns if plain_name(name) == value]
-    if not named or len(table.columns) < 2:
+    header, *records = _records_of(text)
+    named = [at for at, name in enumerate(header) if plain_name(name) == value]
+    if not named or len(header) < 2:
         raise UserError(f"{text}: its columns have to be `{value}` and some of the export's")
     given = named[-1]
-    keys = [name for name in table.columns if name != given]
-    rows = [([code_name(row[key]) for key in keys], str(row[given]).strip())
-            for _, row in table.iterrows()]
-    return Table([column_of(key, names) for key in keys], rows, text)
+    keys = [at for at in range(len(header)) if at != given]
+    rows = [([code_name(record[at]) for at in keys], record[given].strip()) for record in records]
+    return Table([column_of(header[at], names) for at in keys], rows, text)
+
+
+def _records_of(path: str) -> list[list[str]]:
+    """The cells of a table in a file, by its lines that have any. It raises UserError, with the
+    line, where one has more or fewer cells than the first."""
+    records: list[list[str]] = []
+    try:
+        with open(path, encoding="utf-8-sig", newline="") as file:
+            text = file.read()
+        sign = closest_separator(text) if text.strip() else ","
+        reader = csv.reader(io.StringIO(text, newline=""), delimiter=sign, skipinitialspace=True)
+        for record in reader:
+            record = list(filter(None, record)) if sign == " " else record
+            if not any(cell.strip() for cell in record):
+                continue
+            if records and len(record) != len(records[0]):
+                raise UserError(f"{path}: line {reader.line_num} has {len(record)} cells, and the "
+                                f"first line {len(records[0])}")
+            records.append(record)
+    except UnicodeDecodeError:
+        raise UserError(f"{path}: it is no text in UTF-8") from None
+    except csv.Error as error:
+        raise UserError(f"{path}: {error}") from None
+    if not records:
+        raise UserError(f"{path}: it is empty")
+    return records
 
 
 def column_of(name: str, names: Sequence[str]) -> int:

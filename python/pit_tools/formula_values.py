@@ -79,7 +79,10 @@ class Rows:
             return (~np.asarray(value, bool) if isinstance(node.op, ast.Not) else -value
                     if isinstance(node.op, ast.USub) else value)
         if isinstance(node, ast.BinOp):
-            return OPERATORS[type(node.op)](self._of(node.left), self._of(node.right))
+            sides = self._of(node.left), self._of(node.right)
+            if any(isinstance(side, str) for side in sides):
+                raise TypeError("a text is compared with others, and nothing is computed of it")
+            return OPERATORS[type(node.op)](*sides)
         if isinstance(node, ast.BoolOp):
             holds = [np.asarray(self._of(one), bool) for one in node.values]
             if isinstance(node.op, ast.And):

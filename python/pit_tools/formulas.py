@@ -14,6 +14,7 @@ import unicodedata
 from dataclasses import dataclass
 from typing import Any, Callable, Optional, Sequence
 
+import numpy as np
 import pandas as pd
 
 from pit_tools.errors import UserError
@@ -22,6 +23,13 @@ from pit_tools.formula_values import ARGUMENTS, COMPARISONS, OPERATORS, Rows, ca
 ALLOWED = (ast.Expression, ast.BinOp, ast.UnaryOp, ast.BoolOp, ast.Compare, ast.Name, ast.Load,
            ast.Constant, ast.Call, ast.IfExp, ast.List, ast.Tuple, ast.And, ast.Or, ast.Not,
            ast.USub, ast.UAdd, ast.In, ast.NotIn, *OPERATORS, *COMPARISONS)
+
+
+# How much of a formula is told.
+MOST_SHOWN = 200
+
+# How deep parts of a formula may stand in one another, as each term of a sum in those before it.
+MOST_DEPTH = 200
 
 
 class Lacking(UserError):
@@ -117,16 +125,17 @@ class Formula:
         return self._computed(lambda rows: rows.holds(_body(self.code)), table, standing)
 
     def _one(self, code: str, table: pd.DataFrame, standing: pd.DataFrame) -> pd.Series:
-        return pd.Series(self._computed(lambda rows: rows.value(_body(code)), table, standing),
-                         index=table.index)
+        found = self._computed(lambda rows: np.asarray(rows.value(_body(code)), float), table,
+                               standing)
+        return pd.Series(np.broadcast_to(found, len(table)), index=table.index)
 
     def _computed(self, of: Callable[[Rows], Any], table: pd.DataFrame,
                   standing: pd.DataFrame) -> Any:
         try:
             return of(Rows(*({name: one[name].to_numpy() for name in one}
                              for one in (table, standing))))
-        except (TypeError, ValueError, AttributeError) as error:
-            raise UserError(f"`{self.text}` cannot be computed: "
+        except (TypeError, ValueError, AttributeError, OverflowError) as error:
+            raise UserError(f"`{self.text[:MOST_SHOWN]}` cannot be computed: "
                             f"{' '.join(str(error).split())}") from None
 
 
@@ -199,6 +208,7 @@ def _column(name: str, places: dict[str, list[int]], columns: list[int]) -> str:
 def _checked(code: str, text: str, names: Sequence[str]) -> str:
     """The code, where it is a formula over columns alone."""
     code = code.strip()
+    text = text if len(text) <= MOST_SHOWN else text[:MOST_SHOWN] + ".."
     own = {column_name(at) for at in range(len(names))}
     tree = _tree_of(code) or _tree_of(re.sub(r"\bif\s*\(", "where(", code))
     if tree is None:
@@ -208,6 +218,9 @@ def _checked(code: str, text: str, names: Sequence[str]) -> str:
             raise Lacking(text.strip() if re.fullmatch(r"[\w ]+", text.strip()) else words[0],
                           names) from None
         raise UserError(f"`{text}` is no formula")
+    if _depth_of(tree) > MOST_DEPTH:
+        raise UserError(f"`{text}` has more than {MOST_DEPTH} parts in one another: add a column "
+                        "to the export in its place")
     calls = {id(node.func) for node in ast.walk(tree) if isinstance(node, ast.Call)}
     for node in ast.walk(tree):
         is_call = isinstance(node, ast.Call)
@@ -224,6 +237,14 @@ def _checked(code: str, text: str, names: Sequence[str]) -> str:
         if isinstance(node, ast.Constant) and not isinstance(node.value, (int, float, str)):
             raise UserError(f"`{text}` is no formula: `{node.value}` is no number")
     return ast.unparse(tree)
+
+
+def _depth_of(tree: ast.AST) -> int:
+    """How deep the parts of the code stand in one another."""
+    depth, level = 0, [tree]
+    while level:
+        depth, level = depth + 1, [part for node in level for part in ast.iter_child_nodes(node)]
+    return depth
 
 
 def _tree_of(code: str) -> Optional[ast.Expression]:

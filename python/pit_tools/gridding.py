@@ -19,6 +19,9 @@ AXES = "xyz"
 # How much of a size a row may lie beside its place.
 BESIDE = 0.1
 
+# No length of a word is greater, in either way: those of a plan are not (docs/formats.md).
+MOST = 1_000_000_000
+
 
 @dataclass(frozen=True)
 class Axis:
@@ -227,10 +230,12 @@ def thousandths(text: str, what: str) -> list[int]:
     cells = text.replace(";", ",").split(",")
     try:
         numbers = [round(float(cell) * 1_000_000) for cell in cells]
-    except ValueError:
+    except (ValueError, OverflowError):
         numbers = []
-    if len(numbers) != 3 or not np.isfinite(numbers).all():
+    if len(numbers) != 3:
         raise UserError(f"{what}: give three numbers, as 20,20,10, and not `{text}`")
+    if max(abs(number) for number in numbers) > MOST * 1_000_000:
+        raise UserError(f"{what}: `{text}` goes beyond {MOST:,}")
     if any(number % 1000 for number in numbers):
         raise UserError(f"{what}: `{text}` has more than 3 decimals")
     return [number // 1000 for number in numbers]
@@ -242,6 +247,14 @@ def sizes_of(text: str, what: str) -> list[int]:
     if min(sizes) < 1:
         raise UserError(f"{what}: `{text}`: a size is above 0")
     return sizes
+
+
+def counts_of(text: str, what: str) -> list[int]:
+    """Three numbers of blocks."""
+    sizes = sizes_of(text, what)
+    if any(size % 1000 for size in sizes):
+        raise UserError(f"{what}: `{text}`: numbers of blocks are whole")
+    return [size // 1000 for size in sizes]
 
 
 def box_told(axes: Sequence[Axis]) -> str:

@@ -10,7 +10,7 @@ import pandas as pd
 from pit_tools.decimals import plain, shortest
 from pit_tools.errors import UserError
 from pit_tools.export_words import Measure, columns_of
-from pit_tools.gridding import (Axis, Frame, Turn, axis_of, box_told, indices, sizes_of,
+from pit_tools.gridding import (Axis, Frame, Turn, axis_of, box_told, counts_of, indices, sizes_of,
                                 thousandths, turn_of, turn_told, turned_by)
 from pit_tools.import_causes import causes, judge_ends, judge_neighbours, likelier_order
 from pit_tools.import_doubts import Doubts
@@ -228,6 +228,8 @@ class Placing:
             cells = words.about.split(",")
             try:
                 about = (float(cells[0]), float(cells[1]))
+                if not np.isfinite(about).all():
+                    raise ValueError
             except (ValueError, IndexError):
                 raise UserError("--about: give x and y of the point that stays, as 1000,2000, and "
                                 f"not `{words.about}`") from None
@@ -256,7 +258,7 @@ class Placing:
         """Compares the numbers of blocks with those that were given."""
         if not self.words.blocks:
             return
-        given = [size // 1000 for size in sizes_of(self.words.blocks, "--blocks")]
+        given = counts_of(self.words.blocks, "--blocks")
         found = [axis.places for axis in axes]
         if all(one <= other for one, other in zip(found, given)):
             return
@@ -269,7 +271,7 @@ class Placing:
     def listed(self) -> tuple[list[Axis], list[np.ndarray]]:
         """The places of rows that have no coordinates, by their order."""
         words, count = self.words, self.reading.counts["records"]
-        blocks = [size // 1000 for size in sizes_of(words.blocks, "--blocks")]
+        blocks = counts_of(words.blocks, "--blocks")
         if count != blocks[0] * blocks[1] * blocks[2]:
             raise UserError(f"{count:,} rows, and --blocks says "
                             f"{blocks[0] * blocks[1] * blocks[2]:,}: rows without coordinates have "
@@ -297,7 +299,7 @@ class Placing:
 
     def judge_order(self, rows: pd.DataFrame) -> None:
         """Looks whether rock would hang together far better in another order."""
-        blocks = [size // 1000 for size in sizes_of(self.words.blocks, "--blocks")]
+        blocks = counts_of(self.words.blocks, "--blocks")
         rock = np.zeros(blocks[0] * blocks[1] * blocks[2], bool)
         rock[self.record - self.reading.first_record] = (rows["tonnes"] > 0).to_numpy()
         order = [cell.strip() for cell in self.words.order.split(",")]
@@ -327,7 +329,7 @@ class Placing:
             place = column // 1000 - start
             many = int(place.max()) + 1
             if words.blocks:
-                many = sizes_of(words.blocks, "--blocks")[axis] // 1000
+                many = counts_of(words.blocks, "--blocks")[axis]
             if int(place.min()) < 0 or int(place.max()) >= many:
                 raise UserError(f"the index {'ijk'[axis]} is from {int(place.min()) + start} to "
                                 f"{int(place.max()) + start}, and not from {start} to "
@@ -506,6 +508,11 @@ class Placing:
                      f"{figure(weights[several].max())} t/m3")
         self.report.facts.append(f"{len(rows):,} {what} {len(merged):,} blocks: tonnes summed, "
                                  f"grades by tonnes, the zone with most tonnes{told}")
+        if len(merged) < len(summed):
+            self.report.facts.append(f"left out: {len(summed) - len(merged):,} blocks of less than "
+                                     "half a kilogram")
+        if merged.empty:
+            raise UserError("no block has half a kilogram: " + self.no_tonnes_told())
         return merged
 
     def with_holes(self, rows: pd.DataFrame, air: pd.DataFrame) -> tuple[pd.DataFrame,

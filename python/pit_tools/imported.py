@@ -4,9 +4,10 @@ from __future__ import annotations
 import json
 import os
 from dataclasses import dataclass
-from decimal import Decimal
+from operator import index
 from typing import Optional
 
+from pit_tools.decimals import decimal_of
 from pit_tools.errors import UserError
 from pit_tools.export_words import Words
 from pit_tools.gridding import Frame
@@ -55,21 +56,36 @@ def read_imported(path: str) -> ImportedFile:
             if "turn" in told:
                 raise UserError(f"{path}: an older pit-tools wrote it, without the unit of the "
                                 "export's coordinates: import again")
-            grid = Grid.of([Decimal(cell) for key in ("origin", "size")
-                            for cell in told["grid"][key]])
-            wide, deep, high = told["grid"]["blocks"]
-            folder = os.path.dirname(path)
-            return ImportedFile(told["exports"], Words(**told["words"]), grid, (wide, deep, high),
-                                [zone["name"] for zone in told["zones"]],
-                                [os.path.join(folder, zone["file"]) for zone in told["zones"]],
-                                Frame.of_record(told["frame"]),
-                                {zone["name"]: zone["K"]
-                                 for zone in told["zones"] if zone.get("K")},
-                                [str(one) for one in told.get("sums", [])],
-                                list(told.get("told", [])), list(told.get("look_at", [])))
-        except (ValueError, KeyError, TypeError, ArithmeticError):
+            return _imported(told, path)
+        except (ValueError, KeyError, TypeError, AttributeError, ArithmeticError, RecursionError):
             raise UserError(f"{path}: it is not what `pit-tools import` writes as "
                             "BASE.json") from None
+
+
+def _imported(told: dict, path: str) -> ImportedFile:
+    """What BASE.json says. It raises ValueError, KeyError, TypeError or AttributeError for what
+    says nothing."""
+    folder = os.path.dirname(path)
+    grid = Grid.of([decimal_of(cell, f"{path}: grid") for key in ("origin", "size")
+                    for cell in told["grid"][key]])
+    wide, deep, high = map(index, told["grid"]["blocks"])
+    if min(grid.size) <= 0 or min(wide, deep, high) < 1:
+        raise ValueError("a grid without a block")
+    zones = [(_text(zone["name"]), os.path.join(folder, _text(zone["file"])), zone.get("K"))
+             for zone in told["zones"]]
+    return ImportedFile(list(map(_text, told["exports"])), Words.of_record(told["words"]), grid,
+                        (wide, deep, high), [name for name, _, _ in zones],
+                        [path for _, path, _ in zones], Frame.of_record(told["frame"]),
+                        {name: index(K) for name, _, K in zones if K},
+                        list(map(_text, told.get("sums", []))),
+                        list(map(_text, told.get("told", []))),
+                        list(map(_text, told.get("look_at", []))))
+
+
+def _text(told: object) -> str:
+    if not isinstance(told, str):
+        raise TypeError(f"no text: {told!r}")
+    return told
 
 
 def frame_of(path: Optional[str], note: PlanNote) -> Frame:

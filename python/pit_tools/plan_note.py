@@ -84,7 +84,7 @@ def read_note(plan_path: str) -> PlanNote:
     try:
         with open(path, encoding="utf-8") as file:
             note = _note_of(json.load(file))
-    except (OSError, ValueError, KeyError, TypeError, UserError):
+    except (OSError, ValueError, KeyError, TypeError, AttributeError, RecursionError, UserError):
         return PlanNote(why_not=f"{path} is not what `pit-tools plan` writes beside a plan: "
                         + NOT_TAKEN)
     if note.plan != sum_of(plan_path):

@@ -8,10 +8,14 @@ from typing import Iterator, Sequence
 import numpy as np
 import pandas as pd
 
+from pit_tools.errors import UserError
 from pit_tools.zone_files import read_zone_files
 
 # Below this grade, in millionths of g/t, the sample has none.
 UNKNOWN = 2000
+
+# Places of the box at the most, each of which has a line.
+MOST_PLACES = 20_000_000
 
 
 def zone_names(paths: Sequence[str]) -> list[str]:
@@ -25,12 +29,18 @@ def zone_names(paths: Sequence[str]) -> list[str]:
 def sample_export(paths: Sequence[str]) -> Iterator[str]:
     """The lines of the export: x runs first, then y, then z, over the box of the blocks."""
     rows = read_zone_files(paths)
+    if rows.empty:
+        raise UserError(f"there is no block in {', '.join(paths)}")
     names = zone_names(paths)
     ranges = []
     for name in "xyz":
         values = np.unique(rows[name])
         step = int(np.gcd.reduce(np.diff(values))) if len(values) > 1 else 1
         ranges.append(range(int(values[0]), int(values[-1]) + 1, step))
+    if prod(map(len, ranges)) > MOST_PLACES:
+        told = " x ".join(f"{len(axis):,}" for axis in ranges)
+        raise UserError(f"the blocks lie in a box of {told} places, and {MOST_PLACES:,} is the "
+                        "most: do two groups of them lie far apart?")
     box = pd.MultiIndex.from_product(ranges[::-1], names=list("zyx")).to_frame(index=False)
     places = box.merge(rows, "left", ["x", "y", "z"])
     top = rows.groupby(["x", "y"])["z"].max().rename("top").reset_index()

@@ -11,6 +11,8 @@ import io
 import lzma
 import os
 import re
+import stat
+import struct
 import zipfile
 import zlib
 from dataclasses import dataclass, field
@@ -56,8 +58,17 @@ def is_number_like(text: str) -> bool:
     return bool(NUMBER.fullmatch(text))
 
 
+def refuse_pipe(path: str) -> None:
+    """Raises UserError for what can be read once alone: what is read is read several times."""
+    mode = os.stat(path).st_mode
+    if not stat.S_ISREG(mode) and not stat.S_ISDIR(mode):
+        raise UserError(f"{path}: it is a pipe or a device, and is read more than once: write it "
+                        "into a file first")
+
+
 def opened(path: str) -> BinaryIO:
     """The bytes of a file, unpacked where it is a gzip, bzip2, xz or zip file of one text."""
+    refuse_pipe(path)
     with open(path, "rb") as file:
         front = file.read(6)
     for mark, unpack in UNPACKERS:
@@ -100,8 +111,7 @@ class Unpacked(io.RawIOBase):
         room[:len(piece)] = piece
         self.count += len(piece)
         if self.count > self.most:
-            raise UserError(f"{self.path}: the archive unpacks to more than {MOST_TIMES} times its "
-                            "size: unpack it first, and look at it")
+            raise _beyond_measure(self.path, "archive")
         return len(piece)
 
     def read_by(self, step: Callable[[], Any]) -> Any:
@@ -109,7 +119,7 @@ class Unpacked(io.RawIOBase):
         try:
             return step()
         except (EOFError, zlib.error, lzma.LZMAError, zipfile.BadZipFile, gzip.BadGzipFile,
-                RuntimeError, NotImplementedError) as error:
+                RuntimeError, NotImplementedError, ValueError, struct.error) as error:
             raise UserError(f"{self.path}: the archive is cut short or damaged, or locked: "
                             f"{' '.join(str(error).split())}") from None
         except OSError as error:
@@ -124,11 +134,27 @@ class Unpacked(io.RawIOBase):
 
 
 def is_workbook(path: str) -> bool:
-    """Whether a file is a workbook of the kind .xlsx."""
-    if not zipfile.is_zipfile(path):
+    """Whether a file is a workbook of the kind .xlsx. It raises UserError for one that grows beyond
+    all measure; a damaged archive is told by who unpacks it."""
+    refuse_pipe(path)
+    with open(path, "rb") as file:
+        if file.read(4) != b"PK\x03\x04":
+            return False
+    try:
+        with zipfile.ZipFile(path) as archive:
+            parts = {part.filename: part.file_size for part in archive.infolist()}
+    except (zipfile.BadZipFile, NotImplementedError, ValueError, struct.error):
         return False
-    with zipfile.ZipFile(path) as archive:
-        return "xl/workbook.xml" in archive.namelist()
+    if "xl/workbook.xml" not in parts:
+        return False
+    if sum(parts.values()) > max(LEAST_UNPACKED, MOST_TIMES * os.path.getsize(path)):
+        raise _beyond_measure(path, "workbook")
+    return True
+
+
+def _beyond_measure(path: str, what: str) -> UserError:
+    return UserError(f"{path}: the {what} unpacks to more than {MOST_TIMES} times its size: unpack "
+                     "it first, and look at it")
 
 
 def encoding_of(path: str) -> tuple[str, str]:
@@ -240,10 +266,20 @@ class Source:
         except pd.errors.EmptyDataError:
             raise UserError(f"{self.path}: there is no row") from None
 
+    @property
+    def is_read_as_text(self) -> bool:
+        """Whether its bytes do not show its lines: signs have two and more, or CR alone stands
+        behind each line."""
+        if self.encoding.startswith(("utf-16", "utf-32")):
+            return True
+        with opened(self.path) as file:
+            front = file.read(PIECE)
+        return b"\r" in front and b"\n" not in front
+
     def judge_widths(self) -> None:
         """Stops at the first row that has more or fewer cells than the header, since pandas passes
         over these."""
-        if self.encoding.startswith("utf-16"):
+        if self.is_read_as_text:
             with self.handle() as text:
                 self._judge(widths_of(text, self.separator), self.above)
             return
@@ -411,7 +447,7 @@ def gslib_of(path: str, head: str, encoding: str, told: str) -> Optional[Source]
     """A GSLIB file: a title, a number of columns, a name on each of so many lines, and then rows of
     so many numbers."""
     lines = head.splitlines()
-    count = re.match(r"\s*(\d+)(\s|$)", lines[1]) if len(lines) > 3 else None
+    count = re.match(r"\s*(\d{1,3})(\s|$)", lines[1]) if len(lines) > 3 else None
     columns = int(count[1]) if count else 0
     if not 1 <= columns <= 200 or len(lines) < columns + 3:
         return None
@@ -440,13 +476,11 @@ def text_of(path: str, resolve: Callable[[Sequence[str]], object], encoding: str
             names: Sequence[str]) -> Source:
     """Opens a text, as `sources_of` says."""
     told = encoding
-    if not encoding:
+    if encoding:
+        encoding = _judged_encoding(path, encoding)
+    else:
         encoding, told = encoding_of(path)
-    try:
-        head = head_of(path, encoding)
-    except LookupError:
-        raise UserError(f"no encoding `{encoding}`: there are utf-8, cp1252, latin-1, utf-16 and "
-                        "others") from None
+    head = head_of(path, encoding)
     if names:
         return headerless(path, resolve, head, encoding, told, separator, names)
     gslib = gslib_of(path, head, encoding, told)
@@ -471,7 +505,25 @@ def text_of(path: str, resolve: Callable[[Sequence[str]], object], encoding: str
     if len(first) > 3 and sum(map(is_number_like, first)) > len(first) / 2:
         raise UserError(f"{path}: there is no header, since line 1 has numbers: name its "
                         f"{len(first)} columns by --names X,Y,..")
-    raise UserError(f"{path}: {closest[1]}")
+    told = closest[1] or f"the first {HEAD_LINES} lines are blank"
+    raise UserError(f"{path}: {told}")
+
+
+def _judged_encoding(path: str, given: str) -> str:
+    """The name of an encoding in Python. It raises UserError where there is none of this name, or
+    the text is written in another one."""
+    try:
+        name = codecs.lookup(given).name
+        with io.TextIOWrapper(opened(path), encoding=name, newline="") as text:
+            while text.read(PIECE):
+                pass
+    except LookupError:
+        raise UserError(f"no encoding `{given}`: there are utf-8, cp1252, latin-1, utf-16 and "
+                        "others") from None
+    except UnicodeError as error:
+        raise UserError(f"{path}: it is not written in {given}: "
+                        f"{' '.join(str(error).split())[:200]}") from None
+    return name
 
 
 def _names_told(row: Sequence[str]) -> str:
@@ -483,7 +535,7 @@ def _names_told(row: Sequence[str]) -> str:
 
 def closest_separator(head: str) -> str:
     """The separator that cuts the first lines most."""
-    lines = [line for line in head.splitlines()[:20] if line.strip()]
+    lines = [line for line in head.splitlines() if line.strip()][:20]
     return max(SEPARATORS, key=lambda one: min(len(line.split() if one == " " else line.split(one))
                                                for line in lines) - (one == " "))
 

@@ -4,6 +4,7 @@ In memory a row is x, y and z in millimetres, tonnes in kilograms and the grade 
 g/t, all int64, as `pitc` holds them."""
 from __future__ import annotations
 
+import csv
 import os
 from typing import IO, Sequence
 
@@ -13,7 +14,7 @@ import pandas as pd
 from pit_tools import outputs
 from pit_tools.decimals import parts_of
 from pit_tools.errors import UserError
-from pit_tools.source import widths_of
+from pit_tools.source import refuse_pipe, widths_of
 from pit_tools.spelling import lines_of
 
 # The columns of a zone file, and how many decimals each may have.
@@ -32,11 +33,12 @@ def read_zone_file(path: str) -> pd.DataFrame:
 
     Columns are found by name, in any order and in upper or lower case; others are ignored. It
     raises UserError for a missing column or a cell that is no number, with its row, and OSError."""
+    refuse_pipe(path)
     chunks: list[pd.DataFrame] = []
     try:
         # Without a header, a row with more cells than the first is a fault and not an index.
         with pd.read_csv(path, dtype=str, header=None, keep_default_na=False, encoding="utf-8-sig",
-                         chunksize=CHUNK) as reader:
+                         chunksize=CHUNK, compression=None) as reader:
             for table in reader:
                 if not chunks:
                     at = _columns_of(table.iloc[0], path)
@@ -45,7 +47,7 @@ def read_zone_file(path: str) -> pd.DataFrame:
                 chunks.append(_numbers_of(table, at, path))
     except pd.errors.EmptyDataError:
         raise UserError(f"{path}: it is empty") from None
-    except (pd.errors.ParserError, UnicodeDecodeError) as error:
+    except (pd.errors.ParserError, UnicodeDecodeError, csv.Error) as error:
         raise UserError(f"{path}: {' '.join(str(error).split())}") from None
     return pd.concat(chunks)
 
@@ -104,6 +106,7 @@ def append_rows(file: IO[bytes], rows: pd.DataFrame) -> None:
 
 def count_lines(path: str) -> int:
     """How many lines a zone file has below its header, blank ones left out."""
+    refuse_pipe(path)
     with open(path, "rb") as file:
         return max(sum(1 for line in file if line.strip()) - 1, 0)
 

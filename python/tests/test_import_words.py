@@ -98,6 +98,8 @@ STOPS = [
     (lambda: [["X", "Y", "Z", "T", "AU", "ZONE"], ["0", "0", "0", "1", "1", "a"]], {},
      "all rows have one x: give the size"),
     (lambda: mapped(3, lambda text: "-99"), {}, "no row has tonnes: is --tonnes the right column"),
+    (lambda: mapped(3, lambda text: "0.0001"), {"merge": True},
+     "no block has half a kilogram: is --tonnes the right column"),
     (lambda: mapped(0, lambda text: f"{int(text) * 4321}"), {"size": "10,10,10"},
      "more than the 10,000 of pitc")]
 
@@ -207,6 +209,12 @@ def test_a_filter_and_a_table_of_zones_go_by_texts_and_numbers(tmp_path):
     # where it is 3 or 4.
     assert found.axes[0].first == 10_000 and found.axes[0].places == 4
     assert [len(found.zone_rows(zone)) for zone in (0, 1)] == [2 * 20 - 5, 2 * 20 - 9]
+
+
+def test_blocks_that_weigh_nothing_are_counted(tmp_path):
+    found = imported(tmp_path, with_cell(20, 3, "0.0001"), merge=True)
+    assert any("left out: 1 blocks of less than half a kilogram" in fact
+               for fact in found.report.facts)
 
 
 def test_the_command_prints_a_fault_in_one_line(tmp_path, capsys, monkeypatch):
