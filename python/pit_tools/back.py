@@ -25,6 +25,9 @@ from pit_tools.sums import sum_of
 #: The columns behind the block, by how many fields lines have.
 FIELDS = ("period", "destination", "share")
 
+#: No share of a block is greater; one above 1 is for `check-schedule` to tell.
+MOST_SHARE = 1e6
+
 #: How far, in blocks, the export's grid may lie beside the plan's: coordinates of a turned model
 #: are rounded.
 NOISE = 0.1
@@ -72,6 +75,8 @@ def read_mined(path: str, plan: Plan, blocks: int) -> Mined:
     bad = lacking | numbers.isna().any(axis=1) | (table.shape[1] > 4)
     for column, end in zip(numbers.columns, ends):
         bad |= (numbers[column] % 1 != 0) | (numbers[column] < 0) | (numbers[column] >= end)
+    for column in numbers.columns[len(ends):]:
+        bad |= ~(numbers[column].abs() <= MOST_SHARE)
     if bad.any():
         at = int(np.flatnonzero(bad)[0])
         raise UserError(f"{path}: line {table.index[at] + 1}: no line of a pit or a schedule of "

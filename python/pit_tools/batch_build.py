@@ -58,7 +58,7 @@ build_told_once = lru_cache(None)(build_told)
 def _program_told(program: str, name: str) -> str:
     try:
         version = subprocess.run([program, "--version"], capture_output=True, text=True,
-                                 check=False)
+                                 errors="replace", check=False)
     except OSError as error:
         raise UserError(f"{program} cannot be run: {error.strerror}") from None
     if version.returncode:

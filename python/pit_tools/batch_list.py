@@ -42,7 +42,7 @@ class Part:
     @classmethod
     def read(cls, text: str) -> "Part":
         """A part as it is written, `2/5`. Raises UserError where it is none."""
-        found = re.fullmatch(r"([1-9]\d*)/([1-9]\d*)", text, re.ASCII)
+        found = re.fullmatch("([1-9][0-9]{0,8})/([1-9][0-9]{0,8})", text)
         if not found or int(found[1]) > int(found[2]):
             raise UserError(f"`{text}` is no part of a list, as 2/5")
         return cls(int(found[1]), int(found[2]))

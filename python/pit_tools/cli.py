@@ -187,9 +187,18 @@ def _told(error: BaseException) -> str:
             f"{last.lineno}). Please report it with the command line; --debug tells more")
 
 
+#: Options that may say nothing, and commands whose words are for another program.
+MAY_BE_EMPTY, HANDED_ON = ("--missing", "--title", "--options"), ("python", "compile")
+
+
 def _judge_words(words: Sequence[str]) -> None:
-    """Refuses names that are no text, since they can stand in no file that is written."""
-    for word in words:
+    """Refuses names that are no text, since they can stand in no file that is written; and words
+    that are empty, as where a variable of the shell is not set: `--out ''` would write nothing."""
+    for before, word in zip(["pit-tools", *words], words):
+        option = word[:-1] if re.fullmatch("--[A-Za-z-]+=", word) else None if word else before
+        if option not in (None, *MAY_BE_EMPTY) and words[0] not in HANDED_ON:
+            raise UserError(f"an empty word stands behind {option}: is a variable of the shell not "
+                            "set?")
         try:
             word.encode("utf-8")
         except UnicodeEncodeError:

@@ -7,10 +7,12 @@ from __future__ import annotations
 
 import os
 from dataclasses import dataclass
+from math import prod
 from typing import Iterator, Optional
 
 from pit_tools import outputs
 from pit_tools.errors import UserError
+from pit_tools.formats import MOST_BLOCKS, MOST_HEIGHT, NAME, WHAT_A_NAME_IS
 
 SHAPES = ("lens", "pipe", "vein")
 
@@ -88,7 +90,7 @@ class Deposit:
     a million, moves the ore and draws its width and grade, and with none the deposit is always the
     same.
 
-    Raises UserError where a shape, a seed or a size is none."""
+    Raises UserError where a name, a shape, a seed or a size is none."""
 
     name: str = "deposit"
     seed: Optional[int] = None
@@ -102,6 +104,11 @@ class Deposit:
             raise UserError(f"a seed is a whole number from 1 to {MOST_SEED}")
         if len(self.size) != 3 or min(self.size) < 1:
             raise UserError("a size is three numbers of blocks, as 24,18,12")
+        if max(self.size) > MOST_HEIGHT or prod(self.size) > MOST_BLOCKS:
+            raise UserError(f"a size is up to {MOST_HEIGHT:,} blocks along an axis, and "
+                            f"{MOST_BLOCKS:,} in all")
+        if not NAME.fullmatch(self.name):
+            raise UserError(f"no name `{self.name[:80]}`: it has {WHAT_A_NAME_IS}")
 
     def _share_of(self, tonnes: int) -> int:
         """The most tonnes of a resource, by how many blocks there are."""

@@ -12,6 +12,7 @@ import numpy as np
 from scipy import sparse
 
 from pit_tools import outputs, spelling
+from pit_tools.decimals import whole_of
 from pit_tools.errors import UserError
 from pit_tools.instance import Blocks, Instance, Problem, Uses
 
@@ -49,7 +50,7 @@ def read_identifiers(path: str) -> Identifiers:
     try:
         with open(path, encoding="ascii") as file:
             fields = np.array([line.split() for line in file], dtype=np.int64).reshape(-1, 2)
-    except ValueError:
+    except (ValueError, OverflowError):
         raise UserError(f"{path}: a line is no block with its published identifier") from None
     blocks, published = fields.T
     ids = np.sort(published)
@@ -71,9 +72,10 @@ def lines_renamed(path: str, identifiers: Identifiers, to_published: bool) -> It
             fields = line.split()
             if not fields:
                 continue
-            if not fields[0].isdecimal() or not 0 <= int(fields[0]) - first < len(names):
-                raise UserError(f"{path}: line {number}: `{fields[0]}` is no block")
-            yield " ".join([str(names[int(fields[0]) - first]), *fields[1:]]) + "\n"
+            block = whole_of(fields[0])
+            if block is None or not 0 <= block - first < len(names):
+                raise UserError(f"{path}: line {number}: `{fields[0][:60]}` is no block")
+            yield " ".join([str(names[block - first]), *fields[1:]]) + "\n"
 
 
 def order_of(precedence: sparse.csr_matrix) -> Optional[np.ndarray]:

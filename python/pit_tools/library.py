@@ -80,7 +80,22 @@ def table_of(folder: str, name: str) -> pd.DataFrame:
         raise UserError(f"{folder}: no library, since it has no {name}: `library --write` makes "
                         "one")
     with outputs.looking():
-        return pd.read_csv(path, sep=SEPARATORS[name], dtype=str)
+        return _table(path, name)
+
+
+def _table(path: str, name: str) -> pd.DataFrame:
+    """TABLE or FOUND of a path. Raises UserError where it is none."""
+    columns = {"TABLE": COLUMNS, "FOUND": FOUND_COLUMNS}[name]
+    try:
+        table = pd.read_csv(path, sep=SEPARATORS[name], dtype=str, keep_default_na=False)
+        if tuple(table.columns) != columns:
+            raise ValueError(f"its columns are {', '.join(map(str, table.columns))[:200]}")
+        if name == "TABLE":
+            table[list(COLUMNS[6:])].astype(float)
+    except ValueError as error:
+        raise UserError(f"{path}: it is no {name} of a library: "
+                        f"{' '.join(str(error).split())}") from None
+    return table
 
 
 def known(name: str, folder: str = "") -> Known:
@@ -89,10 +104,11 @@ def known(name: str, folder: str = "") -> Known:
     rows = table[table["name"] == name]
     if len(rows) != 1:
         raise UserError(f"the library has no `{name}`: it has {', '.join(table['name'])}")
-    sums = pd.read_csv(os.path.join(folder or FOLDER, "SUMS"), sep=r"\s+", header=None,
-                       names=["sum", "file"], dtype=str)
-    mine = sums[sums["file"].str.rpartition(".")[0] == name]
-    return Known(rows.iloc[0].to_dict(), dict(zip(mine["file"], mine["sum"])))
+    with open(os.path.join(folder or FOLDER, "SUMS"), encoding="utf-8", errors="replace") as file:
+        sums = [line.split() for line in file]
+    mine = {file: found for found, file in (line for line in sums if len(line) == 2)
+            if file.rpartition(".")[0] == name}
+    return Known(rows.iloc[0].to_dict(), mine)
 
 
 def schedule_path(name: str, kind: str, folder: str = "") -> str:

@@ -16,6 +16,7 @@ from matplotlib.patches import Patch
 from pit_tools import progress
 from pit_tools import walls as wall
 from pit_tools.errors import UserError
+from pit_tools.formats import MOST_HEIGHT
 from pit_tools.look_at import tonnes_covered
 from pit_tools.spelling import shortest
 from pit_tools.survey_facts import Facts
@@ -207,7 +208,8 @@ def plane_at(facts: Facts, normal: str, metres: float) -> Plane:
     """The plane of blocks nearest to a coordinate. It raises UserError where no block lies
     there."""
     number = PLANES[normal][0]
-    index = round((metres - facts.origin[number]) / facts.metres[number])
+    away = (metres - facts.origin[number]) / facts.metres[number]
+    index = round(away) if abs(away) < MOST_HEIGHT else -1
     if not (facts.indices(number) == index).any():
         first, last = (facts.centroid(number, end)
                        for end in (facts.axes[number].least, facts.axes[number].most))

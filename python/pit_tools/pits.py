@@ -6,6 +6,7 @@ from typing import Optional
 import numpy as np
 
 from pit_tools import outputs
+from pit_tools.decimals import whole_of
 from pit_tools.errors import UserError
 from pit_tools.instance import Blocks, cents
 from pit_tools.plan_note import PlanNote
@@ -22,9 +23,10 @@ def read_pit(path: str, blocks: Optional[int] = None) -> np.ndarray:
             fields = line.split()
             if not fields:
                 continue
-            if not fields[0].isdigit() or (blocks is not None and int(fields[0]) >= blocks):
-                raise UserError(f"{path}: line {number}: `{fields[0]}` is no block")
-            found.append(int(fields[0]))
+            block = whole_of(fields[0])
+            if block is None or (blocks is not None and block >= blocks):
+                raise UserError(f"{path}: line {number}: `{fields[0][:60]}` is no block")
+            found.append(block)
     taken = np.unique(np.array(found, dtype=np.int64))
     if len(taken) != len(found):
         raise UserError(f"{path}: a block stands twice")
@@ -32,7 +34,10 @@ def read_pit(path: str, blocks: Optional[int] = None) -> np.ndarray:
 
 
 def write_pit(in_pit: np.ndarray, path: str) -> None:
-    """Writes the identifiers of the blocks that are in the pit, bool (n,)."""
+    """Writes the identifiers of the blocks that are in the pit, bool (n,), one a line.
+
+    Raises OSError, with the name, where the file cannot be written.
+    """
     with outputs.opened(path, "pit") as file:
         np.savetxt(file, np.flatnonzero(in_pit), fmt="%d")
 

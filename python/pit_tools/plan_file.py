@@ -4,20 +4,19 @@
 from __future__ import annotations
 
 import csv
-import re
 from dataclasses import dataclass, field
 from decimal import Decimal
 from typing import Iterable, Optional, Sequence, Tuple
 
 from pit_tools.decimals import decimal_of, plain
 from pit_tools.errors import UserError
+from pit_tools.formats import (MOST_HEIGHT, MOST_PERIODS, MOST_PLAN_BYTES, NAME,
+                               WHAT_A_NAME_IS)
 
 KEYS = ("name", "grid", "zone", "mill", "leach", "dump", "periods", "rate", "resource", "limit")
 
 # The sides of a zone's slopes, in their order in a `zone` record.
 SIDES = ("+x", "-x", "+y", "-y")
-
-NAME = re.compile(r"[A-Za-z0-9_.-]{1,64}")
 
 
 @dataclass(frozen=True)
@@ -203,6 +202,12 @@ class _Reader:
             raise self.fault(f"`{self.cells[at]}` is no whole number")
         return int(value)
 
+    def name(self) -> str:
+        """The name in cell 1."""
+        if not NAME.fullmatch(self.cells[1]):
+            raise self.fault(f"`{self.cells[1][:60]}` is no name: it has {WHAT_A_NAME_IS}")
+        return self.cells[1]
+
     def take(self, record: list[str]) -> None:
         """Takes a record; the empty ones of spreadsheets are skipped."""
         self.row += 1
@@ -225,12 +230,12 @@ class _Reader:
         self.once[self.key] = values
 
     def take_name(self) -> None:
-        self.state([self.cells[1]])
+        self.state([self.name()])
 
     def take_grid(self) -> None:
         numbers = [self.number(at) for at in range(1, 7)]
-        if min(numbers[3:]) <= 0:
-            raise self.fault("a size of the grid is not above 0")
+        if min(numbers[3:]) < Decimal("0.001"):
+            raise self.fault("a size of the grid is below 0.001")
         self.state(numbers)
 
     def take_zone(self) -> None:
@@ -240,13 +245,15 @@ class _Reader:
         numbers = [self.whole(at) for at in range(1, len(self.cells))]
         if min(numbers) < 1:
             raise self.fault("a rise, a run and K are at least 1")
+        if numbers[-1] > MOST_HEIGHT:
+            raise self.fault(f"K is {numbers[-1]}, and no mine has more than {MOST_HEIGHT:,} benches")
         pairs = [Slope(*numbers[at:at + 2]) for at in range(0, len(numbers) - 1, 2)]
         four = pairs * 4 if len(pairs) == 1 else pairs
         self.zones.append(Zone((four[0], four[1], four[2], four[3]), numbers[-1]))
 
     def take_mill(self) -> None:
         bands = ((Decimal(0), self.whole(2)),)
-        self.destinations.append(Destination("mill", self.cells[1], self.whole(3), self.whole(4),
+        self.destinations.append(Destination("mill", self.name(), self.whole(3), self.whole(4),
                                              bands))
 
     def take_leach(self) -> None:
@@ -254,13 +261,15 @@ class _Reader:
             raise self.fault("a leach has a name, a price, a cost, and pairs of a start and a "
                              "recovery")
         bands = tuple((self.number(at), self.whole(at + 1)) for at in range(4, len(self.cells), 2))
-        self.destinations.append(Destination("leach", self.cells[1], self.whole(2), self.whole(3),
+        self.destinations.append(Destination("leach", self.name(), self.whole(2), self.whole(3),
                                              bands))
 
     def take_dump(self) -> None:
-        self.destinations.append(Destination("dump", self.cells[1], 0, self.whole(2)))
+        self.destinations.append(Destination("dump", self.name(), 0, self.whole(2)))
 
     def take_periods(self) -> None:
+        if not 1 <= self.whole(1) <= MOST_PERIODS:
+            raise self.fault(f"a plan has 1 to {MOST_PERIODS} periods")
         self.state([self.whole(1)])
 
     def take_rate(self) -> None:
@@ -274,7 +283,7 @@ class _Reader:
 
     def take_resource(self) -> None:
         covers = tuple(self.place_of(name, self.destinations) for name in self.cells[2:])
-        self.resources.append(Resource(self.cells[1], covers))
+        self.resources.append(Resource(self.name(), covers))
 
     def take_limit(self) -> None:
         """Takes a record `limit`."""
@@ -300,30 +309,45 @@ class _Reader:
             tuple(self.resources), tuple(self.limits))
 
 
+def read_text(path: str) -> str:
+    """The text of a plan. It raises UserError where it is longer than any plan, OSError for a file
+    that cannot be read."""
+    with open(path, "rb") as file:
+        content = file.read(MOST_PLAN_BYTES + 1)
+    if len(content) > MOST_PLAN_BYTES:
+        raise UserError(f"{path}: it has more than {MOST_PLAN_BYTES:,} bytes, and so it is no plan")
+    return content.decode("utf-8", "replace").lstrip("\ufeff")
+
+
+def _taken(text: str, source: str) -> _Reader:
+    """The records of a text, taken one after the other."""
+    reader = _Reader(source)
+    try:
+        for record in csv.reader(text.lstrip("\ufeff").splitlines()):
+            if record:
+                reader.take(record)
+    except csv.Error as error:
+        raise UserError(f"{source}: behind record {reader.row}: {error}") from None
+    return reader
+
+
 def plan_of(text: str, source: str = "plan") -> Plan:
     """The plan that a text states. It raises UserError, which names the record."""
-    reader = _Reader(source)
-    for record in csv.reader(text.lstrip("\ufeff").splitlines()):
-        if record:
-            reader.take(record)
-    return reader.plan()
+    return _taken(text, source).plan()
 
 
 def read_plan(path: str) -> Plan:
-    """The plan of a file. It raises UserError for a plan that it does not understand, OSError for a
-    file that cannot be read."""
-    with open(path, encoding="utf-8", errors="replace", newline="") as file:
-        return plan_of(file.read(), path)
+    """The plan of a file; lengths in metres, money in cents, tonnes and g/t, all exact.
+
+    It raises UserError for a plan that it does not understand, OSError for a file that cannot be
+    read."""
+    return plan_of(read_text(path), path)
 
 
 def grid_and_zones(path: str) -> tuple[Grid, tuple[Zone, ...]]:
     """The `grid` and the `zone` records of a text that may have no others, as what `import` prints.
     It raises UserError where there is no grid or no zone."""
-    reader = _Reader(path)
-    with open(path, encoding="utf-8", errors="replace", newline="") as file:
-        for record in csv.reader(file.read().lstrip("\ufeff").splitlines()):
-            if record:
-                reader.take(record)
+    reader = _taken(read_text(path), path)
     if "grid" not in reader.once or not reader.zones:
         raise UserError(f"{path}: the plan has no `grid` or no `zone`")
     return Grid.of(reader.once["grid"]), tuple(reader.zones)

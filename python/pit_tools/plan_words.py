@@ -12,7 +12,8 @@ from typing import Callable, Optional, Sequence
 from pit_tools.contacts import Contacts
 from pit_tools.decimals import decimal_of, plain
 from pit_tools.errors import UserError
-from pit_tools.plan_file import (NAME, Destination, FourSlopes, Grid, Limit, Plan, Resource, Zone,
+from pit_tools.formats import NAME, WHAT_A_NAME_IS
+from pit_tools.plan_file import (Destination, FourSlopes, Grid, Limit, Plan, Resource, Zone,
                                  destination_record, zone_record)
 from pit_tools.slope_words import K_for, degrees_of, judge, slope_of, slopes_of
 from pit_tools.units import (GRADES, POUND, SHORT_TON, TROY_OUNCE, Measures, factor_of,
@@ -31,7 +32,7 @@ PERIODS = {"year": 1, "half-year": 2, "quarter": 4, "month": 12}
 # What a period may be limited to, by the unit of a tonnage, whose case counts: Mt are millions.
 TONNAGES = {"t": 1, "kt": 1000, "Mt": 1_000_000}
 
-MOST_PRICE, MOST_COST = 10 ** 8, 10 ** 7
+MOST_PRICE, MOST_COST, MOST_TONNES = 10 ** 8, 10 ** 7, 10 ** 12
 
 
 @dataclass
@@ -69,7 +70,13 @@ def amount_of(text: str, what: str) -> Amount:
     found = re.fullmatch(rf"\s*({NUMBER})\s*(\S*)\s*", text)
     if not found:
         raise UserError(f"{what}: `{text.strip()}` is no number with a unit, as 16.50 USD/t")
+    if "," in found[1] and not re.fullmatch(r"[-+]?\d{1,3}(,\d{3})+(\.\d+)?", found[1]):
+        raise _decimal_comma(found[1])
     return Amount(decimal_of(found[1].replace(",", ""), what), found[2])
+
+
+def _decimal_comma(number: str) -> UserError:
+    return UserError(f"`{number}`: numbers have a decimal point, and a blank stands behind a comma")
 
 
 def share_of(text: str, what: str) -> Decimal:
@@ -80,6 +87,14 @@ def share_of(text: str, what: str) -> Decimal:
     if not 0 <= amount.value <= 100:
         raise UserError(f"{what}: {plain(amount.value)} % is not from 0 to 100 %")
     return amount.value * 10
+
+
+def _per_mille(text: str, what: str) -> int:
+    """A recovery, in per mille, which are whole in a plan."""
+    share = share_of(text, what)
+    if share != share.to_integral_value():
+        raise UserError(f"{what}: a recovery has one decimal, as 92.5 %")
+    return int(share)
 
 
 def _money_by(text: str, units: dict[str, Decimal], what: str, like: str, purse: Purse) -> Decimal:
@@ -136,10 +151,10 @@ def price_of(text: str, parts: int, purse: Purse) -> Price:
             raise UserError(f"--price: `{part}`: there are payable, royalty and selling")
         said += f", {part}"
     cents = net * 100 * parts
-    whole = int(cents.quantize(Decimal(1), rounding=ROUND_HALF_UP))
+    whole = _nearest(cents)
     if not 0 < whole <= MOST_PRICE:
-        raise UserError(f"--price: {said} is {plain(round(cents, 2))} cents a kilogram, and a plan "
-                        f"takes 1 to {MOST_PRICE:,}")
+        raise UserError(f"--price: {said} is {_shown(cents)} cents a kilogram, and a plan takes 1 "
+                        f"to {MOST_PRICE:,}")
     if abs(whole - cents) > cents / 1000:
         raise UserError(f"--price: {said} is {plain(round(cents, 3))} cents a kilogram, and a plan "
                         "takes whole ones: count all money in parts of a cent by --parts 100")
@@ -147,14 +162,26 @@ def price_of(text: str, parts: int, purse: Purse) -> Price:
     return Price(whole, f"{said} is {whole:,} {unit} a kilogram of metal")
 
 
+def _nearest(cents: Decimal) -> int:
+    """The nearest whole number; one that no plan takes for what is greater than any."""
+    if abs(cents) > 10 * MOST_PRICE:
+        return 10 * MOST_PRICE if cents > 0 else -1
+    return int(cents.quantize(Decimal(1), rounding=ROUND_HALF_UP))
+
+
+def _shown(cents: Decimal) -> str:
+    """Cents as they are told, to hundredths."""
+    return plain(round(cents, 2)) if abs(cents) < 10 ** 20 else f"{cents:.6g}"
+
+
 def cost_of(text: str, mining: Decimal, parts: int, what: str, purse: Purse) -> tuple[int, str]:
     """A cost for a tonne of rock, in parts of a cent, with that of mining, in units of money, and
     how it comes."""
     cost = _money_by(text, ROCKS, what, "16.50 USD/t", purse)
     cents = (cost + mining) * 100 * parts
-    whole = int(cents.quantize(Decimal(1), rounding=ROUND_HALF_UP))
+    whole = _nearest(cents)
     if not 0 <= whole <= MOST_COST:
-        raise UserError(f"{what}: {plain(cents)} cents a tonne, and a plan takes 0 to "
+        raise UserError(f"{what}: {_shown(cents)} cents a tonne, and a plan takes 0 to "
                         f"{MOST_COST:,}")
     with_mining = f" and {plain(round(mining, 4))} of mining" if mining else ""
     unit = "cents" if parts == 1 else f"x 1/{parts} cents"
@@ -166,8 +193,7 @@ def _parts(text: str) -> list[str]:
     decimal comma."""
     comma = re.search(r"\d+,\d{1,2}(?!\d)", text)
     if comma:
-        raise UserError(f"`{comma[0]}`: numbers have a decimal point, and a blank stands behind a "
-                        "comma")
+        raise _decimal_comma(comma[0])
     return [part.strip() for part in re.split(r",(?!\d{3}(?!\d))", text) if part.strip()]
 
 
@@ -177,7 +203,7 @@ def _named(text: str, kind: str) -> tuple[str, list[str]]:
     if not colon:
         name, rest = kind, text
     if not NAME.fullmatch(name.strip()):
-        raise UserError(f"`{name.strip()}` is no name: it has letters, digits, `_`, `-` and `.`")
+        raise UserError(f"`{name.strip()}` is no name: it has {WHAT_A_NAME_IS}")
     return name.strip(), _parts(rest)
 
 
@@ -218,7 +244,7 @@ def plan_from(words: Spoken, grid: Grid, zones: Sequence[str], benches: int,
     understand or that is out of the range of a plan."""
     told = Told()
     if not NAME.fullmatch(words.name):
-        raise UserError(f"--name: `{words.name}` has letters, digits, `_`, `-` and `.` alone")
+        raise UserError(f"--name: `{words.name}` is no name: it has {WHAT_A_NAME_IS}")
     told.lines.append((f"name,{words.name}", "the name of the instance"))
     cells = ",".join(plain(value) for value in (*grid.origin, *grid.size))
     told.lines.append((f"grid,{cells}",
@@ -321,6 +347,9 @@ class _Destinations:
                                 self.purse) if words.mining else Decimal(0)
         if words.is_return and words.price:
             raise UserError("--price: the grade is a net smelter return, which has its price in it")
+        if words.is_return and 100_000 * words.parts > MOST_PRICE:
+            raise UserError(f"--parts: a return is counted in 1/{MOST_PRICE // 100_000:,} cents at "
+                            "the finest")
         if not words.is_return and not words.price and (words.mill or words.leach):
             raise UserError("--price: what does metal bring? As --price '1804 USD/oz'")
         self.price = (Price(100_000 * words.parts, "a return of 1 a tonne brings 1")
@@ -363,14 +392,12 @@ class _Destinations:
         """A mill by its words. It raises UserError where they are none of one."""
         name, parts = _named(text, "mill")
         recovery, cost = self._word(parts, "recovery"), self._word(parts, "cost")
-        share = (Decimal(1000) if self.words.is_return and not recovery
-                 else share_of(recovery or "", f"--mill: {name}: recovery"))
-        if share != share.to_integral_value():
-            raise UserError(f"--mill: {name}: a recovery has one decimal, as 92.5 %")
+        share = (1000 if self.words.is_return and not recovery
+                 else _per_mille(recovery or "", f"--mill: {name}: recovery"))
         cents, said = cost_of(cost or "", self.mining, self.words.parts, f"--mill: {name}: cost",
                               self.purse)
-        one = Destination("mill", name, self.price.value, cents, ((Decimal(0), int(share)),))
-        return self.say(one, f"recovers {plain(share / 10)} %", self.price.said, said,
+        one = Destination("mill", name, self.price.value, cents, ((Decimal(0), share),))
+        return self.say(one, f"recovers {share / 10:g} %", self.price.said, said,
                         self._break_even(one))
 
     def leach(self, text: str) -> Destination:
@@ -387,8 +414,9 @@ class _Destinations:
             if not found or factor is None:
                 raise UserError(f"--leach: {name}: `{part}`: a band is as 30 % from 0.2 g/t; units "
                                 f"are {', '.join(GRADES)}")
-            share = share_of(found[1], f"--leach: {name}")
-            bands.append((decimal_of(found[2], name) * factor, int(share)))
+            share = _per_mille(found[1], f"--leach: {name}")
+            start = amount_of(found[2], f"--leach: {name}").value * factor
+            bands.append((round(start, 6), share))
         if not bands or bands != sorted(bands) or len({start for start, _ in bands}) < len(bands):
             raise UserError(f"--leach: {name}: bands rise, as 30 % from 0.2 g/t, 48 % from 0.6 g/t")
         cents, said = cost_of(cost or "", self.mining, self.words.parts, f"--leach: {name}: cost",
@@ -413,7 +441,7 @@ class _Destinations:
 
 def _periods(text: str, told: Told) -> tuple[int, int]:
     """How many periods there are, and how many make a year."""
-    found = re.fullmatch(r"\s*(\d+)\s*([a-z-]*?)s?\s*", text)
+    found = re.fullmatch(r"\s*(\d{1,9})\s*([a-z-]*?)s?\s*", text)
     unit = found[2] if found and found[2] else "year"
     if not found or unit not in PERIODS or not 1 <= int(found[1]) <= 100:
         raise UserError(f"--periods: `{text}`: give 1 to 100, as 12 years; known are "
@@ -426,14 +454,15 @@ def _periods(text: str, told: Told) -> tuple[int, int]:
 def _rate(text: str, in_year: int, told: Told) -> Decimal:
     """The discount rate of a period, of one a year."""
     found = re.fullmatch(rf"\s*({NUMBER})\s*%\s*(?:a\s+(year|period))?\s*", text)
-    if not found or not 0 <= Decimal(found[1]) <= 100:
+    if not found or not 0 <= (percent := amount_of(found[1], "--rate").value) <= 100:
         raise UserError(f"--rate: `{text}`: give percent a year, as 8 %")
-    yearly = decimal_of(found[1], "--rate") / 100
-    rate = yearly
+    yearly = rate = percent / 100
     said = f"{found[1]} % a {found[2] or 'year'}"
     if in_year > 1 and found[2] != "period":
         rate = Decimal(str(round((1 + float(yearly)) ** (1 / in_year) - 1, 6)))
         said += f", which is {plain(rate * 100)} % a period"
+    if round(rate, 6) != rate:
+        raise UserError(f"--rate: `{text}`: percent have 4 decimals at the most")
     told.lines.append((f"rate,{plain(rate)}", said))
     return rate
 
@@ -478,7 +507,8 @@ def _limits(texts: Sequence[str], destinations: Sequence[Destination], periods: 
 def _limit(parts: Sequence[str], name: str, resource: int, periods: int,
            in_year: int) -> list[Limit]:
     """The limits of one word, for all periods or for those that it names."""
-    spans = [re.fullmatch(r"periods?\s+(\d+)(?:\s*(?:to|-)\s*(\d+))?", part) for part in parts]
+    spans = [re.fullmatch(r"periods?\s+(\d{1,9})(?:\s*(?:to|-)\s*(\d{1,9}))?", part)
+             for part in parts]
     span = next((one for one in spans if one), None)
     rest = [part for part, one in zip(parts, spans) if not one]
     if len(rest) != 1:
@@ -518,7 +548,10 @@ def _tonnage(text: str, name: str, divide: int) -> Decimal:
     if amount.unit not in TONNAGES:
         raise UserError(f"--limit: {name}: `{text.strip()}`: the unit is t, kt or Mt (millions of "
                         "tonnes)")
-    return round(amount.value * TONNAGES[amount.unit] / divide, 6)
+    tonnes = amount.value * TONNAGES[amount.unit] / divide
+    if not 0 <= tonnes <= MOST_TONNES:
+        raise UserError(f"--limit: {name}: `{text.strip()}`: a plan takes 0 to {MOST_TONNES:,} t")
+    return round(tonnes, 6)
 
 
 def _say_limit(name: str, limits: Sequence[Limit], told: Told) -> None:

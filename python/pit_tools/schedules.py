@@ -85,7 +85,7 @@ class Schedule:
 
 
 def read_schedule(path: str, problem: Problem) -> Schedule:
-    """A schedule's file for a problem.
+    """A schedule's file for a problem: lines (m,), shares from 0 to 1 of a block.
 
     Raises UserError, with the line, where a line has other fields or names no block, period or
     destination.
@@ -121,7 +121,11 @@ def _refuse(path: str, lines: np.ndarray, bad: np.ndarray, table: pd.DataFrame, 
 
 
 def write_schedule(schedule: Schedule, path: str, is_pcpsp: bool) -> None:
-    """Writes a schedule; a share stands where it is not 1."""
+    """Writes a schedule, a line for each of its own; a share stands where it is not 1, and
+    destinations where the problem is a PCPSP.
+
+    Raises OSError, with the name, where the file cannot be written.
+    """
     with outputs.opened(path, "schedule", "ascii") as file:
         for block, period, destination, share in zip(schedule.block, schedule.period,
                                                      schedule.destination, schedule.share):
@@ -151,8 +155,12 @@ class Check:
 
 def check(schedule: Schedule, problem: Problem, precedence: sparse.csr_matrix,
           relaxed: bool = False) -> Check:
-    """Whether a schedule holds. In a CPIT and a PCPSP a block is mined in one period, in a PCPSP at
-    one or more destinations; `relaxed` lets it be split over periods, as in the relaxations."""
+    """Whether a schedule holds, of a problem and all its arcs (n, n); its worth is in units of 100
+    cents, discounted. In a CPIT and a PCPSP a block is mined in one period, in a PCPSP at one or
+    more destinations; `relaxed` lets it be split over periods, as in the relaxations.
+
+    Raises UserError where there are more blocks and periods than it can hold.
+    """
     uses, over = _limits(schedule, problem)
     broken = [*_shares(schedule, problem, relaxed), *_order(schedule, problem, precedence), *over]
     return Check(float(schedule.share.sum()), schedule.worth(problem), uses, broken)
@@ -213,7 +221,7 @@ def _limits(schedule: Schedule, problem: Problem) -> tuple[list[str], list[str]]
 
 # What solvers answer
 
-_VARIABLE = re.compile(r"([wxy])(\d+)(?:_(\d+))?(?:_(\d+))?$")
+_VARIABLE = re.compile(r"([wxy])([0-9]{1,9})(?:_([0-9]{1,9}))?(?:_([0-9]{1,9}))?$")
 
 
 def read_variables(path: str) -> dict[tuple, float]:

@@ -67,7 +67,7 @@ def slopes_of(text: str) -> FourSlopes:
 
 
 def _one_slope(text: str) -> Slope:
-    ratio = re.fullmatch(r"(\d+)\s*:\s*(\d+)", text)
+    ratio = re.fullmatch(r"(\d{1,9})\s*:\s*(\d{1,9})", text)
     if ratio:
         slope = Slope(int(ratio[1]), int(ratio[2]))
         if not (1 <= slope.rise <= 1000 and 1 <= slope.run <= 1000):

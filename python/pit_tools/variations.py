@@ -8,12 +8,17 @@ from dataclasses import dataclass
 from typing import Iterator, Sequence
 
 from pit_tools.errors import UserError
+from pit_tools.formats import NAME
 
 #: Cells of a record by name, counted from 0 with the key; -1 is the last one.
 CELLS = {"name": {"name": 1},
          "grid": {"x": 1, "y": 2, "z": 3, "size-x": 4, "size-y": 5, "size-z": 6}, "zone": {"K": -1},
          "mill": {"recovery": 2, "price": 3, "cost": 4}, "leach": {"price": 2, "cost": 3},
          "dump": {"cost": 2}, "periods": {"periods": 1}, "rate": {"rate": 1}}
+
+
+#: A number that is as great or greater is in no plan.
+MOST = 1e15
 
 
 @dataclass(frozen=True)
@@ -51,7 +56,10 @@ def varied(text: str, name: str, settings: Sequence[tuple[str, str]]) -> str:
         if record and record[0].lower() == "name":
             record[1:] = [name]
     for cell, value in settings:
-        changed = [_set(record, at, cell, value) for at, record in _numbered(records)]
+        try:
+            changed = [_set(record, at, cell, value) for at, record in _numbered(records)]
+        except IndexError:
+            raise UserError(f"a record that may have the cell `{cell}` is too short") from None
         if not any(changed):
             raise UserError(f"no record of the plan has the cell `{cell}`")
     return "".join(",".join(record) + "\n" for record in records)
@@ -101,6 +109,8 @@ def _value(old: str, value: str) -> str:
         return value
     try:
         found = float(old) * float(value[1:])
+        if not abs(found) < MOST:
+            raise ValueError
     except ValueError:
         raise UserError(f"`{value}`: `{old}` cannot be multiplied so") from None
     return f"{found:.6f}".rstrip("0").rstrip(".") if "." in old else str(round(found))
@@ -116,7 +126,7 @@ def variations(text: str, base: str, changes: Sequence[Change]) -> Iterator[tupl
         settings = [(change.cell, value) for change, value in zip(changes, values)]
         name = base + "".join(f"-{cell.rpartition('.')[2] if cell.count('.') > 1 else cell}{value}"
                               for cell, value in settings)
-        name = "".join(letter if letter.isalnum() or letter in "_.-" else "_" for letter in name)
+        name = "".join(letter if NAME.fullmatch(letter) else "_" for letter in name)
         if len(name) > 64 or name in seen:
             raise UserError(f"the name `{name}` "
                             f"{'comes twice' if name in seen else 'is longer than 64 letters'}: "

@@ -50,7 +50,10 @@ def test_a_plan_is_read_with_its_units_and_written_as_it_was():
     (("mill,mill,920", "mill,mill,0.92"), "record 5: `0.92` is no whole number"),
     (("resource,fleet,mill", "resource,fleet,plant"), "`plant` stands in no earlier record"),
     (("name,pit", "x,y,z"), "record 1: `x` is no key of a plan"),
-    (("20,20,10", "20,0,10"), "a size of the grid is not above 0"),
+    (("20,20,10", "20,0,10"), "a size of the grid is below 0.001"),
+    (("zone,1,1,9", "zone,1,1,99999"), "record 3: K is 99999"),
+    (("dump ,180", "dump ,1e18"), "`1e18` is too great or too small a number"),
+    (("mill,mill", "mill,a mill"), "record 5: `a mill` is no name"),
     (("name,pit", "name,pit\nname,pit"), "record 2: `name` stands twice"),
 ])
 def test_a_plan_that_cannot_be_understood_names_its_record(edit, told):

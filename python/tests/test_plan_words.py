@@ -125,6 +125,19 @@ def test_sectors_of_azimuth_become_the_sides_that_lie_in_them():
      "--mill: mill: cost is in USD, and --price in AUD: a plan has one currency"),
     ({"price": "1804 USD/oz, selling 45 AUD/oz"}, "--price: selling is in AUD, and --price in USD"),
     ({"mining": "2 EUR/t"}, "--price is in USD, and --mining in EUR"),
+    ({"mining": "1,80 USD/t"}, "`1,80`: numbers have a decimal point"),
+    ({"rate": "8,5 %"}, "`8,5`: numbers have a decimal point"),
+    ({"rate": "8.12345 % a period"}, "percent have 4 decimals at the most"),
+    ({"price": "9" * 40 + " USD/oz"}, "is too great or too small a number"),
+    ({"price": "9" * 14 + " USD/oz"}, "and a plan takes 1 to 100,000,000"),
+    ({"mining": "9" * 14 + " USD/t"}, "and a plan takes 0 to 10,000,000"),
+    ({"leach": ["heap: cost 6 USD/t, 30.55 % from 0.2 g/t"]}, "a recovery has one decimal"),
+    ({"limit": ["crusher: mill, at least -1 Mt"]}, "a plan takes 0 to 1,000,000,000,000 t"),
+    ({"limit": ["crusher: mill, at most 2000000 Mt"]}, "a plan takes 0 to"),
+    ({"periods": "9" * 5000}, "give 1 to 100"),
+    ({"slope": ["9" * 5000 + ":1"]}, "give"),
+    ({"price": "", "grade_unit": "USD/t", "mill": ["cost 12 USD/t"], "leach": [], "parts": 10_000},
+     "--parts: a return is counted in 1/1,000 cents at the finest"),
     ({"price": "", "grade_unit": "AUD/t", "mill": ["cost 12 USD/t"], "leach": []},
      "--mill: mill: cost is in USD, and the grade in AUD")])
 def test_words_that_cannot_be_right_are_named(changed, told):
@@ -145,6 +158,11 @@ def test_what_may_be_wrong_is_told(changed, told):
     assert any(told in doubt for doubt in explained.doubts)
     _, sound = plan_from(Spoken(**{**WORDS, "K": None}), GRID, ["oxide", "west"], 12)
     assert not sound.doubts
+
+
+def test_a_band_in_ounces_begins_at_a_grade_that_a_plan_takes():
+    text = plan_text(leach=["heap: cost 6 USD/t, 30 % from 0.01 oz/st"])
+    assert "leach,heap,5799995,600,0.342857,300\n" in text
 
 
 def test_what_is_taken_without_a_word_is_a_note():

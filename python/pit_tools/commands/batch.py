@@ -4,6 +4,8 @@ from __future__ import annotations
 import argparse
 from typing import TYPE_CHECKING
 
+from pit_tools.commands import from_zero
+
 if TYPE_CHECKING:
     from pit_tools.batch_engines import Engine
 
@@ -55,7 +57,7 @@ def add_arguments(parser: argparse.ArgumentParser) -> None:
                         help="the program, where it is not in the PATH")
     parser.add_argument("--thin", metavar="PROGRAM",
                         help="pitc_thin, which writes NAME.thin too; the pit is found by it")
-    parser.add_argument("--relax", type=float, metavar="SECONDS",
+    parser.add_argument("--relax", type=from_zero, metavar="SECONDS",
                         help="for each relaxation at most; without it there are none")
     parser.add_argument("--continue", dest="goes_on", action="store_true",
                         help="keeps instances that are whole, by their sums")
@@ -98,10 +100,16 @@ def _made(args: argparse.Namespace) -> int:
     from pit_tools.batch_build import Way, found_program
     from pit_tools.batch_list import Part
     from pit_tools.batches import Batch
+    from pit_tools.errors import UserError
 
+    if args.relax == 0:
+        raise UserError("--relax: give seconds above 0, or leave it out for no relaxations")
+    try:
+        options = tuple(shlex.split(args.options or ""))
+    except ValueError as error:
+        raise UserError(f"--options: {str(error).lower()}: {args.options}") from None
     thin = found_program(args.thin, "--thin") if args.thin else None
-    way = Way(os.getcwd(), found_program(args.pitc or "pitc", "--pitc"),
-              tuple(shlex.split(args.options or "")), thin, args.relax)
+    way = Way(os.getcwd(), found_program(args.pitc or "pitc", "--pitc"), options, thin, args.relax)
     part = Part.read(args.part) if args.part else Part()
     batch = Batch(args.list, way, part)
     with progress.shown("batch", len(batch.entries)):

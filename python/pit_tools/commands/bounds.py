@@ -3,7 +3,7 @@ from __future__ import annotations
 
 import argparse
 
-from pit_tools.commands import add_precedence_option
+from pit_tools.commands import add_precedence_option, from_zero
 
 HELP = """\
 Tells bounds of an instance: the sum of all values above 0; the value of the ultimate pit,
@@ -20,7 +20,7 @@ pit is the bound.
 def add_arguments(parser: argparse.ArgumentParser) -> None:
     parser.add_argument("base", help="the instance")
     add_precedence_option(parser)
-    parser.add_argument("--seconds", type=float, default=60, metavar="N",
+    parser.add_argument("--seconds", type=from_zero, default=60, metavar="N",
                         help="for each relaxation at most (60)")
 
 

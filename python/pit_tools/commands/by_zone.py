@@ -28,15 +28,17 @@ def run(args: argparse.Namespace) -> int:
 
     from pit_tools import outputs
     from pit_tools.by_zone import by_zone
+    from pit_tools.decimals import whole_of
     from pit_tools.errors import UserError
     from pit_tools.instance import present, read_instance, write_instance
 
     parts = []
     for text in args.parts:
         base, _, zones = text.rpartition(":")
-        if not base or not all(cell.strip().isdigit() for cell in zones.split(",")):
+        numbers = [whole_of(cell.strip()) for cell in zones.split(",")]
+        if not base or None in numbers:
             raise UserError(f"`{text}`: give an instance and its zones, as oxide:0,2")
-        parts.append(([int(cell) for cell in zones.split(",")],
+        parts.append(([number for number in numbers if number is not None],
                       read_instance(base, ("blocks", "upit", "pcpsp", "cpit"))))
     made = by_zone(parts)
     with outputs.together():

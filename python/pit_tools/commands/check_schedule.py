@@ -41,6 +41,8 @@ def run(args: argparse.Namespace) -> int:
     from pit_tools.schedules import (check, read_schedule, read_variables, schedule_of_variables,
                                      write_schedule)
 
+    if args.most < 0:
+        raise UserError(f"--most: {args.most} is below 0")
     problem = read_problem(args.problem)
     precedence = read_precedence(args.precedence, len(problem.values))
     if (args.schedule is None) == (args.solution is None):

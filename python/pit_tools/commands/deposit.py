@@ -38,17 +38,25 @@ def add_arguments(parser: argparse.ArgumentParser) -> None:
 
 
 def _numbers(text: str, what: str) -> list[int]:
+    import re
+
     from pit_tools.errors import UserError
 
-    if not all(part.isdigit() for part in text.split(",")):
-        raise UserError(f"{what}: `{text}` is no list of whole numbers")
+    if not re.fullmatch("[0-9]{1,9}(,[0-9]{1,9})*", text):
+        raise UserError(f"{what}: `{text[:60]}` is no list of whole numbers")
     return list(map(int, text.split(",")))
 
 
 def _seeds(text: str) -> list[int]:
+    from pit_tools.deposits import MOST_SEED
+    from pit_tools.errors import UserError
+
+    what = f"a seed is a whole number from 1 to {MOST_SEED}, or a span as 1-100"
     first, _, last = text.partition("-")
-    ends = _numbers(f"{first},{last or first}", "a seed is a whole number from 1 to 1000000")
-    return list(range(ends[0], ends[1] + 1))
+    begin, end = _numbers(f"{first},{last or first}", what)
+    if not 1 <= begin <= end <= MOST_SEED:
+        raise UserError(f"{what}, and not `{text}`")
+    return list(range(begin, end + 1))
 
 
 def run(args: argparse.Namespace) -> int:

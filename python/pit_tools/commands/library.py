@@ -3,6 +3,8 @@ from __future__ import annotations
 
 import argparse
 
+from pit_tools.commands import from_zero
+
 HELP = """\
 Ten deposits by seed, with the sums of their instances, the values of their pits, bounds, and the
 best schedules that are known of their CPIT and PCPSP.
@@ -42,7 +44,7 @@ def add_arguments(parser: argparse.ArgumentParser) -> None:
                         help="seeks better schedules, and takes them")
     parser.add_argument("--build", metavar="FOLDER", help="seeks all schedules anew, and writes "
                         "tables, sums and schedules there")
-    parser.add_argument("--seconds", type=float, default=600, metavar="N",
+    parser.add_argument("--seconds", type=from_zero, default=600, metavar="N",
                         help="for each schedule of --seek and --build (600)")
 
 

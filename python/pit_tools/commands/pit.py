@@ -90,6 +90,7 @@ def _note(plan_path: str, name: str) -> PlanNote:
 
 def _by_plan(args: argparse.Namespace) -> int:
     from pit_tools import outputs, progress
+    from pit_tools.decimals import whole_of
     from pit_tools.errors import UserError
     from pit_tools.instance import present, read_instance
     from pit_tools.plan_file import read_plan
@@ -103,7 +104,7 @@ def _by_plan(args: argparse.Namespace) -> int:
     note = _note(args.plan, plan.name)
     benches = args.K.split(",")
     for K in benches:
-        if K != "plan" and not (K.isdigit() and 1 <= int(K) <= 20):
+        if K != "plan" and not 1 <= (whole_of(K) or 0) <= 20:
             raise UserError(f"--K: `{K}` is neither 1 to 20 nor `plan`")
     with outputs.together(), progress.shown("pit", len(benches)):
         _pits_by_K(args, plan, mine, benches, note)

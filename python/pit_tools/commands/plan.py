@@ -66,14 +66,17 @@ def run(args: argparse.Namespace) -> int:
 
     from pit_tools import outputs
     from pit_tools.errors import UserError
+    from pit_tools.formats import MOST_HEIGHT
     from pit_tools.imported import read_imported
     from pit_tools.plan_note import write_note
     from pit_tools.plan_words import Spoken, plan_from
 
     if args.K is not None and not 1 <= args.K <= 20:
         raise UserError(f"--K: {args.K} is not from 1 to 20")
-    if args.parts < 1:
-        raise UserError(f"--parts: {args.parts} is below 1")
+    if not 1 <= args.parts <= 1_000_000:
+        raise UserError(f"--parts: {args.parts} is not from 1 to 1,000,000")
+    if not 0 <= args.benches <= MOST_HEIGHT:
+        raise UserError(f"--benches: {args.benches} is no height of a mine")
     imported = read_imported(args.imported)
     known = {field.name for field in fields(Spoken)}
     told = {key: value for key, value in vars(args).items() if key in known}

@@ -44,10 +44,15 @@ def add_arguments(parser: argparse.ArgumentParser) -> None:
 def run(args: argparse.Namespace) -> int:
     from pit_tools.decimals import plain
     from pit_tools.errors import UserError
+    from pit_tools.formats import MOST_HEIGHT
     from pit_tools.plan_file import grid_and_zones
 
-    if args.benches < 0 or args.benches > 10_000:
+    if not 0 <= args.benches <= MOST_HEIGHT:
         raise UserError(f"--benches: `{args.benches}` is no height of a mine")
+    if not 0 <= args.decimals <= 9:
+        raise UserError(f"--decimals: {args.decimals} is not from 0 to 9")
+    if not 0 <= args.within <= 90:
+        raise UserError(f"--within: {args.within:g} is not from 0 to 90 degrees")
     if args.K and not 1 <= args.K <= 20:
         raise UserError(f"--K: {args.K} is not from 1 to 20")
     grid, zones = grid_and_zones(args.plan)

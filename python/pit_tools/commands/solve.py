@@ -3,7 +3,7 @@ from __future__ import annotations
 
 import argparse
 
-from pit_tools.commands import PRECEDENCE
+from pit_tools.commands import PRECEDENCE, from_zero
 
 HELP = """\
 Finds the best schedule of a CPIT or a PCPSP of some hundred blocks, or a good one of some thousand,
@@ -32,9 +32,9 @@ def add_arguments(parser: argparse.ArgumentParser) -> None:
                         help="lets no block of a PCPSP be split over destinations")
     parser.add_argument("--all-arcs", action="store_true",
                         help="all arcs of the file, also such as others imply")
-    parser.add_argument("--seconds", type=float, default=60, metavar="N",
+    parser.add_argument("--seconds", type=from_zero, default=60, metavar="N",
                         help="stops after so many (60); 0 for never")
-    parser.add_argument("--ratio", type=float, default=0.0, metavar="R",
+    parser.add_argument("--ratio", type=from_zero, default=0.0, metavar="R",
                         help="stops once no schedule can be better by more, as 0.01")
 
 

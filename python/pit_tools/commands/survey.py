@@ -84,7 +84,7 @@ def _plane(facts: Facts, text: str) -> Plane:
     try:
         if axis in ("x", "y", "z"):
             return plane_at(facts, axis, float(metres))
-    except (ValueError, OverflowError):
+    except ValueError:
         pass
     raise UserError(f"--section: `{text}`: give an axis and metres, as y=2320")
 

@@ -40,24 +40,26 @@ def add_arguments(parser: argparse.ArgumentParser) -> None:
 
 def run(args: argparse.Namespace) -> int:
     import os
+    import shlex
 
     from pit_tools import outputs
     from pit_tools.errors import UserError
-    from pit_tools.plan_file import plan_of
+    from pit_tools.plan_file import plan_of, read_text
     from pit_tools.variations import Change, variations
 
-    with open(args.plan, encoding="utf-8-sig") as file:
-        text = file.read()
-    base = args.name or plan_of(text, args.plan).name
+    text = read_text(args.plan)
+    plan = plan_of(text, args.plan)
+    if not text.isascii():
+        raise UserError(f"{args.plan}: it has letters that are not ASCII, and a plan has none")
     if not args.set:
         raise UserError("give a cell by --set, as --set K=2,4")
-    lines = []
+    changes, lines = [Change.of(one) for one in args.set], []
     with outputs.together():
-        for name, varied in variations(text, base, [Change.of(one) for one in args.set]):
+        for name, varied in variations(text, args.name or plan.name, changes):
             plan_of(varied, name)
             with outputs.opened(os.path.join(args.folder, name + ".plan"), "plan", "ascii") as file:
                 file.write(varied)
-            lines.append(" ".join([name + ".plan", *args.zones]))
+            lines.append(shlex.join([name + ".plan", *args.zones]))
         if args.list:
             with outputs.opened(args.list, "list", "utf-8") as file:
                 file.write("".join(line + "\n" for line in lines))
