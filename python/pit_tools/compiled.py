@@ -9,9 +9,11 @@ the program is compiled for this run alone.
 from __future__ import annotations
 
 import ctypes
+import grp
 import hashlib
 import os
 import platform
+import pwd
 import shutil
 import stat
 import subprocess
@@ -49,11 +51,23 @@ def is_own(path: str, kind: int) -> bool:
             and not status.st_mode & 0o022)
 
 
+def _lets_others(status: os.stat_result) -> bool:
+    """Whether others than its owner may write in a folder: all, or a group that is not the user's
+    own, which has the user's name."""
+    if status.st_mode & 0o002:
+        return True
+    try:
+        is_own_group = grp.getgrgid(status.st_gid).gr_name == pwd.getpwuid(os.geteuid()).pw_name
+    except KeyError:
+        is_own_group = False
+    return bool(status.st_mode & 0o020) and not is_own_group
+
+
 def _nobody_moves(folder: str) -> bool:
     """Whether no folder above lets others put another one in the place of this one."""
     while True:
         status = os.stat(folder)
-        if status.st_uid not in (0, os.geteuid()) or (status.st_mode & 0o002
+        if status.st_uid not in (0, os.geteuid()) or (_lets_others(status)
                                                       and not status.st_mode & stat.S_ISVTX):
             return False
         if folder == os.path.dirname(folder):
@@ -69,12 +83,14 @@ def cache() -> Optional[str]:
         home = os.path.join(os.path.expanduser("~"), ".cache")
     if not os.path.isabs(home):
         return None
-    folder = os.path.join(home, "pit-tools")
     try:
         os.makedirs(home, mode=0o700, exist_ok=True)
+        # By its real path, so that no link on the way leads elsewhere a moment later.
+        home = os.path.realpath(home)
+        folder = os.path.join(home, "pit-tools")
         if not os.path.lexists(folder):
             os.mkdir(folder, 0o700)
-        is_safe = is_own(folder, stat.S_IFDIR) and _nobody_moves(os.path.realpath(home))
+        is_safe = is_own(folder, stat.S_IFDIR) and _nobody_moves(home)
         return folder if is_safe and os.access(folder, os.W_OK) else None
     except OSError:
         return None

@@ -35,7 +35,7 @@ KINDS = {
     "zone file": rb"x,y,z,tonnes,grade(,rock)?\r?\n",
     "record of an import": rb'\{\s*"tool": "pit-tools ',
     "note of a plan": rb'\{\s*"tool": "pit-tools ',
-    "plan": rb"name,",
+    "plan": rb"name,[^,\n]*,*\r?\n(.*\n)?grid,",
     "list": rb"\S+\.plan( |\n)",
     "blocks": rb"(%|\d+( \d+){3} )",
     "prec": rb"(%|\d+ \d+[ \n])",

@@ -246,7 +246,8 @@ class _Reader:
         if min(numbers) < 1:
             raise self.fault("a rise, a run and K are at least 1")
         if numbers[-1] > MOST_HEIGHT:
-            raise self.fault(f"K is {numbers[-1]}, and no mine has more than {MOST_HEIGHT:,} benches")
+            raise self.fault(f"K is {numbers[-1]}, and a mine has {MOST_HEIGHT:,} benches at the "
+                             "most")
         pairs = [Slope(*numbers[at:at + 2]) for at in range(0, len(numbers) - 1, 2)]
         four = pairs * 4 if len(pairs) == 1 else pairs
         self.zones.append(Zone((four[0], four[1], four[2], four[3]), numbers[-1]))

@@ -77,12 +77,14 @@ def _survey(args: argparse.Namespace) -> None:
 
 def _plane(facts: Facts, text: str) -> Plane:
     """The plane of a word, as y=2320. It raises UserError for what is none."""
+    from math import isfinite
+
     from pit_tools.errors import UserError
     from pit_tools.pictures import plane_at
 
     axis, _, metres = text.partition("=")
     try:
-        if axis in ("x", "y", "z"):
+        if axis in ("x", "y", "z") and isfinite(float(metres)):
             return plane_at(facts, axis, float(metres))
     except ValueError:
         pass

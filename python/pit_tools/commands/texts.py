@@ -2,13 +2,15 @@
 from __future__ import annotations
 
 import argparse
+from typing import Optional, Sequence
 
 HELP = """\
 Writes the sections that `pitc` prints without words into files, as `pitc compile` names them.
 
     pitc < examples/pit.txt | pit-tools texts pit
 
-writes pit.blocks, pit.prec, pit.upit, pit.pcpsp and pit.cpit.
+writes pit.blocks, pit.prec, pit.upit, pit.pcpsp and pit.cpit. What was cut short is refused: its
+sections have other numbers of blocks, or other limits.
 """
 
 WRITES = "texts of an instance"
@@ -26,23 +28,61 @@ def run(args: argparse.Namespace) -> int:
     from pit_tools.errors import UserError
     from pit_tools.instance import TEXTS
 
-    found: list[str] = []
+    found: list[_Section] = []
     with outputs.together(), ExitStack() as files:
         for line in sys.stdin.buffer:
             if line.startswith(b"== "):
                 name = line[3:].strip().decode("ascii", "replace")
-                if name not in TEXTS or name in found:
+                if name not in TEXTS or name in [section.name for section in found]:
                     raise UserError(f"`{line.decode('utf-8', 'replace').strip()}` is no section of "
                                     "an instance, or stands twice")
-                found.append(name)
+                found.append(_Section(name))
                 file = files.enter_context(outputs.opened(f"{args.base}.{name}",
                                                           outputs.ENDINGS["." + name]))
             elif not found:
                 raise UserError("standard input does not begin with a section, as `== blocks`: did "
                                 "pitc refuse its input?")
             else:
+                found[-1].take(line)
                 file.write(line)
-        if found != list(TEXTS):
-            raise UserError(f"standard input has the sections {', '.join(found) or 'none'}, and "
+        names = [section.name for section in found]
+        if names != list(TEXTS):
+            raise UserError(f"standard input has the sections {', '.join(names) or 'none'}, and "
                             f"not {', '.join(TEXTS)}")
+        _judge_whole(found)
     return 0
+
+
+class _Section:
+    """What of a section tells whether it is whole: how many lines it has, of a model those of its
+    objective; and its limits, None where their heading is lacking."""
+
+    def __init__(self, name: str):
+        self.name, self.lines, self.is_counted = name, 0, name in ("blocks", "prec")
+        self.limits: Optional[list[bytes]] = None
+        self.last = b"\n"
+
+    def take(self, line: bytes) -> None:
+        """Takes a line."""
+        self.last = line
+        if line.endswith(b":\n"):
+            self.is_counted = line == b"OBJECTIVE_FUNCTION:\n"
+            self.limits = [] if line == b"RESOURCE_CONSTRAINT_LIMITS:\n" else None
+        elif self.limits is not None:
+            self.limits.append(line)
+        else:
+            self.lines += self.is_counted
+
+
+def _judge_whole(found: Sequence[_Section]) -> None:
+    """Stops where the sections are not those of one instance: no header counts coefficients and
+    limits, but the limits of the CPIT, which come last, are those of the PCPSP."""
+    from pit_tools.errors import UserError
+
+    counts = {section.name: section.lines for section in found}
+    limits = [section.limits for section in found if section.name in ("pcpsp", "cpit")]
+    if (len(set(counts.values())) > 1 or None in limits or limits[0] != limits[1]
+            or not found[-1].last.endswith(b"\n")):
+        told = ", ".join(f"{name} {count}" for name, count in counts.items())
+        raise UserError("standard input was cut short, or is of several runs: its sections have "
+                        f"blocks or limits that differ ({told} blocks)")
