@@ -19,6 +19,9 @@ from pit_tools.batch_list import Entry
 from pit_tools.batch_making import Failed, Made, make
 from pit_tools.errors import UserError
 
+#: Seconds that a process has to take away what it was making.
+PATIENCE = 5
+
 #: Makes instances, and answers each when it is made, in any order.
 Engine = Callable[[Sequence[Entry], Way, str], Iterator[Union[Made, Failed]]]
 
@@ -59,7 +62,7 @@ def _end_with_parent() -> None:
     """Leaves Ctrl-C to the first process, which tells the others by TERM."""
     parent = multiprocessing.parent_process()
     signal.signal(signal.SIGINT, signal.SIG_IGN)
-    signal.signal(signal.SIGTERM, lambda *_: sys.exit(143))
+    signal.signal(signal.SIGTERM, _end)
 
     def watch() -> None:
         if parent is not None:
@@ -67,6 +70,15 @@ def _end_with_parent() -> None:
         os._exit(1)  # pylint: disable=protected-access
 
     threading.Thread(target=watch, daemon=True).start()
+
+
+def _end(_number: int, _frame: object) -> None:
+    """Ends a process by an exception, so that what is under way is taken away. The executor takes
+    that for a fault of the instance, and goes on to wait for the next one, perhaps for a lock that
+    another process had when it ended: so the system ends it a while later."""
+    signal.signal(signal.SIGALRM, signal.SIG_DFL)
+    signal.alarm(PATIENCE)
+    sys.exit(143)
 
 
 def by_dask(address: str) -> Engine:

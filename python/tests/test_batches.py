@@ -13,11 +13,12 @@ import time
 import pytest
 
 import mines
-from pit_tools import batch_build
+from pit_tools import batch_build, batch_engines
 from pit_tools.batch_build import Way, sum_of_modules
 from pit_tools.batch_engines import by_processes, in_turn
 from pit_tools.batch_list import Part, read_list
 from pit_tools.batch_lock import LOCK
+from pit_tools.batch_making import make
 from pit_tools.batches import Batch
 from pit_tools.cli import main
 from pit_tools.errors import UserError
@@ -477,6 +478,35 @@ def test_several_at_a_time_make_the_same(here):
     (here / "two.plan").write_text("refused\n")
     batch, whole = run_batch(engine=by_processes(3))
     assert not whole and batch.failed == ["two.plan: pitc compile: pitc: plan row 1: Name"]
+
+
+def test_processes_end_though_one_ended_with_a_lock(here, monkeypatch):
+    """Told to end while it makes an instance, a process would go on to wait for the next one; where
+    another one had ended with the lock of the queue, for ever."""
+    (here / "pitc").write_text((here / "pitc").read_text().replace(
+        'elif words[0] == "compile"', 'elif __import__("time").sleep(60) or words[0] == "compile"'))
+    monkeypatch.setattr(batch_engines, "PATIENCE", 1)
+    with open("LIST", "w") as file:
+        file.write(ONE + TWO)
+    batch = Batch("LIST", way())
+    held_by_none = []
+
+    def engine(entries, way, build):
+        with batch_engines._processes(2) as executor:
+            running = [executor.submit(make, entry, way, build) for entry in entries]
+            while not all(future.running() for future in running):
+                time.sleep(0.01)
+            time.sleep(0.5)
+            executor._call_queue._rlock.acquire(timeout=1)
+            held_by_none.append(executor)
+            raise KeyboardInterrupt
+        yield
+
+    begun_at = time.monotonic()
+    with pytest.raises(KeyboardInterrupt):
+        batch.run(engine)
+    assert time.monotonic() - begun_at < 30 and held_by_none
+    assert not os.path.exists("MANIFEST") and left_of() == []
 
 
 def test_a_process_that_is_ended_from_outside_is_told(here):
