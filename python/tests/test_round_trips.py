@@ -5,6 +5,7 @@ import os
 import tempfile
 
 import numpy as np
+import pandas as pd
 import pytest
 from hypothesis import HealthCheck, given, settings
 from hypothesis import strategies as st
@@ -20,7 +21,10 @@ from pit_tools.identifiers import Identifiers, order_of, read_identifiers, write
 from pit_tools.instance import (Blocks, Instance, Limit, Problem, UltimatePit, Uses, read_instance,
                                 write_instance)
 from pit_tools.minelib import Columns, read_published, write_published
+from pit_tools.pits import read_pit, write_pit
+from pit_tools.plan_file import plan_of
 from pit_tools.schedules import Schedule, read_schedule, write_schedule
+from pit_tools.zone_files import read_zone_file, write_zone_file
 
 SOME = settings(max_examples=25, deadline=None, derandomize=True,
                 suppress_health_check=[HealthCheck.too_slow, HealthCheck.data_too_large])
@@ -221,6 +225,63 @@ def test_a_changed_published_file_is_taken_or_refused_in_a_line(text, place, cel
         assert status in (0, 2)
         if status == 0:
             assert read_instance(os.path.join(folder, "again")).blocks is not None
+
+
+#: What may stand in a cell or a field, and does not belong there.
+ODD = st.sampled_from(["", "0", "-1", "7", "0.5", "1e3", "1e999999999", "9" * 5000, "nan", "inf",
+                       "x", ".", "²", "٣", "é", '"', '"a\n', "1 2", "\r", "\0", "a,b", "name", "L"])
+
+
+@SOME
+@given(st.lists(st.booleans(), max_size=40), st.integers(0, 60), ODD)
+def test_a_pit_is_read_back_and_a_changed_line_is_taken_or_refused(in_pit, at, cell):
+    with tempfile.TemporaryDirectory() as folder:
+        path = os.path.join(folder, "pit")
+        write_pit(np.array(in_pit, bool), path)
+        assert read_pit(path, 40).tolist() == np.flatnonzero(in_pit).tolist()
+        lines = shared.read(path).splitlines()
+        shared.write(path, "\n".join(lines[:at] + [cell] + lines[at + 1:]))
+        try:
+            found = read_pit(path, 40)
+        except UserError as error:
+            assert "\n" not in str(error) and "pit" in str(error)
+            return
+        assert np.all(np.diff(found) > 0) and np.all((found >= 0) & (found < 40))
+
+
+@SOME
+@given(st.integers(0, 200), ODD)
+def test_a_plan_with_a_changed_cell_is_refused_or_written_as_it_is_read(at, cell):
+    cells = "\n".join(mines.SIX).replace("\n", ",\n,").split(",")
+    cells[at % len(cells)] = cell
+    text = ",".join(cells).replace(",\n,", "\n")
+    try:
+        plan = plan_of(text, "a.plan")
+    except UserError as error:
+        assert "\n" not in str(error) and "a.plan" in str(error)
+        return
+    assert plan_of(plan.text()) == plan
+
+
+@SOME
+@given(st.lists(st.tuples(*(st.integers(-10**9, 10**9) for _ in "xyz"), st.integers(0, 10**9),
+                          st.integers(0, 10**12)), max_size=8), st.integers(0, 60), ODD)
+def test_a_zone_file_is_read_back_and_a_changed_cell_is_taken_or_refused(rows, at, cell):
+    with tempfile.TemporaryDirectory() as folder:
+        path = os.path.join(folder, "zone.csv")
+        table = pd.DataFrame(rows, columns=["x", "y", "z", "tonnes", "grade"], dtype=np.int64)
+        write_zone_file(path, table)
+        assert np.array_equal(read_zone_file(path).to_numpy(), table.to_numpy())
+        cells = shared.read(path).replace("\n", ",\n,").split(",")
+        cells[at % len(cells)] = cell
+        shared.write(path, ",".join(cells).replace(",\n,", "\n"))
+        try:
+            found = read_zone_file(path)
+        except UserError as error:
+            assert "\n" not in str(error) and "zone.csv" in str(error)
+            return
+        write_zone_file(path, found)
+        assert np.array_equal(read_zone_file(path).to_numpy(), found.to_numpy())
 
 
 def test_a_number_that_cannot_be_held_is_not_written(tmp_path):
