@@ -1,3 +1,4 @@
+mod AtBase
 mod Compiles
 mod Lent
 mod Models

@@ -60,9 +60,3 @@ module _ (plan : PlanParts) (paths : List (List ℕ)) (opened_old opened_new : L
         (AreNotOpened opened_old opened_new paths refused × (new ≡ old) × (starts_new ≡ starts_old))
         ⊎ (((why : Refusal) × (refused ≡ Run why) × IsRunRefused formulas settings why)
         ⊎ ((refused ≡ Run refusal.OutOfMemory) × ((gathered : GatheredView) × IsCompiled settings gathered)))
-
--- the same as `TellsRows` of some files at these paths, which were opened in this order and no other, by some starts, and of some sinks
-abbrev pub TellsRowsOfFiles : PlanParts → List (List ℕ) → Settings → (out_old out_new : List ℕ) → Type 0
-TellsRowsOfFiles plan paths settings out_old out_new =
-    (opened : List Opening) × ((starts_old : StartsView) × ((starts_new : StartsView) × ((old : TextName → SinkState) × ((new : TextName → SinkState)
-    × TellsRows plan paths [] opened starts_old starts_new old new settings out_old out_new))))

@@ -1,23 +1,23 @@
 //! From the files of a plan and its zones to the texts of an instance.
 
-ghost use Rattle.std.specs.Prelude.{◌≡◌, ◌≢◌, ◌++◌, ℕ, map, string_bytes, IfOk, IfErr, OnOk, OnErr};
+ghost use Rattle.std.specs.Prelude.{◌≡◌, ◌≢◌, ◌++◌, map, string_bytes, IfErr, OnOk, OnErr};
 ghost use Rattle.pit_compile.specs.Sinks.{all_told};
-ghost use Rattle.pit_edge.specs.FaultLine.{Ends};
-ghost use Rattle.pit_edge.specs.declared.refused.Refused.{Refused as ARefused};
+ghost use Rattle.pit_edge.specs.FaultLine.{EndsBy};
 ghost use Rattle.pit_parts.specs.Destinations.{formulas_of};
 ghost use Rattle.run_threads.specs.Starts.{none_spent, AreSettled};
-ghost use Rattle.pit_commands.specs.Compile.{IsNoCompile, TellsRows, TellsRowsOfFiles, rows_line};
+ghost use Rattle.pit_commands.specs.BaseFiles.{AreThere, IsNoCompileOfFiles, TellsRowsOfFiles};
+ghost use Rattle.pit_commands.specs.Compile.{IsNoCompile, TellsRows, rows_line};
 
-use crate::instance_files::sinks_of;
+use crate::compile_at::compile_at;
+use devices::files::file_access::AtPath;
 use devices::files::opener::Opener;
-use devices::files::system_files::SystemFiles;
+use devices::files::system_files::{SystemFile, SystemFiles};
 use devices::files::system_slots::SystemSlots;
 use devices::sinks::sink::Sink;
 use pit_compile::settings::Settings;
 use pit_compile::sinks::Sinks;
 use pit_compile::{MOST_STARTS, Starts, run_with_starts};
 use pit_edge::refused::Refused;
-use pit_edge::refused::fault_line::tell;
 use pit_edge::zone_feeds::open_all;
 use pit_model::destination::Destination;
 use pit_model::plan::Plan;
@@ -87,7 +87,8 @@ pub fn compile_into<R: Threads + Wait + Sync, O: Opener, S: Sink>(
 /// Where all is written it appends the line `rows N` to `out`; else the line of the refusal to `err`. Only one of the two grows. For
 /// want of memory the status is that of memory, and both are as they were.
 ///
-/// It is `compile_into` over the files of the system. No contract can say what they hold: what is told is of some files at these paths.
+/// It is `compile_at` over the files of the system, with `MOST_STARTS` starts. No contract can say what these files hold: what is told is
+/// of some files at these paths. Where the status is 0 the system has made or opened a file at each path of BASE.
 pub fn compile_files<R: Files + Threads + Wait + Sync>(
     rt: &R,
     alloc: Global,
@@ -101,29 +102,28 @@ pub fn compile_files<R: Files + Threads + Wait + Sync>(
 ) -> u8
 where
     R::File: Send,
-    ensures done { result ≡ 0 → TellsRowsOfFiles plan.now (map string_bytes zones.now) settings out.old.items out.new.items }
+    ensures done { result ≡ 0 → TellsRowsOfFiles plan.now base.now (map string_bytes zones.now)
+        settings out.old.items out.new.items }
+    ensures there { result ≡ 0 → AreThere (⟦<SystemFile<R::File> as AtPath>⟧.path) base.now }
     ensures quiet { result ≡ 0 → err.new.items ≡ err.old.items }
     ensures kept { result ≢ 0 → out.new.items ≡ out.old.items }
-    ensures told { result ≢ 0 → (refused : ARefused) × Ends refused err.old.items err.new.items result }
+    ensures told { result ≢ 0 → EndsBy (IsNoCompileOfFiles plan.now base.now (map string_bytes zones.now)
+        (formulas_of destinations.now) settings) err.old.items err.new.items result }
 {
-    let mut sinks = match sinks_of(&mut SystemSlots::new(rt), alloc, base) {
-        Ok(sinks) => sinks,
-        Err(refusal) => return tell(alloc, &Refused::from(refusal), err),
-    };
-    match compile_into(
+    let ended = compile_at(
         alloc,
         &mut SystemFiles::new(rt),
-        &mut sinks,
+        &mut SystemSlots::new(rt),
         plan,
         destinations,
         settings,
         &mut Starts::new(rt, MOST_STARTS),
+        base,
         zones,
         out,
-    ) {
-        Ok(()) => 0,
-        Err(refused) => tell(alloc, &refused, err),
-    }
+        err,
+    );
+    ended.status
 }
 
 // Appends the line of so many rows to `out`. Where memory is refused `out` is as it was.

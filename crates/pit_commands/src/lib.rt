@@ -3,8 +3,10 @@
 #![tactic(auto)]
 
 pub mod compile;
+pub mod compile_at;
 pub mod instance_files;
 pub mod model;
 pub mod pipe_form;
+pub mod placed_sink;
 pub mod refusal_line;
 pub mod task;

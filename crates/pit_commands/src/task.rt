@@ -7,14 +7,13 @@ ghost use Rattle.run_threads.specs.Starts.{none_spent, AreSettled, AreSpent};
 ghost use Rattle.pit_commands.specs.Printed.{IsNoPipe, IsPrinted};
 ghost use Rattle.pit_commands.specs.Task.{IsNoTask, IsTaskDone, plan_in};
 
-use crate::compile::compile_into;
+use crate::compile_at::{Ended, compile_at};
 use crate::model::Model;
 use crate::pipe_form::pipe_with_starts;
+use devices::files::file_slot::FileSlots;
 use devices::files::opener::Opener;
-use devices::sinks::sink::Sink;
 use pit_compile::Starts;
 use pit_compile::settings::Settings;
-use pit_compile::sinks::Sinks;
 use pit_edge::refused::Refused;
 use pit_edge::refused::fault_line::tell;
 use pit_model::destination::Destination;
@@ -25,19 +24,19 @@ use std::thread::Threads;
 
 /// A model to be compiled.
 #[derive(Drop)]
-pub enum Task<S> {
+pub enum Task {
     /// The model that an input gave, whose texts are printed.
     Pipe(Model),
-    /// A plan with the paths of its zone files, and a sink for each text of the instance.
+    /// A plan with the paths of its zone files, whose texts are written to the files of BASE.
     Files {
         plan: Plan,
         settings: Settings,
+        base: String,
         zones: Vec<String>,
-        sinks: Sinks<S>,
     },
 }
 
-impl<S: Sink> Task<S> {
+impl Task {
     /// The plan of the model.
     pub fn plan(&self) -> &Plan
         ensures { result.now ≡ plan_in self.now }
@@ -48,52 +47,59 @@ impl<S: Sink> Task<S> {
         }
     }
 
-    /// Compiles the model with these destinations, and returns the status that the program ends with. Where that is 0
-    /// it appends to `text` what standard output is to have, and else to `lines` what standard error is to have.
-    pub fn run<R: Threads + Wait + Sync, O: Opener>(
-        &mut self,
+    /// Compiles the model with these destinations, and answers how that ended. Where the status is 0 it appends to `text` what standard
+    /// output is to have, and else to `lines` what standard error is to have. Only for files it asks for files and slots.
+    pub fn run<R: Threads + Wait + Sync, O: Opener, F: FileSlots>(
+        &self,
         alloc: Global,
         files: &mut O,
+        slots: &mut F,
         destinations: &[Destination],
         starts: &mut Starts<'_, R>,
         text: &mut Vec<u8>,
         lines: &mut Vec<u8>,
-    ) -> u8
+    ) -> Ended<F::Slot>
         requires unspent { starts.old ≡ none_spent starts.old.allowed }
-        ensures done { result ≡ 0 → IsTaskDone S.state (O.opened files.old) (O.opened files.new)
-            starts.old starts.new self.old self.new text.old.items text.new.items }
-        ensures quiet { result ≡ 0 → lines.new.items ≡ lines.old.items }
-        ensures kept { result ≢ 0 → text.new.items ≡ text.old.items }
-        ensures refused { result ≢ 0 → EndsBy (IsNoTask S.state (O.opened files.old)
-            (O.opened files.new) starts.old starts.new O.Opened.left O.Opened.is_sure
-            O.Opened.failures self.old self.new (formulas_of destinations.now))
-            lines.old.items lines.new.items result }
+        ensures done { result.status ≡ 0 → IsTaskDone (O.opened files.old) (O.opened files.new)
+            (F.made slots.old) (F.made slots.new) starts.old starts.new F.Slot.tells self.now
+            result.sinks text.old.items text.new.items }
+        ensures quiet { result.status ≡ 0 → lines.new.items ≡ lines.old.items }
+        ensures kept { result.status ≢ 0 → text.new.items ≡ text.old.items }
+        ensures refused { result.status ≢ 0 → EndsBy (IsNoTask (O.opened files.old)
+            (O.opened files.new) (F.made slots.old) (F.made slots.new) starts.old starts.new
+            F.Slot.tells O.Opened.left O.Opened.is_sure O.Opened.failures self.now
+            (formulas_of destinations.now) result.sinks) lines.old.items lines.new.items result.status }
         ensures settled { AreSettled starts.old starts.new }
     {
         match self {
-            Task::Pipe(model) => match run_pipe(alloc, model, destinations, starts, text) {
-                Ok(()) => 0,
-                Err(refused) => tell(alloc, &refused, lines),
-            },
+            Task::Pipe(model) => {
+                let status = match run_pipe(alloc, model, destinations, starts, text) {
+                    Ok(()) => 0,
+                    Err(refused) => tell(alloc, &refused, lines),
+                };
+                Ended {
+                    status,
+                    sinks: None,
+                }
+            }
             Task::Files {
                 plan,
                 settings,
+                base,
                 zones,
-                sinks,
-            } => match compile_into(
+            } => compile_at(
                 alloc,
                 files,
-                sinks,
+                slots,
                 plan,
                 destinations,
                 *settings,
                 starts,
+                base.as_str(),
                 zones.as_slice(),
                 text,
-            ) {
-                Ok(()) => 0,
-                Err(refused) => tell(alloc, &refused, lines),
-            },
+                lines,
+            ),
         }
     }
 }

@@ -4,20 +4,22 @@
 //! output. `pitc compile` does so from files to files. `pitc check BASE` reads the files of an instance and prints its counts.
 #![tactic(auto)]
 
-ghost use Rattle.std.specs.Prelude.{◌≡◌};
+ghost use Rattle.std.specs.Prelude.{◌≡◌, map, string_bytes, IfOk};
+ghost use Rattle.pit_commands.specs.BaseFiles.{TellsRowsFrom};
+ghost use Rattle.pit_commands.specs.Task.{IsTaskDone};
 ghost use Rattle.pit_parts.specs.formulas.Formula.{IsRuled};
 ghost use Rattle.pit_parts.specs.formulas.Worth.{worth};
 ghost use Rattle.run_threads.specs.Starts.{none_spent};
 
+use devices::feeds::feed::Feed;
 use devices::feeds::read_feed::ReadFeed;
+use devices::files::file_slot::FileSlots;
 use devices::files::opener::Opener;
 use devices::files::system_files::SystemFiles;
 use devices::files::system_slots::SystemSlots;
-use devices::sinks::mem_sink::MemSink;
-use devices::sinks::sink::Sink;
 use devices::sinks::write_sink::WriteSink;
 use pit_check::check::check;
-use pit_commands::instance_files::sinks_of;
+use pit_commands::compile_at::Ended;
 use pit_commands::model::read_model;
 use pit_commands::task::Task;
 use pit_compile::{MOST_STARTS, Starts};
@@ -57,8 +59,8 @@ fn main(rt: HostRuntime) -> ExitCode {
     )
 }
 
-// Does what the words ask, and answers the status that the program ends with. Here and in the next two functions the words, the input and
-// the files of the system are handed to the steps that promise what is done with them.
+// Does what the words ask, and answers the status that the program ends with. Here the words, the input and the files of the system are
+// handed to the steps that promise what is done with them: none of these has the runtime.
 fn work<R: Alloc<A = Global> + Env + Files + Input, T: Threads + Wait + Sync>(
     rt: &R,
     alloc: Global,
@@ -71,8 +73,13 @@ where
     requires unspent { starts.old ≡ none_spent starts.old.allowed }
 {
     let words = words_of(alloc, env::args(rt))?;
+    let mut files = SystemFiles::new(rt);
+    let mut slots = SystemSlots::new(rt);
     if words.len() <= 1 {
-        return print_model(rt, alloc, starts, text, lines);
+        let mut input = ReadFeed::new(rt.reader());
+        return print_model(
+            alloc, &mut input, &mut files, &mut slots, starts, text, lines,
+        );
     }
     match job(alloc, words.as_slice()) {
         Ok(
@@ -82,24 +89,14 @@ where
                 settings,
                 zones,
             },
-        ) => compile(
-            rt,
-            alloc,
-            plan.as_str(),
-            out.as_str(),
-            settings,
-            zones,
-            starts,
-            text,
-            lines,
-        ),
-        Ok(Job::Check { base }) => Ok(check(
-            alloc,
-            &mut SystemFiles::new(rt),
-            base.as_str(),
-            text,
-            lines,
-        )),
+        ) => {
+            let plan = plan.as_str();
+            let ended = compile(
+                alloc, &mut files, &mut slots, plan, settings, out, zones, starts, text, lines,
+            )?;
+            Ok(ended.status)
+        }
+        Ok(Job::Check { base }) => Ok(check(alloc, &mut files, base.as_str(), text, lines)),
         Err(JobFault::Line(error)) => {
             let refused = append_error(alloc, &error, text, lines)?;
             Ok(if refused { USAGE } else { 0 })
@@ -108,68 +105,67 @@ where
     }
 }
 
-// Prints the instance of the model on standard input. It has no sinks of its own.
-fn print_model<R: Files + Input, T: Threads + Wait + Sync>(
-    rt: &R,
+// Prints the instance of the model in the input, and asks for no file.
+fn print_model<I: Feed, T: Threads + Wait + Sync, O: Opener, F: FileSlots>(
     alloc: Global,
+    input: &mut I,
+    files: &mut O,
+    slots: &mut F,
     starts: &mut Starts<'_, T>,
     text: &mut Vec<u8>,
     lines: &mut Vec<u8>,
 ) -> Result<u8, Refused>
-where
-    R::File: Send,
     requires unspent { starts.old ≡ none_spent starts.old.allowed }
 {
-    let model = read_model(alloc, &mut ReadFeed::new(rt.reader()))?;
-    let mut task: Task<MemSink> = Task::Pipe(model);
-    Ok(run(
-        alloc,
-        &mut SystemFiles::new(rt),
-        &mut task,
-        starts,
-        text,
-        lines,
-    )?)
+    let task = Task::Pipe(read_model(alloc, input)?);
+    let ended = run(alloc, files, slots, &task, starts, text, lines)?;
+    Ok(ended.status)
 }
 
 // Compiles the plan in this file and these zone files into the files of BASE.
-fn compile<R: Files, T: Threads + Wait + Sync>(
-    rt: &R,
+fn compile<T: Threads + Wait + Sync, O: Opener, F: FileSlots>(
     alloc: Global,
+    files: &mut O,
+    slots: &mut F,
     plan: &str,
-    base: &str,
     settings: Settings,
+    base: String,
     zones: Vec<String>,
     starts: &mut Starts<'_, T>,
     text: &mut Vec<u8>,
     lines: &mut Vec<u8>,
-) -> Result<u8, Refused>
-where
-    R::File: Send,
+) -> Result<Ended<F::Slot>, Refused>
     requires unspent { starts.old ≡ none_spent starts.old.allowed }
+    ensures done { IfOk result (λ ended. ended.status ≡ 0 → TellsRowsFrom plan.now (string_bytes base)
+        (map string_bytes zones.items) (O.opened files.old) (O.opened files.new) (F.made slots.old)
+        (F.made slots.new) starts.old starts.new F.Slot.tells settings ended.sinks text.old.items
+        text.new.items) }
 {
-    let mut files = SystemFiles::new(rt);
-    let plan = read_plan_file(alloc, &mut files, plan)?;
-    let mut task = Task::Files {
+    let plan = read_plan_file(alloc, files, plan)?;
+    let task = Task::Files {
         plan,
         settings,
+        base,
         zones,
-        sinks: sinks_of(&mut SystemSlots::new(rt), alloc, base)?,
     };
-    Ok(run(alloc, &mut files, &mut task, starts, text, lines)?)
+    Ok(run(alloc, files, slots, &task, starts, text, lines)?)
 }
 
 // Runs the task with the destinations of its plan, in its order. The closures are made beside the run that asks them, since a function
 // that made one and handed it out could promise nothing of it.
-fn run<T: Threads + Wait + Sync, O: Opener, S: Sink + Drop>(
+fn run<T: Threads + Wait + Sync, O: Opener, F: FileSlots>(
     alloc: Global,
     files: &mut O,
-    task: &mut Task<S>,
+    slots: &mut F,
+    task: &Task,
     starts: &mut Starts<'_, T>,
     text: &mut Vec<u8>,
     lines: &mut Vec<u8>,
-) -> Result<u8, AllocError>
+) -> Result<Ended<F::Slot>, AllocError>
     requires unspent { starts.old ≡ none_spent starts.old.allowed }
+    ensures done { IfOk result (λ ended. ended.status ≡ 0 → IsTaskDone (O.opened files.old)
+        (O.opened files.new) (F.made slots.old) (F.made slots.new) starts.old starts.new F.Slot.tells
+        task.now ended.sinks text.old.items text.new.items) }
 {
     let mut destinations = Vec::new(alloc);
     for named in task.plan().formulas() {
@@ -183,5 +179,6 @@ fn run<T: Threads + Wait + Sync, O: Opener, S: Sink + Drop>(
         )?;
         destinations.push(Destination::new(named.formula.copy(alloc)?, valuer))?;
     }
-    Ok(task.run(alloc, files, destinations.as_slice(), starts, text, lines))
+    let destinations = destinations.as_slice();
+    Ok(task.run(alloc, files, slots, destinations, starts, text, lines))
 }

@@ -1,5 +1,9 @@
 use Rattle.pit_commands.proofs.compile.compile_files.Goals as goal
 
-pub returns-in-Ok-compile_into-clause-done : goal.returns-in-Ok-compile_into-clause-done
-returns-in-Ok-compile_into-clause-done g c = λ zero.
-    (_, (_, (_, (_, (_, rw c.new-2.ensures at c.in-Ok-compile_into.ensures.done)))))
+pub returns-clause-told : goal.returns-clause-told
+returns-clause-told g c = λ bad.
+    let told = c.compile_at-ended.ensures.refused bad in (
+      told.0,
+      record { opened = _; made = _; starts = _; sinks = _; why = rw (c.new.ensures, c.new-2.ensures, c.new-3.ensures) at told.1 },
+      told.2,
+    )
