@@ -66,6 +66,11 @@ class Cell(NamedTuple):
         yield ("+" if greatest >= 0 else "") + spelled(greatest, decimals), greatest, None
         if least <= 0 <= greatest:
             yield "-0", 0, None
+            yield ".0", 0, None
+        elif not decimals:
+            yield ".1", None, "TooFine"
+        if greatest >= 10**decimals:
+            yield str(greatest // 10**decimals) + ".", greatest // 10**decimals * 10**decimals, None
         for number in [least - 1, greatest + 1, -(10**40), 10**40, *self.past()]:
             yield spelled(number, decimals), None, "Range"
         # just past the ends in other spellings
@@ -81,7 +86,7 @@ class Cell(NamedTuple):
         yield spelled(greatest, decimals) + point + "0" * 40 + "500", None, "TooFine"
         yield spelled(least, decimals) + point + "0" * 120 + "1", None, "TooFine"
         digits = [spelled(least, decimals) + point + "1", spelled(greatest + 1, decimals)]
-        for text in ["x", "1e0", "-", digits[0] + "x", digits[1] + "x"]:
+        for text in ["x", "1e0", "-", "+-1", "0,5", digits[0] + "x", digits[1] + "x"]:
             yield text, None, "Number"
 
 
@@ -121,6 +126,11 @@ def with_cell(cells, at, text):
     return [text if place == at else cell.good for place, cell in enumerate(cells)]
 
 
+def record_of(texts):
+    """A record of these cells, quoted where they have a comma."""
+    return ",".join(f'"{text}"' if "," in text else text for text in texts)
+
+
 def pairs_of_faults(cells):
     """Cells of which two are refused, and the kind of the one on the left, where the two kinds tell
     which it was."""
@@ -131,6 +141,30 @@ def pairs_of_faults(cells):
                 both = with_cell(cells, left, text)
                 both[right] = other
                 yield both, kind
+
+
+# Two kinds of a number's fault, of which one is TooFine, in each order; and the two others.
+WITH_TOO_FINE = [("Number", "TooFine"), ("TooFine", "Range"), ("Range", "TooFine"), ("TooFine", "Number")]
+NUMBER_AND_RANGE = [("Range", "Number"), ("Number", "Range")]
+
+
+def faulty_text(cell, kind):
+    """A text that has this fault in a cell of a number."""
+    if kind == "Number":
+        return "x"
+    if kind == "Range":
+        return spelled(cell.greatest + 1, cell.decimals)
+    return spelled(cell.greatest, cell.decimals) + ("" if cell.decimals else ".") + "1"
+
+
+def two_kinds_of_faults(cells, kinds=WITH_TOO_FINE):
+    """Cells of which two numbers are refused, each two of them with the next two of these kinds, and the kind
+    of the one on the left."""
+    numbers = [place for place, cell in enumerate(cells) if cell.decimals is not None]
+    for (left, right), (kind, other) in zip(itertools.combinations(numbers, 2), itertools.cycle(kinds)):
+        both = with_cell(cells, left, faulty_text(cells[left], kind))
+        both[right] = faulty_text(cells[right], other)
+        yield both, kind
 
 
 def bytes_about_a_name():

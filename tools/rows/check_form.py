@@ -3,12 +3,15 @@
 The table texts has the faults of their lines.
 """
 import itertools
+import re
 
+from rows import fullest
 from rows.instance import (
     LIMITED_TEXTS, NINE_TEXTS, NO_BLOCK, ONE_ORE_BLOCK, TWO_ZONES, at, heading,
 )
-from rows.texts import NOT_SKIPPED
-from rows.trial import MARK, Folder, Trial, lines, refused
+from rows.texts import NOT_SKIPPED, many_predecessors
+from rows.trial import MARK, Folder, Front, Trial, lines, refused
+from rows.written import NAMES
 from shared import CHECKED, HEADER_KEYS
 
 
@@ -50,6 +53,8 @@ ACROSS = [
     for before in places
 ]
 
+NINE_COUNTS = "blocks 9 arcs 23 coefficients 576 limits 16 cpit 72"
+
 # An instance, and what is counted.
 COUNTED = [
     ("one_ore_block", ONE_ORE_BLOCK, "blocks 1 arcs 0 coefficients 0 limits 0 cpit 0"),
@@ -58,9 +63,10 @@ COUNTED = [
     (
         "nine blocks of many numbers",
         NINE_TEXTS,
-        "blocks 9 arcs 23 coefficients 576 limits 16 cpit 72",
+        NINE_COUNTS,
     ),
     ("two zones in their order", TWO_ZONES, "blocks 2 arcs 0 coefficients 0 limits 0 cpit 0"),
+    ("as much as a plan may hold", fullest.TEXTS, fullest.COUNTS),
     ("check cpit=lacking", spoiled("cpit=lacking"), "blocks 1 arcs 0 coefficients 0 limits 0"),
     *(
         (f"check {parts}", spoiled(parts), "blocks 1 arcs 0 coefficients 0 limits 0 cpit 0")
@@ -109,6 +115,79 @@ FAULTY = [
 ]
 
 
+# What is no byte order mark in front of a text.
+NO_MARKS = [MARK[:2], MARK[1:], b"\xFF\xFE", b"\xFE\xFF", b" " + MARK, b"\n" + MARK, b"\r\n" + MARK, MARK + MARK]
+
+
+def marks():
+    """Each text behind one that is none, and behind one."""
+    counts = "blocks 2 arcs 0 coefficients 1 limits 2 cpit 1"
+    for ending, kind in zip(CHECKED, ["Number", "Number", "Key", "Key"]):
+        for mark in NO_MARKS:
+            files = at("base", {**LIMITED_TEXTS, ending: mark + LIMITED_TEXTS[ending]})
+            line = f"{ending} line {mark.count(10) + 1}: {kind}"
+            yield refused(f"marks: {mark} before {ending}", line, words=["check", "base"], files=files)
+        texts = {**LIMITED_TEXTS, ending: MARK + LIMITED_TEXTS[ending]}
+        yield counted(f"marks: {MARK} before {ending}", texts, counts)
+
+
+def far_lines():
+    """What is faulty behind many lines, or far behind in one: another count, a predecessor that stands twice, an
+    identifier that is a power of two less; and blocks that come before and behind those that wait for them."""
+    skipped = b"\n" * 70_000 + b"x\n"
+    for ending, kind in zip(CHECKED, ["Fields", "Fields", "Key", "Key"]):
+        files = at("base", {**LIMITED_TEXTS, ending: skipped})
+        line = f"{ending} line 70001: {kind}"
+        yield refused(f"far_lines: {line}", line, words=["check", "base"], files=files)
+    for count, told in ((301, 45), (5_001, 905), (70_001, 4_465)):
+        blocks, prec, pcpsp = many_predecessors(count)
+        line, files = prec.replace(f"0 {count} ".encode(), f"0 {told} ".encode(), 1), {"blocks": blocks, "pcpsp": pcpsp}
+        files, name = at("base", {**files, "prec": line}), f"far_lines: {told} for {count}"
+        yield refused(name, "prec line 1: Count", words=["check", "base"], files=files)
+    for again in (b" 5000 5000\n", b" 1 5001\n"):
+        blocks, prec, pcpsp = many_predecessors(5_001)
+        files = at("base", {"blocks": blocks, "prec": prec.replace(b" 5000 5001\n", again, 1), "pcpsp": b""})
+        name = f"far_lines: predecessors that end with{again}"
+        yield refused(name, "prec line 1: Twice", words=["check", "base"], files=files)
+    texts = dict(zip(CHECKED, many_predecessors(5_001)))
+    yield counted("far_lines: a block below 5,001 others", texts, "blocks 5002 arcs 5001 coefficients 0 limits 0")
+    many, _ = many_blocks()
+    for ending in CHECKED:
+        start = many[ending].index(b"\n4999 ") + 1
+        changed = many[ending][:start] + b"903 " + many[ending][start + 5 :]
+        files, line = at("base", {**many, ending: changed}), many[ending][:start].count(b"\n") + 1
+        name, line = f"far_lines: 903 for 4999 in {ending}", f"{ending} line {line}: Order"
+        yield refused(name, line, words=["check", "base"], files=files)
+    for ending in ("blocks", "prec"):
+        counts = "blocks 0 arcs 0 coefficients 0 limits 0 cpit 0"
+        yield counted(f"far_lines: a mark alone in {ending}", {**NO_BLOCK, ending: MARK}, counts)
+    for ending in ("pcpsp", "cpit"):
+        good = LIMITED_TEXTS[ending].splitlines(True)
+        start = good.index(b"RESOURCE_CONSTRAINT_COEFFICIENTS:\n")
+        for cut, what in ((start, "two sections"), (start + 2, "a section"), (start - 1, "a line of the objective")):
+            files = at("base", {**LIMITED_TEXTS, ending: b"".join(good[:cut])})
+            line = f"{ending} line {cut + 1}: Missing"
+            yield refused(f"far_lines: {ending} lacks {what}", line, words=["check", "base"], files=files)
+        for what, text, number in [("remarks", b"% none\n\n \n%\n", 5), ("a mark", MARK, 1)]:
+            files, line = at("base", {**NO_BLOCK, ending: text}), f"{ending} line {number}: Missing"
+            yield refused(f"far_lines: {what} alone in {ending}", line, words=["check", "base"], files=files)
+    prec = b"0 2 2 1\n1 1 0\n2 2 1 0\n"
+    blocks = lines("".join(f"{own} 0 0 0 1 0 0|" for own in range(3)))
+    files = at("base", {"blocks": blocks, "prec": prec, "pcpsp": b"x\n"})
+    yield refused("far_lines: blocks before and behind", "pcpsp line 1: Key", words=["check", "base"], files=files)
+
+
+def long_lines():
+    """Each line of a text with as many fields more as a narrow count of them takes for none."""
+    for ending in CHECKED:
+        text = LIMITED_TEXTS[ending].splitlines()
+        for number in range(len(text)) if ending != "prec" else ():
+            changed = [*text[:number], text[number] + b" 0" * 65_536, *text[number + 1 :]]
+            files = at("base", {**LIMITED_TEXTS, ending: b"\n".join(changed)})
+            line = f"{ending} line {number + 1}: Fields"
+            yield refused(f"long_lines: {line}", line, words=["check", "base"], files=files)
+
+
 # A base that is near to one that is there, and what is told of it.
 NEAR = [
     "BASE", "Base", "bas", "base.", "base.blocks", "base.prec", "base.pcpsp", "base.cpit", "base ",
@@ -139,12 +218,24 @@ def near_bases():
         out = b"blocks 1 arcs 0 coefficients 0 limits 0\n"
         name = f"near_bases: the ending {spelled['cpit']}"
         yield Trial(name, words=["check", "base"], files=files, out=out)
+    for words in NEAR_WORDS:
+        errors = Front(b"error: ")
+        yield Trial(f"near_bases: the words {words}", 2, words=words, files=good, errors=errors)
     # each file has its ending behind a base that has one
     yield counted("near_bases: a base with an ending", *COUNTED[0][1:], base="base.blocks")
 
 
+# Words that are near to those of a check.
+NEAR_WORDS = [
+    *([word, "base"] for word in [
+        "CHECK", "Check", "chec", "c", "checks", "--check", "-check", "check ", " check"]),
+    ["check base"], ["--", "check", "base"], ["check", "base", "base"],
+    *(["check", word, "base"] for word in ["--base", "--out", "--quiet"]),
+]
+
+
 # What may stand about the lines of a text.
-BEFORE = MARK + b"\r\n \t\n%\n  % a: b\r\n\t%\xFF\0\v\f\r x\n%x\n"
+BEFORE = MARK + b"\r\n \t\n\t\n  \n%\n%%\n  % a: b\r\n\t%\xFF\0\v\f\r x\n%x\n"
 BETWEEN = b" \t\r\n\n\t% 1 0\n"
 KEYS = [key for key, *_ in HEADER_KEYS]
 
@@ -205,6 +296,48 @@ ENDS = [
         "+09999.0", "001000000.0000", "063.", f"+{10**18}.0000000", (100, 8, 8), "1.000000", "a")),
     ("a millionth", at_its_ends(".0", "0.001", "-0", "-.000001", (1, 1, 1), ".000001", "0" * 64)),
 ]
+
+# Other spellings of a number, and of its sign and digits.
+RESPELLED = {
+    "a plus": lambda sign, digits: (sign or "+") + digits,
+    "two noughts in front": lambda sign, digits: f"{sign}00{digits}",
+    "seventy noughts in front": lambda sign, digits: sign + "0" * 70 + digits,
+    "a point behind": lambda sign, digits: sign + digits + "." * ("." not in digits),
+    "seven noughts behind the point": lambda sign, digits: sign + digits + "." * ("." not in digits) + "0" * 7,
+    "seventy noughts behind the point": lambda sign, digits: sign + digits + "." * ("." not in digits) + "0" * 70,
+    "no digit before the point":
+        lambda sign, digits: sign + (".0" if digits == "0" else digits[digits.startswith("0."):]),
+    "minus nought": lambda sign, digits: ("-" if digits == "0" else sign) + digits,
+}
+
+
+def respelled(text, how):
+    """A text each of whose numbers is spelled so."""
+    def spelled_so(found):
+        return RESPELLED[how](found[1], found[2])
+    return re.sub(r"(?<![^ \n])(-?)(\d+(?:\.\d+)?)(?![^ \n])", spelled_so, text.decode()).encode()
+
+
+def of_spellings():
+    """Each number of an instance in another spelling, and names of all kinds."""
+    limits = b"RESOURCE_CONSTRAINT_LIMITS:\n"
+    noughts = at_its_ends("0", "0", "0", "0", (1, 1, 1), "0", "a")
+    greatest = at_its_ends("9999", "999999.875", "63", "-12345.678901", (100, 8, 8), "0.125", "a")
+    more = limits + b"0 0 L 0.5\n0 99 G 2.25\n1 0 I -1.5 -0.75\n1 1 I 1 4294.967296\n" + \
+        b"1 2 I 1 9007199254.740992\n1 3 I 1 18446744073709.551616\n"
+    greatest = {ending: text.replace(limits, more) for ending, text in greatest.items()}
+    for how in RESPELLED:
+        nine = {ending: respelled(text, how) for ending, text in NINE_TEXTS.items()}
+        yield counted(f"nine blocks of many numbers with {how}", nine, NINE_COUNTS)
+        for texts, count in ((noughts, 1), (greatest, 7)):
+            other = {ending: respelled(text, how) for ending, text in texts.items()}
+            name = f"each number with {how}: {count} limits"
+            yield counted(name, other, f"blocks 2 arcs 2 coefficients 1 limits {count} cpit 1")
+    for name in NAMES:
+        key = f"NAME: {name}\n".encode()
+        texts = {ending: text.replace(b"NAME: a\n", key) for ending, text in noughts.items()}
+        yield counted(f"an instance by the name {name}", texts, "blocks 2 arcs 2 coefficients 1 limits 1 cpit 1")
+
 
 # How many blocks the instance has that follows, and the places of some of them.
 MANY = 5_000
@@ -310,6 +443,10 @@ def trials():
     for name, texts in ENDS:
         counts = "blocks 2 arcs 2 coefficients 1 limits 1 cpit 1"
         yield counted(f"each number at its end: {name}", texts, counts)
+    yield from of_spellings()
+    yield from marks()
+    yield from far_lines()
+    yield from long_lines()
     yield from of_many_blocks()
     yield from powers_apart()
     yield from twice_far_apart()

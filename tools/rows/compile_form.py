@@ -1,11 +1,12 @@
 """Which files `compile` writes and which it leaves, and what it tells of plans and zone files."""
 import os
 
+from rows import fullest
 from rows.instance import (
     LIMITED, LIMITED_TEXTS, NINE, NINE_TEXTS, NO_BLOCK, ONE_ORE_BLOCK, ORE, OTHER_ORE, PLAN, SAME,
     TWO_ZONES, at, plain_texts, plan_of,
 )
-from rows.trial import MARK, Folder, Link, Trial, refused, zone_file
+from rows.trial import MARK, Folder, Front, Link, Trial, refused, zone_file
 from shared import ENDINGS
 
 # Files that are longer than what is written in their place.
@@ -64,6 +65,9 @@ FILES = {
     "nine": NINE[0],
     "same": SAME[0],
     "hundred": HUNDRED,
+    "fullest": fullest.PLAN,
+    **{f"dressed{number}": text for number, text in enumerate(fullest.DRESSED)},
+    **{f"fullest{number}": text for number, text in enumerate(fullest.ZONES)},
     "cent": CENT[0],
     "longest": PLAN.ljust(MOST, b"\n"),
     "long": PLAN.ljust(MOST + 1, b"\n"),
@@ -80,13 +84,19 @@ FILES = {
     "broken": b'rock,x,y,z,tonnes,grade,"no\nte"\n"a\n\nb",0,0,0,1000,5000,"\r\n"\n',
     "blank": b"\n\r\n" + ORE.replace(b"\n", b"\n\n\n"),
     "columns": b"zone,x,y,z,tonnes,grade\n0,0,0,0,1000,5000\n",
+    "capitals": b"gRADE,tONNES,Z,y,x\n5000,1000,0,0,0\n",
+    "late_again": zone_file(*LATE, LATE[0]),
     "spelled": b"Grade,TONNES,z,Y,X\n+5000.000000,01000.,-0,00,.0\n",
     "void": b"grade,tonnes,z,y,x",
     "wide": wide_rows(),
+    "wide_more": wide_rows().rstrip() + b",1\n",
+    "wide_less": wide_rows().rpartition(b",")[0] + b"\n",
     "far": zone_file(*reversed(FAR_ROWS)),
     "many_rows": zone_file(*LATE),
     **{f"more{count}": zone_file("0,0,10,1,0" + ",0" * count) for count in MORE},
     "waste": zone_file("10,0,0,1,0"),
+    "void0": zone_file("0,0,0,0,0"),
+    "void1": zone_file("10,0,0,0,0", "0,0,0,0,0"),
     "limited_zone": LIMITED[1],
     "cent_zone": CENT[1],
     "nine_zone": NINE[1],
@@ -116,6 +126,12 @@ WRITTEN = [
     ("a cent of metal", "cent cent_zone", plain_texts(*CENT)),
     ("blocks a power of two from one another", "one far", plain_texts(PLAN, zone_file(*FAR_ROWS))),
     ("898 rows", "one many_rows", plain_texts(PLAN, zone_file(*LATE))),
+    ("as much as a plan may hold", "fullest fullest0 fullest1", fullest.TEXTS),
+    *(
+        (f"keys in capitals, blanks and empty cells, {number}",
+         f"dressed{number} fullest0 fullest1", fullest.TEXTS)
+        for number in range(3)
+    ),
     # each of these is the second file, and the first one has none of its features
     *(
         (f"a file that is {second}, as the second", f"{plan} waste {second}", TWO_ZONES)
@@ -136,7 +152,7 @@ ACCEPTED = [
     ("a mark in the plan", "marked_plan ore", b""),
     ("a mark in both", "marked_plan marked", b""),
     *((f"a file that is {name}", f"one {name}", b"") for name in [
-        "marked", "turned", "broken", "blank", "columns", "spelled", "wide"]),
+        "marked", "turned", "broken", "blank", "columns", "capitals", "spelled", "wide"]),
     ("a pipe with a mark", "marked_plan /dev/stdin", OTHER_ORE),
 ]
 
@@ -164,6 +180,14 @@ REFUSED = [
     ("a row out of the grid along z", "file 1 row 3 column z: Range", "two ore off_range_z"),
     ("too few files", "settings: Files", "two ore"),
     ("too many files", "settings: Files", "one ore ore"),
+    ("65 files for one zone", "settings: Files", ["one", *["ore"] * 65]),
+    ("257 files for one zone", "settings: Files", ["one", *["ore"] * 257]),
+    ("a block without tonnage that repeats one", "file 1 row 3 repeats file 0 row 2", "two void0 void1"),
+    ("a block of other tonnes that repeats one", "file 1 row 3 repeats file 0 row 2", "two ore void1"),
+    ("a wide row with a cell more", "file 0 row 2 column whole: Width", "one wide_more"),
+    ("a wide row with a cell less", "file 0 row 2 column whole: Width", "one wide_less"),
+    ("the last of 64 is faulty", "file 63 row 2 column grade: Number",
+     ["many", *(f"many{file}" for file in range(63)), "early"]),
     ("a folder as a zone file", "file 0: FeedFailed", "one ."),
     ("a folder as the second zone file", "file 1: FeedFailed", "two ore ."),
     ("a folder behind a faulty file", "file 0 row 2 column x: OffGrid", "two off_grid ."),
@@ -180,6 +204,7 @@ REFUSED = [
     ("a late fault, a poor header", "file 0 row 900 column grade: Number", "two late headless"),
     ("no tonnes, then a row", "file 0 row 1 column tonnes: MissingColumn", "two headless early"),
     ("repeated, no tonnes", "file 2 row 1 column tonnes: MissingColumn", "three ore ore headless"),
+    ("a late row that repeats the first", "file 0 row 900 repeats file 0 row 2", "one late_again"),
     ("a file that repeats itself", "file 0 row 3 repeats file 0 row 2", "two twice off_grid_not"),
     ("a file that repeats itself, a fault", "file 1 row 2 column x: OffGrid", "two twice off_grid"),
     ("a long plan, and a file that is not there", "plan: TooLong", "long no/such"),
@@ -212,6 +237,16 @@ REFUSED = [
     ),
 ]
 
+# Words that are near to that of the command, and to options; behind them the words of a good run.
+NEAR_WORDS = [
+    *([word] for word in [
+        "COMPILE", "Compile", "comp", "compiles", "--compile", "-compile", "compile ", " compile"]),
+    ["--", "compile"], ["compile", "--out", "base"], ["compile", "--plan", "one"],
+    ["compile", "--valuers=5", "--valuers=5"], ["compile", "--capacity=9", "--capacity=9"],
+    *(["compile", f"--valuers={number}"] for number in ["0", "65", "4.0"]),
+    *(["compile", word] for word in ["--val=4", "--capacity=0", "--capacity=4097"]),
+]
+
 # Rows of one faulty cell, and its column and fault.
 FAULTY_ROWS = [
     ("a,0,0,1,0", "x: Number"),
@@ -220,6 +255,7 @@ FAULTY_ROWS = [
     ("0,0,0,-1,0", "tonnes: Range"),
     ("0,0,0,1,", "grade: Number"),
     ("0,0,0,1", "whole: Width"),
+    *((f"0,0,0,{text},0", "tonnes: Number") for text in ["NaN", "n/a", "<", "inf"]),
 ]
 
 
@@ -279,6 +315,10 @@ def sinks_that_fail():
 def trials():
     yield from files_that_are_written()
     yield from sinks_that_fail()
+    for words in NEAR_WORDS:
+        run = compile_words("one ore")
+        run["words"] = [*words, *run["words"][1:]]
+        yield Trial(f"the words {words}", 2, errors=Front(b"error: "), **run)
     for name, line, words in REFUSED:
         yield refused(name, line, **compile_words(words))
     for row, fault in FAULTY_ROWS:

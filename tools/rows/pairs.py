@@ -5,11 +5,14 @@ first faulty record, line, file or text. Each name ends with it.
 """
 import itertools
 
-from rows.cells import Cell, pairs_of_faults, spelled, with_cell
+from rows.cells import (
+    NUMBER_AND_RANGE, WITH_TOO_FINE, Cell, pairs_of_faults, record_of, spelled, two_kinds_of_faults,
+    with_cell,
+)
 from rows.instance import MILL, ONE_ORE_BLOCK, ORE, PLAN, at, plan_of
 from rows.plans import (
-    CELLS as CELLS_OF_A_PLAN, EIGHT_DUMPS, EIGHT_RESOURCES, FIVE_HUNDRED_BANDS, SIXTEEN_BANDS,
-    SIXTY_FOUR_ZONES,
+    CELLS as CELLS_OF_A_PLAN, EIGHT_DUMPS, EIGHT_RESOURCES, FIVE_HUNDRED_BANDS, SECOND_BAND, SIX,
+    SIXTEEN_BANDS, SIXTY_FOUR_ZONES,
 )
 from rows.texts import (
     BLOCK_LINE, BLOCKS, CPIT, FAULTS_OF_A_CPIT, FAULTS_OF_A_PCPSP, FAULTS_OF_BLOCKS,
@@ -74,7 +77,7 @@ BLOCK_LINES = [
 PREC_LINES = [
     ("Fields", "{}"), ("Number", "{} x"), ("Number", "{} 1 x"), ("TooFine", "{} 1 0.5"),
     ("Range", "{} 1 10"), ("Range", "10 0"), ("Order", "7 0"), ("Count", "{} 2 9"), ("Count", "{} 0 9"),
-    ("Twice", "{0} 1 {0}"), ("Twice", "{} 2 9 9"),
+    ("Twice", "{0} 1 {0}"), ("Twice", "{} 2 9 9"), ("Twice", "{} 2 0 0"),
 ]
 
 
@@ -307,7 +310,7 @@ def keys_before_a_later_text():
             key, colon, value = line.partition(":")
             for other in dict.fromkeys([
                 key.lower(), key.title(), key[1:], key[:-1], key + "S", "N" + key,
-                key.replace("_", " "), key.replace("_", "-"), key + "."]) if colon else ():
+                key.replace("_", " "), key.replace("_", "-"), key.replace("_", ""), key + "."]) if colon else ():
                 if other != key:
                     yield told(put(number, f"{other}:{value}"), number, "Key")
             if number < head:
@@ -336,18 +339,44 @@ def columns_before_a_later_file():
             yield compiled(name, f"file 1 {line}", two, [HEADER, text + b"\n0,0,0,1,0,0\n"])
 
 
+# What stands in the place of a number, as some programs take it for one.
+NO_NUMBERS = ["1e0", "-", "+-1", "0,5"]
+
+# What is near to a name or a letter, by what stands in its place.
+NEAR_NAMES = {
+    "n": ["n" * 65, "n n", "n/n", "n:n", "n+n", "n\u00e9"],
+    "L": ["l", "<", "<=", "LE", "E"], "G": ["g", ">", ">=", "GE", "="],
+}
+
+
 def past_ends(cell):
-    """Numbers just past either end of a cell, and one that is too fine, with their kinds."""
+    """Numbers just past either end of a cell, those that a narrow count takes for its least, and such that
+    are too fine, in its range and past it, with their kinds."""
     point = "" if cell.decimals else "."
-    yield spelled(cell.least - 1, cell.decimals), "Range"
-    yield spelled(cell.greatest + 1, cell.decimals), "Range"
-    yield spelled(cell.greatest, cell.decimals) + point + "1", "TooFine"
+    # that of a whole number is one of 64 bits also where millionths are counted
+    far = cell.least + 2 ** (64 if cell.decimals else 58)
+    numbers = [cell.least - 1, cell.greatest + 1, *[far] * (far > cell.greatest + 1)]
+    for number in numbers + [-cell.greatest] * (cell.least > 0):
+        yield spelled(number, cell.decimals), "Range"
+    for number in [cell.greatest, cell.greatest + 1]:
+        yield spelled(number, cell.decimals) + point + "1", "TooFine"
+    if not cell.decimals:
+        yield ".1", "TooFine"
+
+
+def near_texts(cell):
+    """The same, and what is near to a number, a name or a letter."""
+    if cell.decimals is None:
+        yield from ((text, "Name") for text in NEAR_NAMES.get(cell.good, []))
+    else:
+        yield from past_ends(cell)
+        yield from ((text, "Number") for text in NO_NUMBERS)
 
 
 def each_past_ends(cells):
-    """Cells of which one number is past its ends, and the kind of its fault."""
+    """Cells of which one is near to what it may hold, and the kind of its fault."""
     for place, cell in enumerate(cells):
-        for text, kind in past_ends(cell) if cell.decimals is not None else ():
+        for text, kind in near_texts(cell):
             yield with_cell(cells, place, text), kind, place
 
 
@@ -356,20 +385,83 @@ def faults_of_a_line(cells):
     for texts, kind, _ in each_past_ends(cells):
         yield texts, kind
     yield from pairs_of_faults(cells)
+    yield from two_kinds_of_faults(cells)
+
+
+def before_a_record(before, record, kind):
+    """A faulty record of a plan before another one."""
+    line, text = f"plan row {before.count('|') + 1}: {kind}", lines(f"{before}{record}|pit")
+    return refused(f"{short(f'ends before a record: {record}')}: {line}", line, given=text)
 
 
 def ends_in_two_records():
-    """Each number of a plan and of a row past its ends, before another faulty record or row."""
+    """Each cell of a plan and of a row near to what it may hold, before another faulty record or row."""
     for before, key, cells in CELLS_OF_A_PLAN:
         for texts, kind, _ in each_past_ends(cells):
-            record, row = ",".join([key, *texts]), before.count("|") + 1
-            line, text = f"plan row {row}: {kind}", lines(f"{before}{record}|pit")
-            yield refused(f"{short(f'ends before a record: {record}')}: {line}", line, given=text)
-    for texts, kind, place in each_past_ends(CELLS_OF_A_ROW):
+            yield before_a_record(before, record_of([key, *texts]), kind)
+        for place, cell in enumerate(cells[:-1]):
+            if cell.decimals is not None:
+                yield before_a_record(before, record_of([key, *with_cell(cells, place, "")]), "Number")
+        for texts, kind in two_kinds_of_faults(cells, WITH_TOO_FINE + NUMBER_AND_RANGE):
+            yield before_a_record(before, record_of([key, *texts]), kind)
+    empty = [(with_cell(CELLS_OF_A_ROW, place, ""), "Number", place) for place in range(5)]
+    for texts, kind, place in [*each_past_ends(CELLS_OF_A_ROW), *empty]:
         column = ["x", "y", "z", "tonnes", "grade"][place]
-        line, row = f"file 0 row 2 column {column}: {kind}", ",".join(texts)
+        line, row = f"file 0 row 2 column {column}: {kind}", record_of(texts)
         given = piped(MILLIMETRES, zone_file(row, "0,0,0,1"))
         yield refused(f"ends before a row: {row}: {line}", line, given=given)
+
+
+# Other records of which some programs take the number of cells.
+OTHER_WIDTHS = {
+    "grid": [["grid", "0", "0", "0", "10"]],
+    "leach": [["leach", "n", "1", "1"], ["leach", "?", "1", "1"]],
+    "mill": [["mill", "?", "1", "1"]], "dump": [["dump", "?"]], "resource": [["resource", "?"]],
+    "limit": [["limit", "r", "0", *cells] for cells in [
+        ["L", "1", "2"], ["G", "1", "2"], ["i", "1", "2"], ["II", "1", "2"], ["I", "1"]]],
+}
+
+
+def keys_and_widths_in_two_records():
+    """Keys of a letter more or less, and records of a cell less, and of one, two and 256 cells more, before
+    another faulty record."""
+    keys, widths = {}, {}
+    for before, key, cells in CELLS_OF_A_PLAN:
+        record = [key, *(cell.good for cell in cells)]
+        for other in [key + "s", key + ":", key[:3], key[:-1]]:
+            keys.setdefault(other, (before, ",".join([other, *record[1:]]), "Key"))
+        # a resource may name any number, and a leach has pairs of cells
+        others = [record[: 2 if key == "resource" else -1], *OTHER_WIDTHS.get(key, [])]
+        others += [record + ["1"] * more for more in {"resource": [], "leach": [1]}.get(key, (1, 2, 256))]
+        for other in others:
+            widths[",".join(other)] = before, ",".join(other), "Width"
+    for record in [*keys.values(), *widths.values()]:
+        yield before_a_record(*record)
+
+
+def records_again():
+    """Each record of a whole plan once more, before another faulty record, and bands of which one does not
+    rise."""
+    records = [*SIX, "resource,r,d", "limit,r,0,L,1"]
+    front = "".join(record + "|" for record in records)
+    for record in records[:2] + records[3:]:
+        yield before_a_record(front, record, "Twice")
+    for at, less in itertools.product(range(1, 16), (1, 2)):
+        cells = ",".join(f"{start - less * (start == at + 3)},0" for start in range(3, 19))
+        yield before_a_record("", f"leach,h,1,1,{cells}", "Order")
+    limited = "periods,1|dump,d,1|resource,r,d|"
+    for kind, record in [
+        ("Number", "limit,r,x,X,1"), ("Name", "limit,?,x,L,1"), ("TooFine", "limit,r,0.1,X,1"), ("Name", "limit,r,0,X,x"),
+        ("Range", "limit,r,1,X,x"), ("Name", "limit,r,0,LL,1"), ("Name", "limit,r,0,U,1"),
+    ]:
+        yield before_a_record(limited, record, kind)
+    for place in (9, 17, 21, 33, 35):
+        cells = SIXTEEN_BANDS.split(",")
+        cells[place] = "x"
+        yield before_a_record("", ",".join(cells), "Number")
+    for kind, *bands in SECOND_BAND:
+        for cells in bands if kind else ():
+            yield before_a_record("", f"leach,h,1,1,{cells}", kind)
 
 
 def ends_in_two_lines():
@@ -384,6 +476,9 @@ def ends_in_two_lines():
         line = " ".join(fields)
         yield checked(f"ends before a line: {line}", f"prec line 2: {kind}",
                       [BLOCKS, lines(f"0 1 1|{line}|x|"), b"x\n"])
+    for text, kind in near_texts(Cell("2", 0, 0, 9)):
+        yield checked(f"ends before a line: 0 2 1 {text}", f"prec line 1: {kind}",
+                      [TEN_BLOCKS, lines(f"0 2 1 {text}|x|"), b"x\n"])
     for file, good, table, texts in [
         ("pcpsp", two.of(PCPSP), LINES_OF_A_PCPSP, [BLOCKS, PREC]),
         ("cpit", two.of(CPIT), LINES_OF_A_CPIT, [BLOCKS, PREC, whole(PCPSP)]),
@@ -439,5 +534,7 @@ def trials():
     yield from before_a_later_text()
     yield from keys_before_a_later_text()
     yield from ends_in_two_records()
+    yield from keys_and_widths_in_two_records()
+    yield from records_again()
     yield from ends_in_two_lines()
     yield from powers_apart()

@@ -143,6 +143,8 @@ REPEATED_ROWS = [
         zone_file(*FAR_ROWS[:299], FAR_ROWS[400], FAR_ROWS[298], FAR_ROWS[0])]),
     ("the second and the 258th row", "0.258 0.2", [zone_file(*FAR_ROWS[:256], FAR_ROWS[0])]),
     ("the 65,538th row", "0.65538 0.2", [zone_file(*FAR_ROWS[:65_536], FAR_ROWS[0])]),
+    ("without tonnage", "0.3 0.2", [zone_file("0,0,0,0,0", "0,0,0,0,0")]),
+    ("the second without tonnage", "0.4 0.2", [zone_file("0,0,0,1,0", "10,0,0,0,1", "0,0,0,0,0")]),
     ("rows of file 10", "10.2 0.2", [
         ORE, *(zone_file(f"{file}0,0,0,1,0") for file in range(1, 10)), ORE]),
     ("rows of files 10 and 12", "12.3 10.2", [
@@ -179,6 +181,8 @@ ONE_MORE = [*SIXTY_FOUR, zone_file("0,10,0,1,0")]
 CUTS = [
     ("pieces: 65 for 64 zones", piped(zones(64), *ONE_MORE), "settings: Files"),
     ("pieces: 65 zones", piped(zones(65), *ONE_MORE), "plan row 67: TooMany"),
+    ("pieces: 65 for one zone", piped(ONE, *ONE_MORE), "settings: Files"),
+    ("pieces: 257 for one zone", piped(ONE, *[ORE] * 257), "settings: Files"),
     (
         "pieces: the last of 64 is faulty",
         piped(zones(64), *SIXTY_FOUR[:63], zone_file("0,0,0,1,?")),

@@ -4,7 +4,10 @@ The table written has what the texts show of what a plan states.
 """
 import itertools
 
-from rows.cells import LETTERS, Cell, bytes_about_a_name, pairs_of_faults, quoted, with_cell
+from rows.cells import (
+    LETTERS, Cell, bytes_about_a_name, faulty_text, pairs_of_faults, quoted, record_of,
+    two_kinds_of_faults, with_cell,
+)
 from rows.instance import WASTE, plan_of
 from rows.trial import HEADER, MARK, lines, refused, short
 from shared import compile_words
@@ -28,6 +31,19 @@ ALL_LIMITS = "periods,100|" + EIGHT_RESOURCES + "".join(
 SIXTEEN_BANDS = "leach,h,1,1" + "".join(f",{start},0" for start in range(16))
 SIXTEEN_OF_THE_MILL = SIXTEEN_BANDS.replace("leach,h", "leach,mill")
 FIVE_HUNDRED_BANDS = "leach,h,1,1" + "".join(f",{start},0" for start in range(500))
+
+# Names that are numbers, keys, or begin or end with other letters than most.
+ODD_NAMES = [
+    "0", "007", "-", "-1", "-x", "..", ".x", "x.", "_", "_-.", "mill", "name", "MILL", "1.5", "a..b", "n" * 64,
+]
+
+
+def odd_names():
+    """Each of them as the name of each kind of destination and of a resource."""
+    for at in range(len(ODD_NAMES)):
+        mill, leach, dump, resource = (ODD_NAMES[(at + more) % len(ODD_NAMES)] for more in range(4))
+        yield f"mill,{mill},1,1,1|leach,{leach},1,1,0,1|dump,{dump},1|resource,{resource},{dump},{mill},{leach}"
+
 
 # Names of 64 bytes that differ in one, and such that are the front of others.
 LONG_NAMES = ["n" * at + "m" + "n" * (63 - at) for at in (0, 7, 8, 15, 16, 30, 31, 32, 62, 63)]
@@ -112,7 +128,6 @@ FAULTS = [
     ("grid,0,0,0,10,10,10|", "Twice", "grid,1,1,1,1,1,1"),
     ("grid,0,0,0,10,10,10|", "Range", "grid,0,0,0,10,10,0"),
     ("grid,0,0,0,10,10,10|", "Number", "grid,x,0,0,10,10,10"),
-    ("periods,1|", "Range", "periods,101"),
     ("periods,1|", "Twice", "periods,100"),
     ("periods,1|", "TooFine", "periods,1.5"),
     ("rate,0|", "Twice", "rate,1"),
@@ -124,6 +139,7 @@ FAULTS = [
     (SIXTY_FOUR_ZONES, "Range", "zone,1,1,0"),
     (SIXTY_FOUR_ZONES, "Number", "zone,1,x,1"),
     (SIXTY_FOUR_ZONES, "Width", "zone,1,1"),
+    (SIXTY_FOUR_ZONES, "TooFine", "zone,1,0.5,1"),
     # destinations: one list of names, whatever their keys
     ("", "Twice", *map("|".join, itertools.product(DESTINATIONS, repeat=2))),
     ("dump,c,1|dump,d,1|", "Twice", "dump,c,1"),
@@ -135,7 +151,11 @@ FAULTS = [
     (EIGHT_DUMPS, "Twice", "dump,a,1", "dump,h,1", "leach,h,1,1,2,300,2,400"),
     (EIGHT_DUMPS, "Range", "dump,i,10000001"),
     (EIGHT_DUMPS, "Name", "dump,?,1"),
-    (EIGHT_DUMPS, "Number", "mill,a,1,1,x"),
+    (EIGHT_DUMPS, "Width", "dump,i", "mill,i,1,1", "leach,i,1,1,0"),
+    (EIGHT_DUMPS, "Number", "mill,a,1,1,x", "dump,i,x", "leach,i,1,x,0,1", "leach,i,1,1,0,x"),
+    (EIGHT_DUMPS, "TooFine", "dump,i,0.5", "mill,i,1,1,0.5", "leach,i,1,1,0,0.5"),
+    (EIGHT_DUMPS, "Range", "mill,i,1001,1,1", "leach,i,1,1,0,1001"),
+    (EIGHT_DUMPS, "Name", "mill,?,1,1,1", "leach,?,1,1,0,1"),
     (EIGHT_DUMPS, "Order", "leach,i,1,1,2,300,2,400", "leach,i,1,1,5,1,3,2", "leach,i,1,1,0,0,0,0"),
     # resources name earlier destinations, each once
     ("dump,d,1|", "Missing", "resource,d,d", "resource,r,d|resource,R,d"),
@@ -147,6 +167,15 @@ FAULTS = [
     ("dump,d,1|", "Twice", "resource,r,d,d", "resource,r,d|resource,r,d"),
     ("dump,d,1|", "Twice", "resource,q,d|resource,r,d|resource,q,d"),
     ("dump,d,1|dump,e,1|", "Twice", "resource,r,d,e,d", "resource,r,e,d,e"),
+    (EIGHT_DUMPS, "Twice", "resource,r,a,b,c,b", "resource,r,a,b,a,c", "resource,r,a,b,c,d,e,f,g,h,h",
+     "resource,r,a,b,c,d,e,f,g,h,a"),
+    (EIGHT_DUMPS + "resource,r,a|", "TooMany", "dump,i,1", "mill,i,1,1,1", "leach,i,1,1,0,1"),
+    (EIGHT_DUMPS.replace("dump,h,1|", ""), "Missing", "mill,h,1,1,1", "leach,h,1,1,0,1"),
+    ("dump,d,1|resource,r,d|", "Width", "resource,r", "resource"),
+    # names that are near to others
+    ("dump,a.b,1|", "Missing", "dump,a_b,1|dump,ab,1|dump,a-b,1|dump,7,1|dump,007,1|dump,07,1|resource,r,7"),
+    ("dump,a.b,1|dump,007,1|", "Name", "resource,r,a_b", "resource,r,ab", "resource,r,7", "resource,r,0"),
+    ("dump,d,1|resource,a.b,d|", "Missing", "resource,a_b,d|resource,ab,d|resource,7,d|resource,007,d"),
     (EIGHT_RESOURCES, "Missing", ""),
     (EIGHT_RESOURCES, "TooMany", "resource,i,d", "resource,A,d", "resource,dd,d"),
     (EIGHT_RESOURCES, "Twice", "resource,a,d", "resource,i,d,d"),
@@ -206,6 +235,8 @@ FAULTS = [
     (LIMITED, "Order", "limit,r,0,I,1000000000000,999999999999.999999",
      "limit,r,0,I,999999999999.999999,999999999999.999998",
      "limit,r,0,I,500000000000.000001,500000000000"),
+    # powers of two millionths
+    (LIMITED, "Missing", "limit,r,0,I,1,4294.967296", "limit,r,0,I,1,9007199254.740992"),
     (LIMITED, "Missing", "limit,r,0,I,999999999999.999999,1000000000000",
      "limit,r,0,I,999999999999.999998,999999999999.999999"),
     # a limit that stands twice behind many others
@@ -267,7 +298,33 @@ FAULTS = [
     ("", "Name", '"name" ,"o""e"', 'name,"o,e"', "name,'one'", "name,one\u00a0", "name,on\u00e9"),
     ("", "Name", "name,one\u2009", "name,\u2009one", "name,o\u200bne", "name,\ufeffone"),
     ("", "Missing", 'name,"one'),
+    ("", "Missing", *odd_names()),
+    # bytes that some programs take for the end of a record, of a cell or of all, or leave out
+    ("", "Name", "name,one\x0c", "name,one\x1e", "name,one\0", "name,one\x1a", 'name,o"ne',
+     "name,one" + " " * 70_000 + "x"),
+    ("", "Key", "# x", "% x", "//,x", "name;one", "name\tone", ' "name",one', '"name\n",one', "'name',one"),
+    ("", "Width", "name,one" + "," * 70_000 + "x", 'name,"one\\",two"'),
+    (LIMITED, "Name", 'limit,r,0,"L"x,1', 'limit,r,0,"L""",1'),
+    # each once-record again behind a resource and a limit
+    ("|".join(SIX) + "|resource,r,d|limit,r,0,L,1|", "Twice", "name,one", "grid,0,0,0,10,10,10", "periods,1", "rate,0.1"),
+    # many destinations, of which one is unknown, and as many cells of a resource as there are
+    ("dump,d,1|", "Name", "resource,r,e" + ",d" * 40, "resource,r" + ",e" * 17),
+    # all but one of what there has to be, beside a resource
+    ("", "Missing", *("|".join([*SIX[:at], *SIX[at + 1 :], "resource,r,d"]) for at in (0, 1, 2, 4, 5))),
 ]
+
+
+def repeated_with_a_fault():
+    """A record that may not stand again, again with a faulty cell or a cell more, and the kind, which is not
+    Twice."""
+    for before, key, cells in CELLS:
+        record = [key, *(cell.good for cell in cells)]
+        others, last = [([*record, "1"], "Width")], cells[-1]
+        if last.decimals is not None:
+            kinds = ("Number", "TooFine", "Range")
+            others += [([*record[:-1], faulty_text(last, kind)], kind) for kind in kinds]
+        for other, kind in others if key not in ("zone", "resource") else ():
+            yield f"{before}{','.join(record)}|{','.join(other)}", kind
 
 # Other plans, by their first faulty record.
 PLANS = [
@@ -341,10 +398,25 @@ def bands(first, changed, less):
     return ",".join(f"{at - less * (at == changed)},0" for at in range(first, first + 16))
 
 
+# What is faulty in the second band of a leach, as in its first.
+SECOND_BAND = [
+    (kind, *(f"0,1,{record_of([text])},1" for text in texts)) for kind, texts in [
+        ("Range", ["-0.000001", "-1", "1000000.000001", "18446744073709.551616"]),
+        ("TooFine", ["1.0000001", "1000001.0000001"]), ("Number", ["1e0", "-", "+-1", "0,5", "x"]),
+    ]
+] + [
+    (kind, *(f"0,1,2,{record_of([text])}" for text in texts)) for kind, texts in [
+        ("Range", ["-1", "1001", "281474976710656", "65536"]), ("TooFine", ["0.5", "1000.1", "1001.1", ".1"]),
+        ("Number", ["1e0", "-", "+-1", "0,5", "x"]),
+    ]
+] + [(TAKEN, "0,1,+2.,+1.", "0,1,02.0000000,01.0", "0,1,.5,.0", "0,1,2,-0", "0,1,2,1000", "0,1,1000000,0",
+      f"0,1,{'0' * 50}2,{'0' * 50}1")]
+
+
 # Which lists are bands: the ranges and the order of their starts, each at its edge and at each
 # place.
 BANDS = [
-    (TAKEN, "0,0", "1000000,1000", "0.000001,500,0.000002,400"),
+    (TAKEN, "0,0", "1000000,1000", "0.000001,500,0.000002,400", "999999.999999,1,1000000,2"),
     ("Number", ",,3,300", "1,300,,,2,400", ",,,,2,300", "1,300,,400", "1,300,2,,3,400"),
     ("Order", *(bands(0, at, 1) for at in range(1, 16))),
     ("Order", *(bands(2, at, 2) for at in range(3, 18))),
@@ -367,6 +439,11 @@ MARKED = [
     ("marks_and_nothing: a blank and a mark", b" " + MARK + WASTE, "row 1: Key"),
     ("marks_and_nothing: a blank line and a mark", b"\n" + MARK + WASTE, "row 1: Key"),
     ("marks_and_nothing: a mark and a blank line", MARK + b"\r\n" + WASTE, TAKEN),
+    ("marks_and_nothing: two bytes of a mark", MARK[:2] + WASTE, "row 1: Key"),
+    ("marks_and_nothing: a mark of UTF-16", b"\xFF\xFE" + WASTE, "row 1: Key"),
+    ("marks_and_nothing: another one", b"\xFE\xFF" + WASTE, "row 1: Key"),
+    ("marks_and_nothing: the byte 85", b"name,one\x85periods,1\x85", "row 1: Width"),
+    ("marks_and_nothing: the byte 85 at an end", b"name,one\x85", "row 1: Name"),
     ("marks_and_nothing: nothing", b"", "row 1: Missing"),
     ("marks_and_nothing: a mark alone", MARK, "row 1: Missing"),
 ]
@@ -418,7 +495,7 @@ def last_told(name, before, key, cells, kind=None):
     """A record of these cells behind what stands before it, and the kind of its fault."""
     row = before.count("|") + 1
     answer = f"row {row}: {kind}" if kind else f"row {row + 1}: Missing"
-    return told(name, lines(before + ",".join([key, *cells])), answer)
+    return told(name, lines(before + record_of([key, *cells])), answer)
 
 
 def faults_of_cells(before, key, cells):
@@ -438,6 +515,8 @@ def faults_of_cells(before, key, cells):
                     yield told_of("cells_of_a_plan", with_cell(cells, at, text), kind)
     for texts, kind in pairs_of_faults(cells):
         yield told_of("two_faulty_cells", texts, kind)
+    for texts, kind in two_kinds_of_faults(cells):
+        yield told_of("two_kinds_of_faults", texts, kind)
 
 
 def spellings_of_a_key(before, key, cells):
@@ -448,7 +527,7 @@ def spellings_of_a_key(before, key, cells):
     for other in [key.upper(), *capitals]:
         name = f"keys_in_capitals: {','.join([other, *goods])}"
         yield last_told(name, before, other, goods)
-    for other in [key[1:], key[:-1], key + "s", key + "_", "_" + key, key + "-" + key]:
+    for other in [key[1:], key[:-1], key + "s", key + ":", key + "_", "_" + key, key + "-" + key]:
         name = f"no_keys: {','.join([other, *goods])}"
         yield last_told(name, before, other, goods, "Key")
 
@@ -472,12 +551,18 @@ def names():
         answer = "row 3: Missing" if length <= 64 else "row 2: Name"
         plan = lines(f"dump,d,1|{key},{'a' * length}{rest}")
         yield told(f"length_of_a_name: {key}, {length} bytes", plan, answer)
-    for letter in [*LETTERS, "LL", "GL", "<=", "1"]:
+    for (key, rest), name in itertools.product(list(keys.items())[1:], NO_NAMES):
+        plan = lines(f"dump,d,1|{key},{name}{rest}")
+        yield told(f"no_names: {key}, {name}", plan, "row 2: Name")
+    for letter in [*LETTERS, "LL", "GL", "LE", "GE", "IN", "<", "<=", ">", ">=", "=", "1"]:
         cells = "3,3" if letter == "I" else "3"
         answer = "row 5: Missing" if letter in ("L", "G", "I") else "row 4: Name"
         plan = lines(f"{LIMITED}limit,r,0,{letter},{cells}")
         yield told(f"letters_of_limits: {letter}", plan, answer)
 
+
+# What is near to a name, and is none.
+NO_NAMES = ["a b", "a/b", "a:b", "a+b", "'a'", "a\u00e9", "a\u00a0", "*", "\uff41"]
 
 # Lines that are near to that at which the pipe form cuts, as records of a plan.
 NEAR_CUTS = ["-", "---", "-- ", " --", "\t--", "- -", "--,,", "==", "--x", "x--", '"--"', "\u2013"]
@@ -529,6 +614,8 @@ def table():
         for plan in (front + record for record in records):
             row = plan.rstrip("|").count("|") + 1 + (kind == "Missing")
             yield plan, f"row {row}: {kind}"
+    for plan, kind in repeated_with_a_fault():
+        yield plan, f"row {plan.count('|') + 1}: {kind}"
 
 
 def trials():
@@ -551,6 +638,7 @@ def trials():
         yield told_by_compile(f"plan_table: {plan}", lines(plan), answer)
     yield from of_the_mill("mills_and_leaches", "", LAST_RECORDS)
     yield from of_the_mill("bands_that_are_refused", "leach,h,1,1,", BANDS)
+    yield from of_the_mill("second_band", "leach,h,1,1,", SECOND_BAND)
     yield from records_twice()
     yield from long_records()
     for name, plan, answer in MARKED:

@@ -5,8 +5,9 @@ import random
 import re
 from typing import NamedTuple, Optional, Sequence, Union
 
+from rows import fullest
 from rows.cells import (
-    BLANKS, EVERY_BYTE, LETTERS, Cell, bytes_about_a_name, pairs_of_faults, with_cell,
+    BLANKS, EVERY_BYTE, LETTERS, Cell, bytes_about_a_name, pairs_of_faults, two_kinds_of_faults, with_cell,
 )
 from rows.instance import LIMITED_TEXTS, NO_BLOCK, ONE_ORE_BLOCK, at, heading
 from rows.trial import MARK, Trial, lines, refused, short
@@ -119,12 +120,13 @@ HEADER_NUMBERS = {
 FAULTS_OF_A_PCPSP = [
     ("NAME", "Fields", "NAME:", "NAME: one two"),
     ("NAME", "Name", "NAME: o/e", 'NAME: "one"', "NAME: one\r ", "NAME: one%", "NAME: one,"),
+    ("NAME", "Name", "NAME: a:b", "NAME: a+b", "NAME: one:", "NAME: " + "n" * 65, "NAME: on\u00e9"),
     ("NAME", "Key", "NAMES: one", "name: one", "one", "NAME = one", "NAME one", "NAME; one",
      "N AME: 1"),
     ("TYPE", "Key", "TYPE = PCPSP", "TY PE: PCPSP"),
-    ("TYPE", "Name", "TYPE: CPIT", "TYPE: pcpsp"),
+    ("TYPE", "Name", "TYPE: CPIT", "TYPE: pcpsp", "TYPE: PCPSPS", "TYPE: PCPS", "TYPE: UPIT", "TYPE: Pcpsp"),
     ("TYPE", "Twice", "NAME: one"),
-    ("NBLOCKS", "Count", "NBLOCKS: 3", "NBLOCKS: 64000000"),
+    ("NBLOCKS", "Count", "NBLOCKS: 3", "NBLOCKS: 64000000", "NBLOCKS: 1", "NBLOCKS: 0"),
     ("NBLOCKS", "Range", "NBLOCKS: 64000001"),
     ("NBLOCKS", "Number", "NBLOCKS: x"),
     ("NBLOCKS", "TooFine", "NBLOCKS: 2.5"),
@@ -201,6 +203,10 @@ FAULTS_OF_A_PCPSP = [
     ("OBJECTIVE+2", "Order", "0 12000 -2000", "00 12000 -2000", "-0 1 1"),
     ("LIMITS+3", "Key", before("LIMITS+3", "EOF:"), before("LIMITS+3", "OBJECTIVE_FUNCTION:")),
     ("LIMITS+3", "Fields", before("LIMITS+3", "EOF"), before("LIMITS+3", "0 1 I")),
+    ("LIMITS+3", "Key", before("LIMITS+3", "NPERIODS: 2"), before("LIMITS+3", "NAME: one")),
+    ("OBJECTIVE+1", "Missing", Change("OBJECTIVE+1", 2, [])),
+    ("LIMITS+1", "Name", "0 0 LL 1", "0 0 i 1"), ("LIMITS+1", "Fields", "0 0 i 1 2"),
+    ("LIMITS", "Order", before("COEFFICIENTS+1", "1 1 0 5"), before("COEFFICIENTS+1", "0 1 0 5")),
     # the last line of a section
     ("OBJECTIVE+2", "TooFine", "1 0 0.0000001"),
     ("LIMITS", "Fields", before("LIMITS", "1 0 0")),
@@ -259,10 +265,12 @@ LIMITS_BEHIND = [
 ]
 
 FAULTS_OF_A_CPIT = [
-    ("TYPE", "Name", "TYPE: PCPSP"),
+    ("TYPE", "Name", "TYPE: PCPSP", "TYPE: cpit", "TYPE: CPITS", "TYPE: CPI", "TYPE: UPIT", "TYPE: Cpit"),
     ("NRESOURCE_SIDE_CONSTRAINTS", "Key", before("NRESOURCE_SIDE_CONSTRAINTS", "NDESTINATIONS: 2"),
      before("NRESOURCE_SIDE_CONSTRAINTS", "NGENERAL_SIDE_CONSTRAINTS: 0")),
-    ("NAME", "Name", 'NAME: "one"', "NAME: one\r "),
+    ("NAME", "Name", 'NAME: "one"', "NAME: one\r ", "NAME: o/e"),
+    ("NAME", "Name", "NAME: a:b", "NAME: a+b", "NAME: one:", "NAME: " + "n" * 65, "NAME: on\u00e9"),
+    ("LIMITS+3", "Key", before("LIMITS+3", "NPERIODS: 2"), before("LIMITS+3", "NAME: one")),
     ("NAME", "Key", "NAME = one", "NAME one"),
     ("RATE", "Key", "DISCOUNT RATE: 0.1", "DISCOUNT_RATE = 0.1", "DISCOUNT-RATE: 0.1"),
     ("OBJECTIVE", "Key", "OBJECTIVE FUNCTION:", "OBJECTIVE-FUNCTION:", "OBJECTIVE_FUNCTION"),
@@ -277,6 +285,7 @@ FAULTS_OF_A_CPIT = [
     ("TYPE", "Fields", "TYPE: CPIT % x"),
     ("OBJECTIVE+1", "Fields", "0 12000 % x", "0 12000 %"),
     ("OBJECTIVE+1", "Number", "0 %"),
+    ("OBJECTIVE+1", "Missing", Change("OBJECTIVE+1", 2, [])),
     ("COEFFICIENTS+1", "Fields", "0 0 1000 % x"),
     ("LIMITS+1", "Fields", "0 0 L 500.5 % x"),
     ("LIMITS+1", "Order", "0 0 I 1000000000000 999999999999.999999"),
@@ -292,7 +301,9 @@ FAULTS_OF_A_CPIT = [
     ("COEFFICIENTS+1", "Range", "2 0 1000"),
     ("LIMITS", "Order", before("COEFFICIENTS+1", "0 0 7")),
     ("LIMITS+1", "Fields", "0 0 G", "0 0", "0", "0 0 IN 1 2", "0 0 I 1"),
-    ("LIMITS+1", "Name", "0 0 E 1", "0 0 IN 1", "0 0 < 1"),
+    ("LIMITS+1", "Name", "0 0 E 1", "0 0 IN 1", "0 0 < 1", "0 0 LL 1", "0 0 i 1"),
+    ("LIMITS+1", "Fields", "0 0 i 1 2"),
+    ("LIMITS", "Order", before("COEFFICIENTS+1", "1 0 5")), ("OBJECTIVE+1", "Order", "1 12000"),
     ("LIMITS+1", "Number", "0 0 G -inf", "0 0 L %"),
     ("LIMITS+1", "Range", "1 0 L 1", "0 2 I 2 1"),
     ("LIMITS+1", "Order", "0 0 I 2.000001 2", "0 0 I 0 -0.000001"),
@@ -300,7 +311,7 @@ FAULTS_OF_A_CPIT = [
     ("LIMITS+3", "Order", before("LIMITS+3", "0 1 I 0 900"), before("LIMITS+3", "0 0 L 1")),
     ("LIMITS+3", "Fields", before("LIMITS+3", "EOF")),
     ("LIMITS+3", "Key", before("LIMITS+3", "EOF:")),
-    ("NBLOCKS", "Count", "NBLOCKS: 3"),
+    ("NBLOCKS", "Count", "NBLOCKS: 3", "NBLOCKS: 1", "NBLOCKS: 0"),
     ("NPERIODS", "Range", "NPERIODS: 101"),
     ("RATE", "TooFine", "DISCOUNT_RATE: 0.0000001"),
     ("RATE", "Twice", "NAME: one"),
@@ -322,6 +333,7 @@ HOSTILE_CPIT = [
 # of two blocks.
 FAULTS_OF_BLOCKS = [
     ("blocks line 1: Fields", b"0 0 0 0 1000 5000\n", b"0 0 0 0 1000 5000 0 0\n"),
+    ("blocks line 1: Fields", b"0;0;0;0;1000;5000;0\n", b"0,0,0,0,1000,5000,0\n"),
     ("blocks line 2: Order", b"\n1 0 0 0 1000 5000 0\n"),
     ("blocks line 1: Order", b"1 0 0 0 1000 5000 63", b"63999999 0 0 0 1000 5000 0"),
     ("blocks line 1: Range", b"1 0 0 0 1000 5000 64", b"1 0 0 0 -1 5000 0", b"-1 0 0 0 1 5000 0"),
@@ -357,11 +369,14 @@ FAULTS_OF_BLOCKS = [
 FAULTS_OF_PRECEDENCES = [
     ("prec line 1: Missing", b""),
     ("prec line 2: Missing", b"0 1 1\n"),
+    ("prec line 3: Missing", b"% none\n \t\n"),
+    ("prec line 4: Missing", b"0 1 1\n% x\n\n"),
     ("prec line 1: Fields", b"0\n1 0\n"),
     ("prec line 1: Order", b"1 0\n1 0\n"),
     ("prec line 3: Order", b"0 1 1\n1 0\n1 0\n"),
     ("prec line 1: Count", b"0 0 1\n1 0\n", b"0 1\n1 0\n"),
     ("prec line 1: Twice", b"0 1 0\n1 0\n"),
+    ("prec line 1: Count", b"0 1 0 0\n1 0\n", b"0 0 0\n1 0\n"),
     ("prec line 1: Range", b"0 1 2\n1 0\n", b"0 2 1 1\n1 0\n"),
     ("prec line 2: Range", b"0 1 1\n1 -1\n"),
     ("prec line 2: Order", b"0 1 1\n0 0\n", b"0 1 1\n0 0 1\n", b"0 1 1\n0 1 1 1\n"),
@@ -424,6 +439,8 @@ NINE_ABOVE = [
     ("prec line 2: Twice", b"0 5 2 4 5 6 8\n1 1 1\n2 0\n"),
     ("prec line 2: Order", b"0 5 2 4 5 6 8\n2 0\n"),
     ("prec line 1: Twice", b"0 5 2 4 5 8 4\n1 0\n2 0\n"),
+    ("prec line 2: Twice", b"0 0\n1 2 0 0\n2 0\n"),
+    ("pcpsp line 1: Missing", b"0 0\n1 2 2 0\n2 3 9 1 0\n"),
 ]
 
 # The first line of a precedence file of ten blocks, with two things that are faulty or one that is
@@ -440,6 +457,9 @@ LINES_OF_TEN = [
     ("Twice", "0 2 1 01", "0 2 1. 1", "0 3 2 1 02.0", "0 3 9 8 +9", "0 9 1 2 3 4 5 6 7 8 08",
      "0 1 00", "+0 2 1 -0", "0 3 5 0.0 1"),
     (None, "0 9 1 2 3 4 5 6 7 8 9", "0 9 9 8 7 6 5 4 3 2 1", "0 3 5 1 3", "-0 +1 09.00"),
+    (None, "0 2 1 +2", "0 2 1 2.", f"0 2 1 2.{'0' * 50}", f"0 2 1 {'0' * 50}2"),
+    ("Number", "0 2 1 1e0", "0 2 1 -", "0 2 1 +-2", "0 2 1 2,0"),
+    ("Range", "0 2 1 281474976710658", "0 2 1 258", "0 2 1 -2"), ("TooFine", "0 2 1 10.1", "0 2 1 2.1"),
 ]
 
 # Precedences and a model file that no block has. A text that is a byte order mark alone has no
@@ -457,7 +477,7 @@ TEXTS_OF_NO_BLOCK = [
 # Lines that are skipped, and others, which have one field or none of their own, and no colon. The
 # byte FF stands as U+DCFF.
 SKIPPED = [
-    "", " ", "\t \t", "\r", " \t\r", "%", "% a: b", "  % x", "\t%x\r", "%%", "% \udcff", "% \0", "% x\rx",
+    "", " ", "\t", "\t \t", "\r", " \t\r", "%", "% a: b", "  % x", "\t%x\r", "%%", "% \udcff", "% \0", "% x\rx",
 ]
 NOT_SKIPPED = ["\r\r", "\v", "\f", "#", "//%", "\0", "\r%", ";"]
 
@@ -561,6 +581,8 @@ TAKEN = [
         + ["0 2 L 5", "1 0 L 5", "1 2 I 5 5"]), "blocks 2 arcs 1 coefficients 1 limits 2 cpit 1"),
     ("spelled_numbers: eleven blocks", (ELEVEN_BLOCKS, ELEVEN_PREC, ELEVEN_PCPSP, ELEVEN_CPIT),
      "blocks 11 arcs 3 coefficients 3 limits 3 cpit 2"),
+    ("spelled_numbers: as much as a plan may hold, in lines that end in CR LF",
+     [fullest.TEXTS[ending].replace(b"\n", b"\r\n") for ending in CHECKED], fullest.COUNTS),
     ("many_predecessors: 8,192", many_predecessors(8_192),
      "blocks 8193 arcs 8192 coefficients 0 limits 0"),
     ("many_predecessors: 70,000", many_predecessors(70_000),
@@ -597,6 +619,7 @@ def lines_like(fields, others):
         for text, kind in field.faults() if field.decimals is None else []:
             yield with_cell(fields, at, text), kind
     yield from pairs_of_faults(fields)
+    yield from two_kinds_of_faults(fields)
 
 
 def fields_of(place, kinds_of_lines, texts_with, counts):
@@ -655,7 +678,7 @@ def lines_of_sections(file, good, lines_of, texts_of, counts):
 
 def letters_of(place, texts_with, counts):
     """Limits of each letter: those of four fields, and but for an interval those of five."""
-    for letter in [*LETTERS, "LL", "<=", "1"]:
+    for letter in [*LETTERS, "LL", "LE", "GE", "IN", "<", "<=", ">", ">=", "=", "1"]:
         name = f"letters_of_limits: {place}: {letter}"
         kind = {"L": None, "G": None, "I": "Fields"}.get(letter, "Name")
         yield answered(name, texts_with(f"0 0 {letter} 2"), place, kind, counts)
@@ -739,6 +762,7 @@ def spellings_of_a_key(of, number, line):
     for other in [
         key.lower(), key.title(), key[:-1] + key[-1].lower(), key[1:], key[:-1], key + "S",
         f"x {key}", f"{key} x", f"{key}.", "",
+        *(key.replace("_", other) for other in (" ", "-", "") if "_" in key),
     ]:
         name = f"no_keys: {other} for {key}"
         yield of.answered(name, put(number, f"{other}:{value}"), number, "Key")
@@ -799,6 +823,8 @@ def words_of_headers(of):
         kind = None if length <= 64 else "Name"
         name = f"length_of_a_name: {length}"
         yield of.answered(name, put("NAME", "NAME: " + "a" * length), 1, kind)
+    for name in ("NAME", "..", "a..b", "periods", "1.5", "EOF"):
+        yield of.answered(f"names_of_instances: {name}", put("NAME", f"NAME: {name}"))
     far = put("NAME", "NAME:" + " " * 1_000_000 + "one")
     yield of.answered("a_name_behind_a_million_blanks", far)
     right = of.file.upper()
@@ -843,6 +869,8 @@ def lines_between():
             changed = text.replace(b"\n", f"\n{line}\n".encode(errors="surrogateescape"), 1)
             kind = None if line in SKIPPED else "Fields" if is_line else "Key"
             yield answers(f"lines_between: {file}: {line!r}", changed, 2, kind)
+        kind, changed = "Number" if is_line else "Key", b"\n" + MARK + text
+        yield answers(f"ends_of_lines: {file}: a line end and a mark", changed, 2, kind)
         tabbed = text.replace(b" ", b" \t ").replace(b"\n", b"\t \n  ")
         for name, changed, kind in [
             ("CR LF", text.replace(b"\n", b"\r\n"), None),
@@ -853,6 +881,9 @@ def lines_between():
             ("two CRs", text.replace(b"\n", b"\r\r\n"), "Number" if is_line else "Name"),
             ("two marks", MARK + MARK + text, "Number" if is_line else "Key"),
             ("a blank and a mark", b" " + MARK + text, "Number" if is_line else "Key"),
+            ("two bytes of a mark", MARK[:2] + text, "Number" if is_line else "Key"),
+            ("a mark of UTF-16", b"\xFF\xFE" + text, "Number" if is_line else "Key"),
+            ("another mark of UTF-16", b"\xFE\xFF" + text, "Number" if is_line else "Key"),
         ]:
             yield answers(f"ends_of_lines: {file}: {name}", changed, 1, kind)
 
@@ -908,7 +939,7 @@ def long_lines():
         blocks = f"0 0 0 0 1 0 0\n1 0 0 0 1 0 0{fields}\n".encode()
         yield faulty(f"long_lines: blocks, {more}", (blocks, PREC, b""), "blocks line 2: Fields")
         for file, good, texts_of in [("pcpsp", PCPSP, with_pcpsp), ("cpit", CPIT, with_cpit)]:
-            for line in LINES_OF_EACH_KIND:
+            for line in LINES_OF_EACH_KIND if more < 65_536 else range(1, len(good) + 1):
                 number = number_of(good, line)
                 texts = texts_of(put(number, good[number - 1] + fields).of(good))
                 name = f"long_lines: {file} line {number}, {more}"
@@ -1051,7 +1082,39 @@ def late_lines():
         yield faulty(name, changed, f"{file} line {place}: Fields")
 
 
+# How many predecessors stand, and what `k` says in their place.
+OTHER_COUNTS = [(300, 44), (5_000, 904), (70_000, 4_464)]
+
+
+def far_lines():
+    """What is faulty far behind, or of many: another count, a predecessor that stands twice, an identifier that is
+    a power of two less, a mark alone, and intervals that end at a power of two millionths."""
+    for count, told in OTHER_COUNTS:
+        blocks, prec, pcpsp = many_predecessors(count)
+        line = prec.replace(f"0 {count} ".encode(), f"0 {told} ".encode(), 1)
+        yield faulty(f"far_lines: {told} for {count}", (blocks, line, pcpsp), "prec line 1: Count")
+    blocks, prec, pcpsp = many_predecessors(5_000)
+    cpit = pcpsp.replace(b"PCPSP", b"CPIT").replace(b"NDESTINATIONS: 1\n", b"").replace(
+        b"NGENERAL_SIDE_CONSTRAINTS: 0\n", b"")
+    texts = [blocks, prec, pcpsp, cpit]
+    for place, file in enumerate(CHECKED):
+        at = texts[place].rindex(b"\n5000 ") + 1
+        changed = texts[place][:at] + b"904 " + texts[place][at + 5 :]
+        line = texts[place][:at].count(b"\n") + 1
+        texts_with = [*texts[:place], changed, *texts[place + 1 :]]
+        yield faulty(f"far_lines: 904 for 5000 in {file}", texts_with, f"{file} line {line}: Order")
+    for again in (b" 4999 4999\n", b" 1 5000\n"):
+        line = prec.replace(b" 4999 5000\n", again, 1)
+        yield faulty(f"far_lines: predecessors that end with{again}", (blocks, line, b"x\n"), "prec line 1: Twice")
+    yield faulty("far_lines: a CPIT that is a mark", (b"", b"", NO_PCPSP, MARK), "cpit line 1: Missing")
+    for ends in ("1 4294.967296", "1 9007199254.740992", "1 18446744073709.551616"):
+        for texts_of, good, more in ((with_pcpsp, PCPSP, ""), (with_cpit, CPIT, " cpit 1")):
+            texts = texts_of(put("LIMITS+1", f"0 0 I {ends}").of(good))
+            yield answered(f"far_lines: I {ends}{more}", texts, None, None, TWO_BLOCKS + more)
+
+
 def trials():
+    yield from far_lines()
     yield from lines_of_nothing()
     yield from same_places()
     yield from late_lines()

@@ -6,7 +6,7 @@ arguments, of faulty inputs and of the file that it writes.
 import itertools
 import random
 
-from rows import thin_files
+from rows import fullest, thin_files
 from rows.cells import shortest
 from rows.cones import BOUNDARIES
 from rows.trial import Trial, zone_file
@@ -275,6 +275,16 @@ def of_holes():
         yield thinned(f"half of the blocks: {name}", cells, zones, masses=UNLIKE)
 
 
+def of_fullest():
+    """A plan that holds as much as it may, plain and with keys in mixed letters."""
+    lists = [list(map(int, line.split()[2:])) for line in fullest.TEXTS["prec"].splitlines()]
+    zones = {f"zone{number}": text for number, text in enumerate(fullest.ZONES)}
+    for number, plan in enumerate([fullest.PLAN, *fullest.DRESSED]):
+        yield Trial(
+            f"as much as a plan may hold, {number}", words=["--plan", "plan", "--out", "thin", *zones],
+            files={"plan": plan, **zones}, **written(text_of(left_of(lists)), lists))
+
+
 def cross(side, z, y, x):
     """The list of a block of a box of this side: itself and its four sides, a bench higher."""
     places = [(x, y - 1), (x - 1, y), (x, y), (x + 1, y), (x, y + 1)]
@@ -314,5 +324,6 @@ def trials():
     yield from of_places()
     yield from of_wide_cones()
     yield from of_holes()
+    yield from of_fullest()
     yield from of_large_models()
     yield from thin_files.trials()

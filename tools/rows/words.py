@@ -112,7 +112,7 @@ REFUSED = [
         for more in [
             # what narrower counts would take for 1
             *(f" {2**bits + 1}" for bits in (16, 32, 64, 128)),
-            "=", " x", " 0x4", " 1e1", " 4x", " 4,", " ++4", " \u0664", f" -{most}", f"={most}.",
+            "=", "=-4", " x", " 0x4", " 1e1", " 4x", " 4,", " ++4", " \u0664", f" -{most}", f"={most}.",
         ]
     ),
     "compile --plan one.plan --out base ore.csv --valuers 257",
@@ -129,10 +129,11 @@ REFUSED = [
                 "--pla", "--p", "-p", "-plan", "--PLAN", "--Plan", "plan", "---plan", "--plans",
                 "\u2013plan", "/plan",
             ]),
-            *(("--plan", out, "") for out in ["--ou", "-o", "-out", "--OUT", "--output"]),
+            *(("--plan", out, "") for out in ["--ou", "-o", "-out", "--OUT", "--output", "--outs"]),
             *(("--plan", "--out", more) for more in [
                 "--val 4", "--v 4", "-v 4", "-v4", "--valuer 4", "--VALUERS 4", "--threads 4",
-                "-j4", "--cap 4", "-c 4", "--Capacity 4", "--valuers:4", "--version", "-q",
+                "-j4", "--valuerss 4", "--capacitys 4", "--cap 4", "-c 4", "--Capacity 4",
+                "--valuers:4", "--version", "-q",
                 "--help=1", "--capacity 5 --capacity 6", "--capacity 5 --capacity 5",
                 "--capacity=5 --valuers 2 --capacity 6", "--valuers=1 --valuers=2",
             ]),

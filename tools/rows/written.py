@@ -4,6 +4,7 @@ What is not written out here follows by a formula of its own, or by the plain co
 """
 import itertools
 
+from rows import fullest
 from rows.cells import CUT, Cell, shortest, spelled, unusual, with_cell
 from rows.instance import arcs_of, heading, plain_texts, plan_of, sections
 from rows.trial import HEADER, Parts, Trial, lines, piped, short, zone_file
@@ -33,6 +34,8 @@ GRIDS = [
     ("-30.5,-1000000000,999999999.5,0.5,100,0.001", "-30,-999999800,999999999.503"),
     ("0.001,-0.001,-5,10,20,5", "10.001,39.999,10"),
     ("1000000000,-0.5,0,0.001,0.5,99.999", "1000000000.001,0.5,299.997"),
+    ("0,1000000000,-1000000000,1,1,1", "1,1000000002,-999999997"),
+    ("0,-1000000000,1000000000,1,1,1", "1,-999999998,1000000003"),
 ]
 
 # A name, a plan, the rows of a zone file, and parts of the texts.
@@ -455,6 +458,8 @@ def trials():
     yield at_every_edge("16 bands at the end", [(10**12 - 15 + at, 900 + at) for at in range(16)])
     yield at_every_edge("the greatest start", [(10**6, 300), (2_500_000, 450), (10**12, 0)])
     yield at_every_edge("the least start", [(0, 1000)])
+    given = piped(fullest.PLAN, *fullest.ZONES)
+    yield Trial("as much as a plan may hold", given=given, out=sections(fullest.TEXTS))
     yield from narrow_worths()
     yield from spellings_of_a_plan()
     yield from spellings_of_rows()

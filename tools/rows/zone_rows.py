@@ -3,7 +3,7 @@ most rows; then the same as the second file of two, by `compile` too."""
 import itertools
 
 from rows.cells import (
-    BLANKS, EVERY_BYTE, Cell, pairs_of_faults, quoted, shortest, with_cell,
+    BLANKS, EVERY_BYTE, Cell, pairs_of_faults, quoted, record_of, shortest, two_kinds_of_faults, with_cell,
 )
 from rows.instance import OTHER_ORE, WASTE, at, plan_of
 from rows.trial import ANY, HEADER, MARK, Part, Trial, lines, piped, refused
@@ -30,8 +30,12 @@ NO_COLUMNS = {
     "y": ["yc", "\u00fd", "northing"],
     "z": ["\u017c", "rl"],
     "tonnes": ["tonne\u017f", "ton nes", "tonnage", "t"],
-    "grade": ["gr\u00e0de", "grade_gpt", "au", "degra"],
+    "grade": ["gr\u00e0de", "grade_gpt", "au", "degra", "gra de"],
 }
+
+# With a unit behind it, a point or a hyphen a name is that of another column.
+for _column, _names in NO_COLUMNS.items():
+    _names += [f"{_column}{end}" for end in (" (m)", "_m", ".", "-", "c", "\u00b2")]
 
 # How often a column stands, by the fault of its header.
 TIMES = {"MissingColumn": 0, "TwiceColumn": 2}
@@ -48,6 +52,17 @@ HEADERS = [
     ("grade: TwiceColumn", "x,y,z,tonnes,grade,grade\t", "x,y,z,tonnes,GRADE,Grade"),
     ("tonnes: MissingColumn", "X,Y,Z,GRADE", "zone,X,Y,Z,TONNE,Grade"),
     ("tonnes: TwiceColumn", "tonnes,y,z,Tonnes,x,grade"),
+    ("y: TwiceColumn", "x,y,z,tonnes,Y,grade", "y,x,z,Y,tonnes,y,grade"),
+    ("z: TwiceColumn", "x,y,z,Z,tonnes,grade", "z,x,y,tonnes,grade,Z", "Z,x,y,z,tonnes,grade,Z"),
+    ("x: TwiceColumn", "x,X,x,y,z,tonnes,grade"),
+    ("tonnes: TwiceColumn", "x,y,z,tonnes,TONNES,grade", "x,y,z,tonnes,grade,tonnes,tonnes"),
+    ("grade: TwiceColumn", "grade,x,y,z,tonnes,grade,GRADE", "x,y,z,tonnes,grade,GRADE"),
+    # one column that is lacking and the next one that stands twice, and the other way round
+    ("x: MissingColumn", "x\0,y,z,tonnes,grade"),
+    ("x: MissingColumn", "y,Y,z,tonnes,grade"), ("x: TwiceColumn", "x,X,z,tonnes,grade"),
+    ("y: MissingColumn", "x,z,Z,tonnes,grade"), ("y: TwiceColumn", "x,y,Y,tonnes,grade"),
+    ("z: MissingColumn", "x,y,tonnes,Tonnes,grade"), ("z: TwiceColumn", "x,y,z,Z,grade"),
+    ("tonnes: MissingColumn", "x,y,z,grade,GRADE"), ("tonnes: TwiceColumn", "x,y,z,tonnes,TONNES"),
     ("x: MissingColumn", "0,0,0,1,0", "x;y;z;tonnes;grade", "x\ty\tz\ttonnes\tgrade", " ,,,,"),
 ]
 
@@ -81,6 +96,14 @@ ROWS = {
     ],
     "grid_edges": [
         ("row 2 column x: OffGrid", b"5,0,0,1,0", b"99995,0,0,1,0"),
+        ("row 2 column x: OffGrid", b"5,?,0,1,0", b"5,0,0.0001,1,0", b"5,-10,0,1,0", b"5,0,0,-1,0"),
+        ("row 2 column x: OffGrid", b"0.001,0,0,1,0", b"9.999,0,0,1,0"),
+        ("row 2 column y: OffGrid", b"0,99999.999,0,1,0", b"0,0.001,0,1,0"),
+        ("row 2 column y: Range", b"0,10000000000000000000,0,1,0", b"0,100005,0,1,0", b"0,-0.001,0,1,0"),
+        ("row 2 column z: OffGrid", b"0,0,99999.999,1,0", b"0,0,0.001,1,0"),
+        ("row 2 column z: Range", b"0,0,10000000000000000000,1,0", b"0,0,100005,1,0", b"0,0,-0.001,1,0"),
+        ("row 2 column x: Number", b"?,5,0,1,0"), ("row 2 column x: TooFine", b"0.0001,5,0,1,0"),
+        ("row 2 column x: Range", b"-10,5,0,1,0"), ("row 2 column y: OffGrid", b"0,5,?,1,0"),
         ("row 2 column x: Range", b"-5,0,0,1,0", b"100000,0,0,1,0"),
         ("row 2 column y: Range", b"0,100000,5,1,0"),
         ("row 2 column z: Range", b"0,0,100000,x,0"),
@@ -124,6 +147,11 @@ ROWS = {
             b"0.%s,0,0,5,7.%s" % (b"0" * 1_500, b"0" * 2_000),
         ),
         ("row 2 column tonnes: TooFine", b"0,0,0,5." + b"0" * 1_500 + b"1,7"),
+        ("row 2 column tonnes: Number", b"0,0,0,5" + b" " * 70_000 + b"x,7"),
+        # whatever the tonnage
+        ("row 2 column grade: Number", b"0,0,0,0,?", b"0,0,0,1,NaN", b"0,0,0,1,n/a", b"0,0,0,1,inf"),
+        ("row 2 column grade: Range", b"0,0,0,0,-1"),
+        ("row 2 column tonnes: Number", b"0,0,0,\xC2\xA01,0", b"0,0,0,1\xC2\xA0,0"),
         ("row 2 column grade: TooFine", b"0,0,0,5,7." + b"0" * 5_000 + b"1"),
         ("0 0 0 0 5 7.25 0|", b"0,0,0,5,7.25" + b"0" * 40, b"0,0,0,5,7.25" + b"0" * 5_000),
         ("row 2 column whole: Width", b"0,0,0,1,000,0", b"0;0;0;1;0", b"0\t0\t0\t1\t0"),
@@ -265,6 +293,8 @@ RECORDS_OF_TEXTS = [
     (b"#,x,y,z,tonnes,grade\n#a,0,0,0,1,2\n", ONE),
     (b'rock,x,y,z,tonnes,grade\n\\"b,0,0,0,1,2\n\\n,10,0,0,3,4\n', TWO),
     (b'rock,x,y,z,tonnes,grade\n"b\\",0,0,0,1,2\n', ONE),
+    (b"%,x,y,z,tonnes,grade\n%a,0,0,0,1,2\n", ONE),
+    (HEADER + b"  0 \t,\t\t0,0  ,1,  2  \n", ONE),
 ]
 
 def wide(columns, at, *cells):
@@ -367,7 +397,7 @@ def numbers():
             if kind is None:
                 indices = " ".join(str(place - first) for place, first in zip(held, FIRST))
                 answer = f"0 {indices} {shortest(held[3], 3)} {shortest(held[4], 6)} 0|"
-            row = HEADER + ",".join(with_cell(CELLS, at, text)).encode()
+            row = HEADER + record_of(with_cell(CELLS, at, text)).encode()
             yield says(f"numbers_of_a_row: {COLUMNS[at]}: {text}", row, answer, MILLIMETRES)
 
 
@@ -379,6 +409,10 @@ def faults():
             rows = (",".join(row[at] for at in order) for row in (COLUMNS, cells))
             text = "\n".join(rows).encode()
             yield faulty(f"two_faulty_cells: {text}", text, column, kind, 2, MILLIMETRES)
+    for cells, kind in two_kinds_of_faults(CELLS):
+        at = next(at for at, cell in enumerate(CELLS) if cells[at] != cell.good)
+        text = HEADER + ",".join(cells).encode()
+        yield faulty(f"two_kinds_of_faults: {','.join(cells)}", text, COLUMNS[at], kind, 2, MILLIMETRES)
     for (at, column), (kind, *texts) in itertools.product(enumerate("xyz"), ORDER_IN_A_CELL):
         for text in texts:
             row = ",".join(with_cell([Cell("0")] * 3, at, text)).encode() + b",?,?"
