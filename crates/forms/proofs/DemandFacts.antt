@@ -3,7 +3,7 @@
 use Rattle.std.specs.Prelude.{◌≡◌, Bool, true, false, List, [], ◌∷◌, ◌++◌, Result, Ok, Err, if◌then◌else◌}
 use Rattle.std.proofs.Common.{refl, sym, ◌∙◌, inl, inr}
 use Rattle.forms.specs.Demands.{Demand, demand, AreMet, FailsFirst}
-use Rattle.forms.specs.Steps.{◌>>=◌}
+use Rattle.pit_units.specs.Steps.{◌>>=◌}
 
 pub fails_before : {K : Type 0} (ds es : List (Demand K)) (kind : K) → FailsFirst ds kind → FailsFirst (ds ++ es) kind
 fails_before [] es kind h = absurd h

@@ -10,19 +10,25 @@ use Rattle.pit_units.specs.Decimal.{decimal_of, decimal_within, kept_within, sho
 use Rattle.pit_units.specs.StandsFor.{StandsFor}
 use Rattle.pit_units.specs.declared.fault.DecFault.{DecFault}
 use Rattle.pit_units.specs.declared.fault.DecFault.TheVariants as dec
-use Rattle.forms.proofs.DecimalFaults.{one_number, too_fine_decimal, out_of_range_fine, fine_decimal, stands_fine}
+use Rattle.pit_units.proofs.DecimalFaults.{too_fine_decimal, out_of_range_fine, fine_decimal, stands_fine}
 use Rattle.forms.proofs.DemandFacts.{Follows, behind, bound, mapped, guarded}
-use Rattle.forms.specs.Decimals.{IsDecimal, IsFine, IsWithin}
+use Rattle.pit_units.specs.SpelledNumbers.{IsDecimal, IsFine}
 use Rattle.forms.specs.Demands.{Demand, demand, FailsFirst}
 use Rattle.forms.specs.FieldFault.{FieldFault}
 use Rattle.forms.specs.FieldFault as fault
-use Rattle.forms.specs.Asked.{asked, asked_of_field, asked_of_fields, asked_of_decimal}
+use Rattle.forms.specs.Asked.{IsWithin, asked, asked_of_field, asked_of_fields, asked_of_decimal}
 use Rattle.forms.specs.Field.{Field, Decimal, Word, Value, Millionths, Bytes, Stepped, is_on_step, millionths}
 use Rattle.forms.specs.Fit.{FitsField, Fit, has_six_decimals, is_fine}
 use Rattle.forms.specs.Read.{number_or_kind, read_field, read_fields, read, next_kinds, read_decimal}
 use Rattle.forms.specs.Spelled.{Says, Spell}
 use Rattle.forms.specs.WrittenValues.{written, written_value}
-use Rattle.forms.specs.Steps.{◌>>=◌}
+use Rattle.pit_units.specs.Steps.{◌>>=◌}
+
+-- a text stands for one number
+one_number : (decimals : ℕ) (cell : List ℕ) (m n : ℤ) → decimals ≤ 6 → StandsFor decimals cell m → StandsFor decimals cell n → m ≡ n
+one_number decimals cell m n few a b =
+    let same : ◌≡◌ {A = Result ℤ DecFault} (Ok m) (Ok n) = sym (stands_read decimals cell m few a) ∙ stands_read decimals cell n few b in
+    cc
 
 pub le_true : (a b : ℤ) → int_le a b ≡ true → a ≤ℤ b
 le_true a b e = grind (arith, ints)

@@ -6,7 +6,7 @@ use Rattle.forms.specs.grammar.Grammar.{Grammar, placed, read_all, HasFineForms}
 use Rattle.forms.specs.grammar.GrammarStates.{AllState, IsFirstFault}
 use Rattle.forms.specs.grammar.Shape.{said}
 use Rattle.forms.specs.grammar.ShapeStates.{States}
-use Rattle.forms.specs.Steps.{◌>>=◌}
+use Rattle.pit_units.specs.Steps.{◌>>=◌}
 
 pub all_read : {R S K F : Type 0} (grammar : Grammar R S K F) (number : ℕ) (state : S) (rows : List R) (last : S) → HasFineForms grammar
     → AllState grammar number state rows last → read_all grammar number state rows ≡ Ok last

@@ -1,4 +1,3 @@
-pub mod DecimalFaults
 pub mod DemandFacts
 pub mod FormFacts
 pub mod GrammarFacts

@@ -10,7 +10,7 @@ use Rattle.forms.specs.Read.{read}
 use Rattle.forms.specs.Spelled.{Spell}
 use Rattle.forms.specs.grammar.Shape.{Shape, failing, said, unless}
 use Rattle.forms.specs.grammar.ShapeStates.{States, Fails}
-use Rattle.forms.specs.Steps.{◌>>=◌}
+use Rattle.pit_units.specs.Steps.{◌>>=◌}
 
 -- what states something is read
 pub states_said : {K S : Type 0} (shape : Shape K S) (next : S) → is_fine shape.form ≡ true → States shape next → said shape ≡ Ok next

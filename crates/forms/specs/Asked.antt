@@ -1,12 +1,17 @@
 -- What is asked of texts by a form, in order.
-use Rattle.std.specs.Prelude.{◌≡◌, ℕ, true, List, [], ◌∷◌, ◌++◌, length, ℤ}
-use Rattle.forms.specs.Decimals.{IsDecimal, IsFine, IsWithin}
+use Rattle.std.specs.Prelude.{◌≡◌, ℕ, true, List, [], ◌∷◌, ◌++◌, length, ℤ, ◌≤ℤ◌}
+use Rattle.pit_units.specs.SpelledNumbers.{IsDecimal, IsFine}
+use Rattle.pit_units.specs.StandsFor.{StandsFor}
 use Rattle.forms.specs.Demands.{Demand, demand}
 use Rattle.forms.specs.FieldFault.{FieldFault}
 use Rattle.forms.specs.FieldFault as fault
 use Rattle.forms.specs.Field.{Field, Decimal, Stepped, Word, Millionths}
 use Rattle.forms.specs.Read.{next_kinds}
 use Rattle.forms.specs.Spelled.{Says}
+
+-- it stands for millionths from the lowest to the highest
+abbrev pub IsWithin : ℕ → ℤ → ℤ → List ℕ → Type 0
+IsWithin decimals low high text = (m : ℤ) × StandsFor decimals text m × (low ≤ℤ m) × (m ≤ℤ high)
 
 -- what is asked of a decimal, with the kind of each fault
 abbrev pub asked_of_decimal : {K : Type 0} → (FieldFault → K) → ℕ → ℤ → ℤ → List ℕ

@@ -1,12 +1,10 @@
 pub mod Asked
-pub mod Decimals
 pub mod Demands
 pub mod Field
 pub mod FieldFault
 pub mod Fit
 pub mod Read
 pub mod Spelled
-pub mod Steps
 pub mod Words
 pub mod WrittenValues
 pub mod grammar

@@ -10,5 +10,5 @@ pub use Rattle.forms.specs.Read.{next_kinds, number_or_kind, read, read_decimal,
 pub use Rattle.forms.specs.grammar.Shape.{Check, Shape, check, failing, said, unless}
 pub use Rattle.forms.specs.grammar.ShapeStates.{Fails, FailsLast, States}
 pub use Rattle.forms.specs.Spelled.{Says, Spell}
-pub use Rattle.forms.specs.Steps.{◌>>=◌}
+pub use Rattle.pit_units.specs.Steps.{◌>>=◌}
 pub use Rattle.forms.specs.WrittenValues.{written, written_value}

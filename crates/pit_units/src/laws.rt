@@ -3,9 +3,10 @@ ghost use Rattle.std.specs.Prelude.{◌≡◌, ◌↔◌, ℕ, [], ◌++◌, ◌
 ghost use Rattle.std.specs.Fmt.{decimal};
 ghost use Rattle.std.specs.Str.Parse.{digits_value};
 ghost use Rattle.pit_units.specs.declared.fault.DecFault.TheVariants as DecFault;
-ghost use Rattle.pit_units.specs.Decimal.{all_zeros, decimal_of, shortest, size_text};
+ghost use Rattle.pit_units.specs.Decimal.{all_zeros, decimal_of, decimal_within, shortest, size_text};
 ghost use Rattle.pit_units.specs.DecimalRange.{IsInDecimalRange};
 ghost use Rattle.pit_units.specs.Front.{digits_ahead, past_point, IsUsual};
+ghost use Rattle.pit_units.specs.SpelledNumbers.{IsDecimal, IsFine, SpellsNumber};
 ghost use Rattle.pit_units.specs.StandsFor.{IsSpelled, StandsFor};
 ghost use Rattle.pit_units.specs.Shortest.{IsPlain, IsShortest, longest};
 
@@ -78,4 +79,24 @@ pub fn spelled_faults()
         → IsTrue (all_zeros (drop max fraction))
         → ((decimal_of max text ≡ Err DecFault.Range)
         ↔ (10 ^ 24 * 10 ^ length fraction < digits_value 10 (whole ++ fraction) * 10 ^ 6)) }
+{}
+
+/// A text is read as a number in a range exactly where it spells that number.
+pub fn numbers_are_spelled()
+    ensures { (max : ℕ) (low high : ℤ) (text : List ℕ) (m : ℤ) → max ≤ 6
+        → (decimal_within max low high text ≡ Ok m) ↔ SpellsNumber max low high text m }
+{}
+
+/// The fault of a number in a range is that of the first thing asked of its text that does not hold: that it is a
+/// decimal, that it has no more decimals than may be, and that its number is in the range.
+#[tactic(auto, using(crate::proofs::DecimalFaults::number_fails, crate::proofs::DecimalFaults::too_fine_fails, crate::proofs::DecimalFaults::range_fails))]
+pub fn numbers_fail_first()
+    ensures number { (max : ℕ) (low high : ℤ) (text : List ℕ) → max ≤ 6
+        → (decimal_within max low high text ≡ Err DecFault.Number) ↔ ¬ (IsDecimal text) }
+    ensures too_fine { (max : ℕ) (low high : ℤ) (text : List ℕ) → max ≤ 6
+        → (decimal_within max low high text ≡ Err DecFault.TooFine)
+        ↔ (IsDecimal text × ¬ (IsFine max text)) }
+    ensures range { (max : ℕ) (low high : ℤ) (text : List ℕ) → max ≤ 6
+        → (decimal_within max low high text ≡ Err DecFault.Range)
+        ↔ (IsFine max text × ((m : ℤ) → ¬ (SpellsNumber max low high text m))) }
 {}

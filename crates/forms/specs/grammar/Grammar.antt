@@ -2,7 +2,7 @@
 use Rattle.std.specs.Prelude.{◌≡◌, ℕ, suc, true, List, [], ◌∷◌, Result, Ok, Err}
 use Rattle.forms.specs.Fit.{is_fine}
 use Rattle.forms.specs.grammar.Shape.{Shape, said}
-use Rattle.forms.specs.Steps.{◌>>=◌}
+use Rattle.pit_units.specs.Steps.{◌>>=◌}
 
 -- R are the records, S is what they state, K the kinds of fault and F the faults
 pub record Grammar (R S K F : Type 0) : Type 0 where

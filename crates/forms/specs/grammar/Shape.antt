@@ -5,7 +5,7 @@ use Rattle.std.specs.Prelude.{ℕ, Bool, List, [], ◌∷◌, Option, Some, None
 use Rattle.forms.specs.FieldFault.{FieldFault}
 use Rattle.forms.specs.Field.{Field, Value}
 use Rattle.forms.specs.Read.{read}
-use Rattle.forms.specs.Steps.{◌>>=◌}
+use Rattle.pit_units.specs.Steps.{◌>>=◌}
 
 -- a test, and the kind of fault where it fails
 pub record Check (K : Type 0) : Type 0 where

@@ -1,0 +1,103 @@
+-- Steps answer exactly what each of them does: one term for each line, in both directions.
+use Rattle.std.specs.Prelude.{◌≡◌, ◌≢◌, ℕ, ◌==◌, not, Bool, true, false, Option, Some, None, is_some, Result, Ok, Err, if◌then◌else◌}
+use Rattle.std.proofs.Common.{refl, sym, ◌∙◌, ap, subst, eqb-true}
+use Rattle.std.proofs.lemmas.Bool.{eq-eqb, eqb-false, ne_eqb}
+use Rattle.pit_units.specs.Steps.{◌>>=◌}
+
+-- an answer is one of these, and each of these is the answer
+pub record Exactly {A F : Type 0} (r : Result A F) (P : A → Type 0) : Type 0 where
+  pub told : (y : A) → r ≡ Ok y → P y
+  pub back : (y : A) → P y → r ≡ Ok y
+
+pub same : {A F : Type 0} (x y : A) → ◌≡◌ {A = Result A F} (Ok x) (Ok y) → x ≡ y
+same x y e = cc
+
+pub done : {A F : Type 0} (x : A) → Exactly {A = A} {F = F} (Ok x) (λ y. y ≡ x)
+done x = record { told = λ y e. sym (same x y e); back = λ y e. ap Ok (sym e) }
+
+pub never : {A F : Type 0} (fault : F) → Exactly {A = A} {F = F} (Err fault) (λ y. ⊥)
+never fault = record { told = λ y e. absurd cc; back = λ y h. absurd h }
+
+-- one step, and what is behind it
+pub then_ : {A B F : Type 0} {r : Result A F} {next : A → Result B F} {P : A → Type 0} {Q : A → B → Type 0} → Exactly r P
+    → ((x : A) → Exactly (next x) (Q x)) → Exactly (r >>= next) (λ y. (x : A) × P x × Q x y)
+then_ {A} {B} {F} {r} {next} {P} {Q} first behind = record { told = λ y e. told r refl y e; back = back }
+  where
+    told : (s : Result A F) → r ≡ s → (y : B) → (s >>= next) ≡ Ok y → (x : A) × P x × Q x y
+    told (Ok x) is y e = (x, first.told x is, (behind x).told y e)
+    told (Err fault) is y e = absurd cc
+
+    back : (y : B) → (x : A) × P x × Q x y → (r >>= next) ≡ Ok y
+    back y h = ap (λ s. s >>= next) (first.back h.0 h.1) ∙ (behind h.0).back y h.2
+
+-- a test in front: its fault is none exactly where something holds
+pub tested : {A F : Type 0} {r : Result A F} {P : A → Type 0} {t : Bool} {T : Type 0} (fault : F) → (t ≡ false → T) → (T → t ≡ false)
+    → Exactly r P → Exactly (if t then Err fault else r) (λ y. T × P y)
+tested {A} {F} {r} {P} {t} {T} fault to from all = record {
+  told = λ y e. told t refl y e;
+  back = λ y h. rw (from h.0) (all.back y h.1);
+}
+  where
+    told : (b : Bool) → t ≡ b → (y : A) → (if b then Err fault else r) ≡ Ok y → T × P y
+    told true is y e = absurd cc
+    told false is y e = (to is, all.told y e)
+
+-- the same of a test within a step
+pub tested_then : {A B F : Type 0} {P : B → Type 0} {t : Bool} {T : Type 0} (r : Result A F) (next : A → Result B F) (fault : F)
+    → (t ≡ false → T) → (T → t ≡ false)
+    → Exactly (r >>= next) P → Exactly ((if t then Err fault else r) >>= next) (λ y. T × P y)
+tested_then {A} {B} {F} {P} {t} {T} r next fault to from all = record {
+  told = λ y e. told t refl y e;
+  back = λ y h. rw (from h.0) (all.back y h.1);
+}
+  where
+    told : (b : Bool) → t ≡ b → (y : B) → ((if b then Err fault else r) >>= next) ≡ Ok y → T × P y
+    told true is y e = absurd cc
+    told false is y e = (to is, all.told y e)
+
+-- a test that has to hold
+pub holds : {A F : Type 0} {r : Result A F} {P : A → Type 0} {t : Bool} (fault : F) → Exactly r P
+    → Exactly (if t then r else Err fault) (λ y. (t ≡ true) × P y)
+holds {A} {F} {r} {P} {t} fault all = record { told = λ y e. told t refl y e; back = λ y h. rw h.0 (all.back y h.1) }
+  where
+    told : (b : Bool) → t ≡ b → (y : A) → (if b then r else Err fault) ≡ Ok y → (t ≡ true) × P y
+    told true is y e = (is, all.told y e)
+    told false is y e = absurd cc
+
+-- as many cells; and no more of something than there is room for
+pub counted : {A F : Type 0} {r : Result A F} {P : A → Type 0} (fault : F) (n m : ℕ) → Exactly r P
+    → Exactly (if not (n == m) then Err fault else r) (λ y. (n ≡ m) × P y)
+counted fault n m all = tested fault (λ e. eqb-true n m (not_false (n == m) e)) (λ e. rw (eq-eqb n m e) refl) all
+  where
+    not_false : (t : Bool) → not t ≡ false → t ≡ true
+    not_false true e = refl
+    not_false false e = absurd cc
+
+pub differs : {A F : Type 0} {r : Result A F} {P : A → Type 0} (fault : F) (n m : ℕ) → Exactly r P
+    → Exactly (if n == m then Err fault else r) (λ y. (n ≢ m) × P y)
+differs fault n m all = tested fault (λ e. eqb-false n m e) (λ e. ne_eqb n m e) all
+
+-- what stands once stands not yet
+pub new : {A S F : Type 0} {r : Result A F} {P : A → Type 0} (fault : F) (o : Option S) → Exactly r P
+    → Exactly (if is_some o then Err fault else r) (λ y. (o ≡ None) × P y)
+new {A} {S} fault o all = tested fault (none o) (λ e. ap is_some e) all
+  where
+    none : (o : Option S) → is_some o ≡ false → o ≡ None
+    none None e = refl
+    none (Some x) e = absurd cc
+
+-- what is made of an answer
+pub made : {A B F : Type 0} {r : Result A F} {P : A → Type 0} {Q : B → Type 0} (f : A → B) → Exactly r P → ((x : A) → P x → Q (f x))
+    → ((y : B) → Q y → (x : A) × P x × (f x ≡ y)) → Exactly (r >>= λ x. Ok (f x)) Q
+made {A} {B} {F} {r} {P} {Q} f all to from = record {
+  told = λ y e. told r refl y e;
+  back = λ y h. let x = from y h in ap (λ s. s >>= λ x. Ok (f x)) (all.back x.0 x.1) ∙ ap Ok x.2;
+}
+  where
+    told : (s : Result A F) → r ≡ s → (y : B) → (s >>= λ x. Ok (f x)) ≡ Ok y → Q y
+    told (Ok x) is y e = subst Q (same (f x) y e) (to x (all.told x is))
+    told (Err fault) is y e = absurd cc
+
+-- the same, said otherwise
+pub as_ : {A F : Type 0} {r : Result A F} {P Q : A → Type 0} → Exactly r P → ((y : A) → P y → Q y) → ((y : A) → Q y → P y) → Exactly r Q
+as_ all to from = record { told = λ y e. to y (all.told y e); back = λ y h. all.back y (from y h) }
