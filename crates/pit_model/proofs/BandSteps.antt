@@ -1,7 +1,7 @@
 -- One band more of a leach's record, and one destination more of a resource's.
 use Rattle.std.proofs.Common.{◌≡◌, ◌<◌, ◌≤◌, ◌+◌, ◌*◌, ◌++◌, ℕ, suc, List, [], ◌∷◌, Result, Ok, Err, refl, sym, ◌∙◌, ap, arith, append_assoc, append-nil, drop-cons, length, length-drop}
 use Rattle.std.specs.Prelude.{◌/◌, drop}
-use Rattle.forms.specs.Words.{◌>>=◌}
+use Rattle.pit_units.specs.Steps.{◌>>=◌}
 use Rattle.records.specs.RecordCells.{cell_at}
 use Rattle.pit_model.specs.DestinationRecords.{band_in, bands_in}
 use Rattle.pit_model.specs.PlanRecords.{covers_in}

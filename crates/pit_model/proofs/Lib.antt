@@ -1,10 +1,7 @@
 pub mod BandSteps
-pub mod CellsByPlace
-pub mod FieldFits
-pub mod FormulaFacts
+pub mod CellFacts
+pub mod Keeps
 pub mod Limits
-pub mod PlanFits
 pub mod PlanKept
 pub mod PlanLaws
 pub mod PlanSteps
-pub mod RecordFacts

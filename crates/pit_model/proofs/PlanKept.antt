@@ -1,40 +1,45 @@
--- What the records of a plan state is in range.
-use Rattle.std.specs.Prelude.{◌≡◌, ℕ, suc, ◌+◌, ◌^◌, ◌<◌, ◌≤◌, ◌==◌, Bool, true, false, not, nat_le, List, [], ◌∷◌, ◌++◌, length, drop, replicate, zero, ◌-◌, position, All, pos, Option, Some, None, is_some, unwrap_or, if◌then◌else◌, Ok, Err, ℤ, codes, ◌||◌}
-use Rattle.std.proofs.Common.{refl, sym, subst, arith, length-append}
-use Rattle.std.proofs.lemmas.Bool.{eqb-false, not-true}
+-- What the records of a plan state is in range: a term for each page of records, step by step as there.
+use Rattle.std.specs.Prelude.{◌≡◌, ◌≢◌, ℕ, suc, ◌+◌, ◌^◌, ◌<◌, ◌≤◌, ◌==◌, ◌%◌, nat_le, nat_lt, not, Bool, true, false, List, [], ◌∷◌, ◌++◌, length, drop, position, All, pos, ◌≤ℤ◌, Option, Some, None, is_some, unwrap_or, codes, if◌then◌else◌, Result, Ok, Err, ℤ, ◌||◌}
+use Rattle.std.proofs.Common.{refl, sym, subst, arith, length-append, length-drop, leb-true}
+use Rattle.std.proofs.lemmas.Bool.{eqb-false, not-false, or_parts}
+use Rattle.std.proofs.lemmas.Bool.Decides.{nat_tests}
+use Rattle.std.proofs.lemmas.Int.{ints}
 use Rattle.std.proofs.lemmas.List.Elements.{All-nil, All-cons, All-push, All-weaker}
 use Rattle.std.proofs.lemmas.List.Quantifiers.{position-Some}
 use Rattle.std.specs.List.{list_any}
 use Rattle.std.specs.Str.{bytes_eq}
-use Rattle.forms.proofs.FormFacts.{spelled_fit}
-use Rattle.forms.specs.Words.{Field, Word, Value, Millionths, Bytes, millionths, number_at, whole_at, word_at, word_of, is_fine, Fit, FitsField, AllState, Shape, check, failing, States}
+use Rattle.pit_units.proofs.Exactly.{same}
 use Rattle.records.specs.RecordCells.{cell_at, cells_of}
-use Rattle.pit_model.specs.inner.DraftFields.{KeepsStated}
 use Rattle.pit_parts.specs.Plan.{PlanParts}
+use Rattle.pit_parts.specs.formulas.BandsKept.{AreBands, IsBand, starts_rise}
 use Rattle.pit_parts.specs.formulas.Formula.{IsRuled}
-use Rattle.pit_parts.specs.PlanKept.{plan_of, AreCovers, AreTonnes, IsBound, IsCone, IsGrid, IsPlan, IsSlope, IsTonnes, RiseStrictly, has_repeat, is_turned}
-use Rattle.pit_model.specs.PlanCells.{a_bound, a_period_count, a_rate}
-use Rattle.pit_model.specs.FormulaShapes.{formula_shape}
-use Rattle.pit_model.specs.PlanShapes.{a_destination, blank_shape, bound_form, bound_of, cone_of, covers_of, grid_form, grid_of, is_interval, key_shape, limit_form, limit_of, record_shape, resource_form, room_for_destination, slope_at, zone_form}
-use Rattle.pit_model.specs.PlanKeys.{key_of}
-use Rattle.pit_model.specs.Planned.{whole_plan}
-use Rattle.pit_model.specs.SpelledPlan.{SpellPlan, numbered_shape, plan_grammar}
-use Rattle.pit_model.specs.Stated.{Stated, is_same_place, nothing_stated, resource_named, with_destination, with_limit}
+use Rattle.pit_parts.specs.PlanKept.{plan_of, has_repeat, AreCovers, AreTonnes, IsBound, IsCone, IsGrid, IsPlan, IsSlope, RiseStrictly}
+use Rattle.pit_parts.specs.declared.cone.Cone.{Cone}
+use Rattle.pit_parts.specs.declared.formulas.band.Band.{Band}
 use Rattle.pit_parts.specs.declared.formulas.formula.Formula.{Formula}
+use Rattle.pit_parts.specs.declared.formulas.formula.Formula.TheVariants.{Mill, Leach, Dump}
 use Rattle.pit_parts.specs.declared.formulas.formula.NamedFormula.{NamedFormula}
 use Rattle.pit_parts.specs.declared.grid.Grid.{Grid}
-use Rattle.pit_parts.specs.declared.limit.Bound.TheVariants.{AtMost, AtLeast}
+use Rattle.pit_parts.specs.declared.limit.Bound.TheVariants.{AtMost, AtLeast, Between}
 use Rattle.pit_parts.specs.declared.limit.Limit.{Limit}
+use Rattle.pit_parts.specs.declared.resource.Resource.{Resource}
+use Rattle.pit_parts.specs.declared.ranges.TheConstants.{MAX_DESTINATIONS, MAX_RESOURCES, MAX_ZONES}
+use Rattle.pit_model.proofs.CellFacts.{below, name, named, number, origin, size, tonnes, whole}
+use Rattle.pit_model.proofs.Keeps.{Keeps, answers, either, keeps, past, refuses, step, wide}
+use Rattle.pit_model.proofs.Limits.{All-with_limit, rises}
+use Rattle.pit_model.specs.DestinationRecords.{band_in, bands_in, destination_more, destination_record, rising}
+use Rattle.pit_model.specs.PlanRecords.{bound_in, covers_in, equal_zone, grid_by, is_letter, key_record, limit_record, resource_record, sided_zone, slope_in, zone_more}
+use Rattle.pit_model.specs.PlanKeys.{key_of}
+use Rattle.pit_model.specs.Planned.{at_row, record_at, whole_plan}
+use Rattle.pit_model.specs.SpelledPlan.{RecordsState, SpellPlan}
+use Rattle.pit_model.specs.Stated.{Stated, destination_named, is_same_place, nothing_stated, resource_named, with_destination, with_limit, with_resource, with_zone}
+use Rattle.pit_model.specs.declared.draft.formulas.FormulaKey.{FormulaKey}
+use Rattle.pit_model.specs.declared.draft.formulas.FormulaKey.TheVariants as formula_key
 use Rattle.pit_model.specs.declared.plan_fault.PlanFaultKind.{PlanFaultKind}
-use Rattle.pit_model.specs.declared.plan_fault.PlanFaultKind.TheVariants.{Missing, Twice, Order, TooMany}
+use Rattle.pit_model.specs.declared.plan_fault.PlanFaultKind.TheVariants.{Key, Missing, Name, Order, TooMany, Twice, Width}
 use Rattle.pit_model.specs.declared.plan_key.PlanKey.{PlanKey}
 use Rattle.pit_model.specs.declared.plan_key.PlanKey.TheVariants as key
-use Rattle.pit_parts.specs.declared.resource.Resource.{Resource}
-use Rattle.pit_parts.specs.declared.ranges.TheConstants.{MAX_DESTINATIONS, MAX_PLAN_RECORDS, MAX_RESOURCES, MAX_ZONES}
-use Rattle.pit_model.proofs.Limits.{All-with_limit, rises}
-use Rattle.pit_model.proofs.FieldFits.{below_fits, between_fits, fits_at, fits_behind, origin_fits, range_fits, size_fits}
-use Rattle.pit_model.proofs.FormulaFacts.{apart, formula_kept, held}
-use Rattle.pit_model.proofs.PlanFits.{record_fine}
+use Rattle.pit_model.specs.inner.DraftFields.{KeepsStated}
 
 no_limits : RiseStrictly []
 no_limits i j d before within = absurd (omega arith)
@@ -43,31 +48,8 @@ nothing_kept : KeepsStated nothing_stated
 nothing_kept = search (arith, All-nil, no_limits)
 
 -- there is room for one more
-room : {A : Type 0} (xs : List A) (x : A) (most : ℕ) → length xs ≤ most → not (length xs == most) ≡ true → length (xs ++ x ∷ []) ≤ most
-room xs x most within e = omega (arith, length-append xs (x ∷ []), eqb-false (length xs) most (not-true _ e))
-
-grid_kept : (values : List Value) → Fit grid_form values → IsGrid (grid_of values)
-grid_kept values fit =
-    let at = λ (n : ℕ). fits_at grid_form values n fit in (
-      (origin_fits _ (at 0), size_fits 1 100000 _ (at 3)),
-      (origin_fits _ (at 1), size_fits 1 100000 _ (at 4)),
-      (origin_fits _ (at 2), size_fits 1 100000 _ (at 5)),
-    )
-
-cone_kept : (equal : Bool) (values : List Value) → Fit (zone_form equal) values → IsCone (cone_of equal values)
-cone_kept true values fit =
-    let slope : IsSlope (slope_at values 0) =
-    (between_fits 1 1000 _ (fits_at (zone_form true) values 0 fit), between_fits 1 1000 _ (fits_at (zone_form true) values 1 fit)) in
-    ((slope, slope, slope, slope), between_fits 1 20 _ (fits_at (zone_form true) values 2 fit))
-cone_kept false values fit = (
-  (
-    (between_fits 1 1000 _ (fits_at (zone_form false) values 0 fit), between_fits 1 1000 _ (fits_at (zone_form false) values 1 fit)),
-    (between_fits 1 1000 _ (fits_at (zone_form false) values 2 fit), between_fits 1 1000 _ (fits_at (zone_form false) values 3 fit)),
-    (between_fits 1 1000 _ (fits_at (zone_form false) values 4 fit), between_fits 1 1000 _ (fits_at (zone_form false) values 5 fit)),
-    (between_fits 1 1000 _ (fits_at (zone_form false) values 6 fit), between_fits 1 1000 _ (fits_at (zone_form false) values 7 fit)),
-  ),
-  between_fits 1 20 _ (fits_at (zone_form false) values 8 fit),
-)
+room : {A : Type 0} (xs : List A) (x : A) (most : ℕ) → length xs ≤ most → length xs ≢ most → length (xs ++ x ∷ []) ≤ most
+room xs x most within free = omega (arith, length-append xs (x ∷ []), free)
 
 -- one limit more, in its place, on a resource and a period that are there
 pub limit_kept : (s : Stated) (l : Limit) → KeepsStated s → l.resource < length s.resources → l.period < unwrap_or s.periods 0
@@ -79,165 +61,195 @@ limit_kept s l kept there early bound none =
       rises l s.limits kept.rising none,
     )
 
--- one destination more, its numbers in range
+-- a zone, of which there is room for one more
+slope_kept : (rise run : List ℕ) → Keeps (slope_in rise run) IsSlope
+slope_kept rise run =
+    step (keeps (whole 1 1000 rise)) (λ p of_p. step (keeps (whole 1 1000 run)) (λ q of_q. answers _ ((of_p.1, of_p.2), (of_q.1, of_q.2))))
+
+zone_kept : (s : Stated) (cone : Cone) → KeepsStated s → IsCone cone → Keeps (zone_more s cone) KeepsStated
+zone_kept s cone kept is =
+    past {t = length s.cones == 64} TooMany (λ free.
+    let more : length s.cones ≢ 64 = eqb-false (length s.cones) 64 free in
+    answers (with_zone s cone) (search (room s.cones cone MAX_ZONES kept.zones more, All-push IsCone s.cones cone kept.cones is)))
+
+equal_kept : (s : Stated) (cells : List (List ℕ)) → KeepsStated s → Keeps (equal_zone s cells) KeepsStated
+equal_kept s cells kept =
+    step (slope_kept (cell_at cells 1) (cell_at cells 2)) (λ slope is. step (keeps (whole 1 20 (cell_at cells 3))) (λ k of_k.
+    zone_kept s _ kept ((is, is, is, is), (of_k.1, of_k.2))))
+
+sided_kept : (s : Stated) (cells : List (List ℕ)) → KeepsStated s → Keeps (sided_zone s cells) KeepsStated
+sided_kept s cells kept =
+    step (slope_kept (cell_at cells 1) (cell_at cells 2)) (λ east of_east. step (slope_kept (cell_at cells 3) (cell_at cells 4)) (λ west of_west.
+    step (slope_kept (cell_at cells 5) (cell_at cells 6)) (λ north of_north. step (slope_kept (cell_at cells 7) (cell_at cells 8)) (λ south of_south.
+    step (keeps (whole 1 20 (cell_at cells 9))) (λ k of_k.
+    zone_kept s _ kept ((of_east, of_west, of_north, of_south), (of_k.1, of_k.2)))))))
+
+-- a destination, of which there is room for one more
 destination_kept : (s : Stated) (name : List ℕ) (formula : Formula) → KeepsStated s → IsRuled formula
-    → not (length s.formulas == MAX_DESTINATIONS) ≡ true
-    → KeepsStated (with_destination s name formula)
-destination_kept s name formula kept ruled free =
+    → Keeps (destination_more s name formula) KeepsStated
+destination_kept s name formula kept ruled =
     let new : NamedFormula = record { name = name; formula = formula } in
     let more : length (s.formulas ++ new ∷ []) ≡ length s.formulas + 1 = length-append s.formulas (new ∷ []) in
-    search (
-      room s.formulas new MAX_DESTINATIONS kept.destinations free,
+    past {t = length s.formulas == 8} TooMany (λ free. answers (with_destination s name formula) (search (
+      room s.formulas new MAX_DESTINATIONS kept.destinations (eqb-false (length s.formulas) 8 free),
       All-push (λ f. IsRuled f.formula) s.formulas new kept.formulas ruled,
       All-weaker (λ r. All (λ n. n < length s.formulas) r.covers) (λ r. All (λ n. n < length (s.formulas ++ new ∷ [])) r.covers)
           (λ r all. All-weaker (λ n. n < length s.formulas)
           (λ n. n < length (s.formulas ++ new ∷ [])) (λ n small. omega (arith, more)) r.covers all)
           s.resources kept.covers,
-    )
+    )))
+
+band_kept : (start recovery : List ℕ) → Keeps (band_in start recovery) IsBand
+band_kept start recovery =
+    step (keeps (number 6 (pos 0) (pos (10 ^ 12)) start (omega arith))) (λ m of_m. step (keeps (whole 0 1000 recovery)) (λ part of_part.
+    answers _ (omega (arith, ints, of_m.1, of_m.2), of_part.2)))
+
+-- two cells and more are one band and more
+bands_kept : (cells : List (List ℕ)) → Keeps (bands_in cells) (λ bands. All IsBand bands × (2 ≤ length cells → 1 ≤ length bands))
+bands_kept [] = answers [] (All-nil IsBand, λ some. absurd (omega (arith, some)))
+bands_kept (lone ∷ []) = answers [] (All-nil IsBand, λ some. absurd (omega (arith, some)))
+bands_kept (start ∷ recovery ∷ cells) =
+    step (band_kept start recovery) (λ band is. step (bands_kept cells) (λ bands more.
+    answers (band ∷ bands) (All-cons IsBand band bands is more.0, λ some. omega arith)))
+
+rising_kept : (bands : List Band) → Keeps (rising bands) (λ same. (same ≡ bands) × (starts_rise bands ≡ true) × (length bands ≤ 16))
+rising_kept bands =
+    past Order (λ rise. past TooMany (λ few.
+    answers bands (refl, not-false (starts_rise bands) rise, leb-true (length bands) 16 (not-false (nat_le (length bands) 16) few))))
+
+record_of_destination : (k : FormulaKey) (s : Stated) (cells : List (List ℕ)) → KeepsStated s → Keeps (destination_record k s cells) KeepsStated
+record_of_destination formula_key.Mill s cells kept =
+    wide Width (length cells) 5 (λ count.
+    step (keeps (name (cell_at cells 1))) (λ name is. step (keeps (whole 0 1000 (cell_at cells 2))) (λ recovery of_recovery.
+    step (keeps (whole 0 (10 ^ 8) (cell_at cells 3))) (λ price of_price. step (keeps (whole 0 (10 ^ 7) (cell_at cells 4))) (λ cost of_cost.
+    past Twice (λ once. destination_kept s name (Mill recovery price cost) kept (of_recovery.2, of_price.2, of_cost.2)))))))
+record_of_destination formula_key.Leach s cells kept =
+    past {t = nat_lt (length cells) 6 || not (length cells % 2 == 0)} Width (λ count.
+    step (keeps (name (cell_at cells 1))) (λ name is. step (keeps (whole 0 (10 ^ 8) (cell_at cells 2))) (λ price of_price.
+    step (keeps (whole 0 (10 ^ 7) (cell_at cells 3))) (λ cost of_cost. step (bands_kept (drop 4 cells)) (λ bands are.
+    past Twice (λ once. step (rising_kept bands) (λ same rise.
+    let many : 6 ≤ length cells = grind (arith, nat_tests, count) in
+    let ruled : AreBands bands = record {
+      count = (are.1 (omega (arith, length-drop 4 cells, many)), rise.2);
+      in_range = are.0;
+      rising = rise.1;
+    } in
+    destination_kept s name (Leach same price cost) kept (subst AreBands (sym rise.0) ruled, of_price.2, of_cost.2))))))))
+record_of_destination formula_key.Dump s cells kept =
+    wide Width (length cells) 3 (λ count.
+    step (keeps (name (cell_at cells 1))) (λ name is. step (keeps (whole 0 (10 ^ 7) (cell_at cells 2))) (λ cost of_cost.
+    past Twice (λ once. destination_kept s name (Dump cost) kept of_cost.2))))
 
 -- the number of what is named is that of one there
-number_there : {A : Type 0} (test : A → Bool) (xs : List A) → is_some (position test xs) ≡ true → unwrap_or (position test xs) 0 < length xs
-number_there {A} test xs e = by (position test xs) refl e
-  where
-    first : (ys : List A) (n : ℕ) → position test ys ≡ Some n → n < length ys
-    first [] n is = absurd cc
-    first (y ∷ ys) n is = (position-Some test (y ∷ ys) n y is).0
+number_there : {A : Type 0} (test : A → Bool) (xs : List A) (n : ℕ) → position test xs ≡ Some n → n < length xs
+number_there test [] n is = absurd cc
+number_there test (x ∷ xs) n is = (position-Some test (x ∷ xs) n x is).0
 
-    by : (o : Option ℕ) → position test xs ≡ o → is_some o ≡ true → unwrap_or o 0 < length xs
-    by None is e = absurd cc
-    by (Some n) is e = first xs n is
+covers_kept : (formulas : List NamedFormula) (cells : List (List ℕ))
+    → Keeps (covers_in formulas cells) (λ covers. All (λ n. n < length formulas) covers × (length covers ≡ length cells))
+covers_kept formulas [] = answers [] (All-nil _, refl)
+covers_kept formulas (cell ∷ cells) =
+    step (keeps (named (destination_named formulas cell))) (λ n is. step (covers_kept formulas cells) (λ covers more.
+    answers (n ∷ covers) (
+      All-cons (λ n. n < length formulas) n covers (number_there (λ (f : NamedFormula). bytes_eq f.name cell) formulas n is) more.0,
+      omega (arith, more.1),
+    )))
 
-covers_kept : (s : Stated) (n : ℕ) (values : List Value) → Fit (replicate n (a_destination s.formulas)) values
-    → All (λ n. n < length s.formulas) (covers_of s.formulas values)
-covers_kept s zero [] fit = All-nil _
-covers_kept s zero (value ∷ values) fit = absurd fit
-covers_kept s (suc n) [] fit = absurd fit
-covers_kept s (suc n) (Millionths m ∷ values) fit = absurd fit.0
-covers_kept s (suc n) (Bytes word ∷ values) fit =
-    All-cons (λ n. n < length s.formulas) _ (covers_of s.formulas values)
-    (number_there (λ (f : NamedFormula). bytes_eq f.name word) s.formulas fit.0)
-    (covers_kept s n values fit.1)
-
-some_covers : (s : Stated) (field : Field) (form : List Field) (values : List Value) → Fit (field ∷ form) values
-    → 1 ≤ length (covers_of s.formulas values)
-some_covers s field form [] fit = absurd fit
-some_covers s field form (value ∷ values) fit = omega arith
-
--- a word that fits passes the test of its field
-passing : (passes : List ℕ → Bool) (value : Value) → FitsField (Word passes) value → passes (word_of value) ≡ true
-passing passes (Millionths m) fits = absurd fits
-passing passes (Bytes word) fits = fits
-
-tonnes_kept : (value : Value) → FitsField a_bound value → IsTonnes (millionths value)
-tonnes_kept value fits = range_fits 6 (pos 0) (pos (10 ^ 18)) value fits
-
--- the numbers of a bound, by its letter
-bound_kept : (interval : Bool) (values : List Value) → Fit (bound_form interval) values → AreTonnes (bound_of interval values)
-bound_kept true values fit =
-    (tonnes_kept _ (fits_at (bound_form true) values 1 fit), tonnes_kept _ (fits_at (bound_form true) values 2 fit))
-bound_kept false values fit = letter (bytes_eq (word_at values 0) (codes "L"))
-  where
-    letter : (l : Bool) → AreTonnes (if l then AtMost (number_at values 1) else AtLeast (number_at values 1))
-    letter true = tonnes_kept _ (fits_at (bound_form false) values 1 fit)
-    letter false = tonnes_kept _ (fits_at (bound_form false) values 1 fit)
-
--- what values that fit the form of a key, and of which the tests hold, state behind what is in range, is so
-abbrev Kept : Stated → Option PlanKey → List (List ℕ) → Type 0
-Kept s k cells =
-    (values : List Value) → Fit (key_shape s k cells).form values → failing ((key_shape s k cells).last values) ≡ None
-    → KeepsStated ((key_shape s k cells).next values)
-
-key_kept : (s : Stated) (k : Option PlanKey) (cells : List (List ℕ)) → KeepsStated s → Kept s k cells
-key_kept s None cells kept values fit holds = kept
-key_kept s (Some key.Name) cells kept values fit holds = search
-key_kept s (Some key.Grid) cells kept values fit holds = search (grid_kept values fit)
-key_kept s (Some key.Zone) cells kept values fit holds =
-    let cone = cone_of (length cells == 4) values in
-    search (
-      room s.cones cone MAX_ZONES kept.zones (held TooMany (not (length s.cones == MAX_ZONES)) [] holds).0,
-      All-push IsCone s.cones cone kept.cones (cone_kept (length cells == 4) values fit),
-    )
-key_kept s (Some (key.Destination k)) cells kept values fit holds =
-    let new = held Twice _ ((formula_shape k cells).asked values ++ room_for_destination s) holds in
-    let both = apart ((formula_shape k cells).asked values) (room_for_destination s) new.1 in
-    destination_kept s (word_at values 0) ((formula_shape k cells).made values) kept (formula_kept k cells values fit both.0)
-    (held TooMany (not (length s.formulas == MAX_DESTINATIONS)) [] both.1).0
-key_kept s (Some key.Periods) cells kept values fit holds =
-    let none : s.periods ≡ None = not_some s.periods (held Twice (not (is_some s.periods)) [] holds).0 in
-    let n = whole_at values 0 in
-    search (
-      between_fits 1 100 _ (fits_at (a_period_count ∷ []) values 0 fit),
-      All-weaker (λ l. (l.resource < length s.resources) × (l.period < unwrap_or s.periods 0) × IsBound l.bound)
-          (λ l. (l.resource < length s.resources) × (l.period < n) × IsBound l.bound)
-          (λ l h. let small : l.period < unwrap_or s.periods 0 = h.1 in absurd (omega (arith, rw none at small))) s.limits kept.limits,
-    )
-  where
-    not_some : (o : Option ℕ) → not (is_some o) ≡ true → o ≡ None
-    not_some None e = refl
-    not_some (Some n) e = absurd cc
-key_kept s (Some key.Rate) cells kept values fit holds = search (range_fits 6 (pos 0) (pos (10 ^ 6)) _ (fits_at (a_rate ∷ []) values 0 fit))
-key_kept s (Some key.Resource) cells kept values fit holds =
-    let new : Resource = record { name = word_at values 0; covers = covers_of s.formulas (drop 1 values) } in
-    let behind = fits_behind 1 (resource_form s cells) values fit in
-    let apart =
-    held Twice _ (check Twice (not (has_repeat new.covers)) ++ check TooMany (not (length s.resources == MAX_RESOURCES))) holds in
-    let once = held Twice (not (has_repeat new.covers)) (check TooMany (not (length s.resources == MAX_RESOURCES))) apart.1 in
+resource_kept : (s : Stated) (cells : List (List ℕ)) → KeepsStated s → Keeps (resource_record s cells) KeepsStated
+resource_kept s cells kept =
+    past {t = nat_lt (length cells) 3} Width (λ count. step (keeps (name (cell_at cells 1))) (λ name is. step (covers_kept s.formulas (drop 2 cells)) (λ covers are.
+    past {t = is_some (resource_named s.resources name) || has_repeat covers} Twice (λ once. past {t = length s.resources == 8} TooMany (λ free.
+    let new : Resource = record { name = name; covers = covers } in
     let more : length (s.resources ++ new ∷ []) ≡ length s.resources + 1 = length-append s.resources (new ∷ []) in
-    search (
-      room s.resources new MAX_RESOURCES kept.resources (held TooMany (not (length s.resources == MAX_RESOURCES)) [] once.1).0,
-      All-push (λ r. All (λ n. n < length s.formulas) r.covers) s.resources new kept.covers
-          (covers_kept s (suc (length cells - 3)) (drop 1 values) behind),
-      All-push (λ r. AreCovers r.covers) s.resources new kept.covers_once (
-        some_covers s (a_destination s.formulas) (replicate (length cells - 3) (a_destination s.formulas)) (drop 1 values) behind,
-        not-true (has_repeat new.covers) once.0,
-      ),
+    let many : 3 ≤ length cells = grind (arith, nat_tests, count) in
+    answers (with_resource s name covers) (search (
+      room s.resources new MAX_RESOURCES kept.resources (eqb-false (length s.resources) 8 free),
+      All-push (λ r. All (λ n. n < length s.formulas) r.covers) s.resources new kept.covers are.0,
+      All-push (λ r. AreCovers r.covers) s.resources new kept.covers_once
+          (omega (arith, are.1, length-drop 2 cells, many), (or_parts (is_some (resource_named s.resources name)) (has_repeat covers) once).1),
       All-weaker (λ l. (l.resource < length s.resources) × (l.period < unwrap_or s.periods 0) × IsBound l.bound)
           (λ l. (l.resource < length (s.resources ++ new ∷ [])) × (l.period < unwrap_or s.periods 0) × IsBound l.bound)
           (λ l h. (omega (arith, more, h.0), h.1, h.2)) s.limits kept.limits,
-    )
-key_kept s (Some key.Limit) cells kept values fit holds =
-    let form = limit_form s cells in
-    let new = limit_of s cells values in
-    let there = number_there (λ (r : Resource). bytes_eq r.name (word_at values 0)) s.resources
-    (passing (λ cell. is_some (resource_named s.resources cell)) _ (fits_at form values 0 fit)) in
-    let early = below_fits (unwrap_or s.periods 0) _ (fits_at form values 1 fit) in
-    let alone = held Twice (not (list_any (λ m. is_same_place new m) s.limits)) (check Order (not (is_turned new.bound))) holds in
-    let straight = held Order (not (is_turned new.bound)) [] alone.1 in
-    limit_kept s new kept there early (record {
-      tonnes = bound_kept (is_interval cells) (drop 2 values) (fits_behind 2 form values fit);
-      straight = not-true (is_turned new.bound) straight.0;
-    }) (not-true (list_any (λ m. is_same_place new m) s.limits) alone.0)
+    )))))))
 
--- a record
-record_kept : (s next : Stated) (cells : List (List ℕ)) → KeepsStated s → States (record_shape s cells) next → KeepsStated next
-record_kept s next cells kept states = by (length cells == 0) (record_fine s cells) states
+bound_kept : (cells : List (List ℕ)) → Keeps (bound_in cells) AreTonnes
+bound_kept cells =
+    either (is_letter cells (codes "I")) (λ at. step (keeps (tonnes (cell_at cells 4))) (λ v of_v. step (keeps (tonnes (cell_at cells 5))) (λ w of_w.
+    answers (Between v w) ((of_v.1, of_v.2), (of_w.1, of_w.2))))) (λ at.
+    either (is_letter cells (codes "L")) (λ at. step (keeps (tonnes (cell_at cells 4))) (λ v of_v. answers (AtMost v) (of_v.1, of_v.2))) (λ at.
+    either (is_letter cells (codes "G")) (λ at. step (keeps (tonnes (cell_at cells 4))) (λ v of_v. answers (AtLeast v) (of_v.1, of_v.2))) (λ at.
+    refuses Name)))
+
+limit_record_kept : (s : Stated) (cells : List (List ℕ)) → KeepsStated s → Keeps (limit_record s cells) KeepsStated
+limit_record_kept s cells kept =
+    past Width (λ count.
+    step (keeps (named (resource_named s.resources (cell_at cells 1)))) (λ resource is.
+    step (keeps (below (unwrap_or s.periods 0) (cell_at cells 2))) (λ period of_period. step (bound_kept cells) (λ bound of_bound.
+    past Twice (λ alone. past Order (λ straight.
+    let there = number_there (λ (r : Resource). bytes_eq r.name (cell_at cells 1)) s.resources resource is in
+    let l : Limit = record { resource = resource; period = period; bound = bound } in
+    answers (record s { limits = with_limit l s.limits }) (limit_kept s l kept there of_period.1
+    (record { tonnes = of_bound; straight = straight }) alone)))))))
+
+-- what a record states behind what is in range is so
+key_kept : (k : Option PlanKey) (s : Stated) (cells : List (List ℕ)) → KeepsStated s → Keeps (key_record k s cells) KeepsStated
+key_kept None s cells kept = refuses Key
+key_kept (Some key.Name) s cells kept =
+    wide Width (length cells) 2 (λ count. step (keeps (name (cell_at cells 1))) (λ name is. past Twice (λ once. answers (record s { name = Some name }) search)))
+key_kept (Some key.Grid) s cells kept =
+    wide Width (length cells) 7 (λ count.
+    step (keeps (origin (cell_at cells 1))) (λ x of_x. step (keeps (origin (cell_at cells 2))) (λ y of_y.
+    step (keeps (origin (cell_at cells 3))) (λ z of_z. step (keeps (size (cell_at cells 4))) (λ a of_a.
+    step (keeps (size (cell_at cells 5))) (λ b of_b. step (keeps (size (cell_at cells 6))) (λ c of_c.
+    past Twice (λ once.
+    let grid : IsGrid (grid_by x y z a b c) = (
+      ((of_x.1, of_x.2), (of_a.1, of_a.2)),
+      ((of_y.1, of_y.2), (of_b.1, of_b.2)),
+      ((of_z.1, of_z.2), (of_c.1, of_c.2)),
+    ) in
+    answers (record s { grid = Some (grid_by x y z a b c) }) (search grid)))))))))
+key_kept (Some key.Zone) s cells kept =
+    either (length cells == 4) (λ four. equal_kept s cells kept) (λ more. either (length cells == 10) (λ ten. sided_kept s cells kept) (λ none. refuses Width))
+key_kept (Some (key.Destination k)) s cells kept = record_of_destination k s cells kept
+key_kept (Some key.Periods) s cells kept =
+    wide Width (length cells) 2 (λ count. step (keeps (whole 1 100 (cell_at cells 1))) (λ n of_n. past Twice (λ once.
+    let none : s.periods ≡ None = none_of s.periods once in
+    let in_range : (1 ≤ n) × (n ≤ 100) = (of_n.1, of_n.2) in
+    answers (record s { periods = Some n }) (search (
+      in_range,
+      All-weaker (λ l. (l.resource < length s.resources) × (l.period < unwrap_or s.periods 0) × IsBound l.bound)
+          (λ l. (l.resource < length s.resources) × (l.period < n) × IsBound l.bound)
+          (λ l h. let small : l.period < unwrap_or s.periods 0 = h.1 in absurd (omega (arith, rw none at small))) s.limits kept.limits,
+    )))))
   where
-    shape_of : Bool → Shape PlanFaultKind Stated
-    shape_of t = if t then blank_shape s else key_shape s (key_of (cell_at cells 0)) cells
+    none_of : (o : Option ℕ) → is_some o ≡ false → o ≡ None
+    none_of None e = refl
+    none_of (Some n) e = absurd cc
+key_kept (Some key.Rate) s cells kept =
+    wide Width (length cells) 2 (λ count. step (keeps (number 6 (pos 0) (pos (10 ^ 6)) (cell_at cells 1) (omega arith))) (λ rate of_rate.
+    past Twice (λ once.
+    let in_range : (pos 0 ≤ℤ rate) × (rate ≤ℤ pos (10 ^ 6)) = (of_rate.1, of_rate.2) in
+    answers (record s { rate = Some rate }) (search in_range))))
+key_kept (Some key.Resource) s cells kept = resource_kept s cells kept
+key_kept (Some key.Limit) s cells kept = limit_record_kept s cells kept
 
-    by : (t : Bool) → is_fine (shape_of t).form ≡ true → States (shape_of t) next → KeepsStated next
-    by true fine states = subst KeepsStated (sym states.is) kept
-    by false fine states =
-        let k = key_of (cell_at cells 0) in
-        subst KeepsStated (sym states.is)
-        (key_kept s k cells kept states.values
-        (spelled_fit (key_shape s k cells).form (key_shape s k cells).texts states.values fine states.spelled) states.last)
+-- a record of this number, and the records, one behind the other
+numbered_kept : (number : ℕ) (s : Stated) (row : List (List ℕ)) → KeepsStated s → Keeps (record_at number s row) KeepsStated
+numbered_kept number s row kept =
+    placed number (past TooMany (λ few. either (length (cells_of row) == 0) (λ none. answers s kept) (λ some.
+    key_kept (key_of (cell_at (cells_of row) 0)) s (cells_of row) kept)))
+  where
+    placed : {r : Result Stated PlanFaultKind} (number : ℕ) → Keeps r KeepsStated → Keeps (at_row number r) KeepsStated
+    placed {r} number all = record { told = by r refl }
+      where
+        by : (q : Result Stated PlanFaultKind) → r ≡ q → (next : Stated) → at_row number q ≡ Ok next → KeepsStated next
+        by (Ok x) is next e = subst KeepsStated (same x next e) (all.told x is)
+        by (Err kind) is next e = absurd cc
 
--- the records, one behind the other
-records_kept : (number : ℕ) (s last : Stated) (rows : List (List (List ℕ))) → KeepsStated s → AllState plan_grammar number s rows last
-    → KeepsStated last
+records_kept : (number : ℕ) (s last : Stated) (rows : List (List (List ℕ))) → KeepsStated s → RecordsState number s rows last → KeepsStated last
 records_kept number s last [] kept all = subst KeepsStated (sym all) kept
 records_kept number s last (row ∷ rows) kept (next, states, more) =
-    records_kept (suc number) next last rows (record_kept s next (cells_of row) kept (numbered states)) more
-  where
-    numbered : States (numbered_shape number (record_shape s (cells_of row))) next → States (record_shape s (cells_of row)) next
-    numbered states = record {
-      first = (held TooMany (nat_le number MAX_PLAN_RECORDS) (record_shape s (cells_of row)).first states.first).1;
-      values = states.values;
-      spelled = states.spelled;
-      last = states.last;
-      is = states.is;
-    }
+    records_kept (suc number) next last rows ((numbered_kept number s row kept).told next states) more
 
 -- what is whole behind parts in range is a plan
 whole_kept : (s : Stated) (name : Option (List ℕ)) (grid : Option Grid) (periods : Option ℕ) (rate : Option ℤ) (p : PlanParts)

@@ -1,53 +1,61 @@
 -- A text states a plan exactly where its records state it, and its fault is that of the first that does not, or a part that is missing.
-use Rattle.std.specs.Prelude.{◌≡◌, ℕ, ◌+◌, List, length, Result, Ok, Err, ◌⊎◌}
+use Rattle.std.specs.Prelude.{◌≡◌, ℕ, suc, ◌+◌, List, [], ◌∷◌, length, Result, Ok, Err, ◌⊎◌}
 use Rattle.std.proofs.Common.{refl, sym, ◌∙◌, ap, inl, inr}
-use Rattle.forms.proofs.GrammarFacts.{all_read, fault_read, read_all_states, read_first_fault}
-use Rattle.forms.specs.Words.{read_all, AllState, IsFirstFault, ◌>>=◌}
+use Rattle.pit_units.specs.Steps.{◌>>=◌}
 use Rattle.pit_parts.specs.Plan.{PlanParts}
-use Rattle.pit_model.specs.Planned.{at_row, finished, planned}
-use Rattle.pit_model.specs.SpelledPlan.{IsLacking, SpellPlan, plan_grammar}
+use Rattle.pit_units.proofs.Exactly.{Exactly, done, same, then_}
+use Rattle.pit_model.specs.Planned.{at_row, finished, planned, record_at, records_from}
+use Rattle.pit_model.specs.SpelledPlan.{IsFirstFault, IsLacking, RecordsState, SpellPlan}
 use Rattle.records.specs.Records.{records_of}
 use Rattle.pit_model.specs.Stated.{Stated, nothing_stated}
 use Rattle.pit_model.specs.declared.plan_fault.PlanFault.{PlanFault}
 use Rattle.pit_model.specs.declared.plan_fault.PlanFaultKind.{PlanFaultKind}
-use Rattle.pit_model.proofs.PlanFits.{plan_fine}
-use Rattle.pit_model.proofs.PlanSteps.{plan_is}
 
--- what is answered behind the records
-abbrev Ended : ℕ → Result Stated PlanFault → Result PlanParts PlanFault
-Ended number r = r >>= λ s. at_row number (finished s)
-
-pub planned_spelled : (text : List ℕ) (p : PlanParts) → planned text ≡ Ok p → SpellPlan (records_of text) p
-planned_spelled text p e = by (read_all plan_grammar 1 nothing_stated (records_of text)) refl (sym (plan_is text) ∙ e)
+at : {A : Type 0} {r : Result A PlanFaultKind} {P : A → Type 0} (number : ℕ) → Exactly r P → Exactly (at_row number r) P
+at {A} {r} {P} number all = record { told = λ y e. all.told y (told r y e); back = λ y h. ap (at_row number) (all.back y h) }
   where
-    number : ℕ
-    number = length (records_of text) + 1
+    told : (r : Result A PlanFaultKind) (y : A) → at_row number r ≡ Ok y → r ≡ Ok y
+    told (Ok x) y e = ap Ok (same x y e)
+    told (Err kind) y e = absurd cc
 
-    same : (r : Result PlanParts PlanFaultKind) → at_row number r ≡ Ok p → r ≡ Ok p
-    same (Ok q) e = let is : q ≡ p = cc in ap Ok is
-    same (Err kind) e = absurd cc
+itself : {A F : Type 0} (r : Result A F) → Exactly r (λ y. r ≡ Ok y)
+itself r = record { told = λ y e. e; back = λ y e. e }
 
-    by : (r : Result Stated PlanFault) → read_all plan_grammar 1 nothing_stated (records_of text) ≡ r → Ended number r ≡ Ok p
-        → SpellPlan (records_of text) p
-    by (Ok s) is e = (s, read_all_states plan_grammar 1 nothing_stated (records_of text) s plan_fine is, same (finished s) e)
-    by (Err fault) is e = absurd cc
+records_stated : (number : ℕ) (s : Stated) (rows : List (List (List ℕ))) → Exactly (records_from number s rows) (RecordsState number s rows)
+records_stated number s [] = done s
+records_stated number s (row ∷ rows) = then_ (itself (record_at number s row)) (λ next. records_stated (suc number) next rows)
 
-pub spelled_planned : (text : List ℕ) (p : PlanParts) → SpellPlan (records_of text) p → planned text ≡ Ok p
-spelled_planned text p (s, all, whole) =
-    plan_is text
-    ∙ ap (Ended (length (records_of text) + 1)) (all_read plan_grammar 1 nothing_stated (records_of text) s plan_fine all)
-    ∙ ap (at_row (length (records_of text) + 1)) whole
+pub plan_spelled : (text : List ℕ) → Exactly (planned text) (SpellPlan (records_of text))
+plan_spelled text =
+    then_ (records_stated 1 nothing_stated (records_of text)) (λ s. at (length (records_of text) + 1) (itself (finished s)))
+
+first_told : (rows : List (List (List ℕ))) (number : ℕ) (s : Stated) (fault : PlanFault) → records_from number s rows ≡ Err fault
+    → IsFirstFault number s rows fault
+first_told [] number s fault e = absurd cc
+first_told (row ∷ rows) number s fault e = by (λ next e. first_told rows (suc number) next fault e) (record_at number s row) refl e
+  where
+    by : ((next : Stated) → records_from (suc number) next rows ≡ Err fault → IsFirstFault (suc number) next rows fault)
+        → (r : Result Stated PlanFault) → record_at number s row ≡ r → (r >>= λ next. records_from (suc number) next rows) ≡ Err fault
+        → IsFirstFault number s (row ∷ rows) fault
+    by more (Ok next) is e = inr (next, is, more next e)
+    by more (Err other) is e = inl (is ∙ e)
+
+first_back : (rows : List (List (List ℕ))) (number : ℕ) (s : Stated) (fault : PlanFault) → IsFirstFault number s rows fault
+    → records_from number s rows ≡ Err fault
+first_back [] number s fault first = absurd first
+first_back (row ∷ rows) number s fault (inl is) = rw is refl
+first_back (row ∷ rows) number s fault (inr (next, states, more)) = rw states (first_back rows (suc number) next fault more)
 
 abbrev IsFault : List ℕ → PlanFault → Type 0
-IsFault text fault = IsFirstFault plan_grammar 1 nothing_stated (records_of text) fault ⊎ IsLacking (records_of text) fault
+IsFault text fault = IsFirstFault 1 nothing_stated (records_of text) fault ⊎ IsLacking (records_of text) fault
 
 pub planned_fails : (text : List ℕ) (fault : PlanFault) → planned text ≡ Err fault → IsFault text fault
-planned_fails text fault e = by (read_all plan_grammar 1 nothing_stated (records_of text)) refl (sym (plan_is text) ∙ e)
+planned_fails text fault e = by (records_from 1 nothing_stated (records_of text)) refl e
   where
     number : ℕ
     number = length (records_of text) + 1
 
-    lacking : (s : Stated) → AllState plan_grammar 1 nothing_stated (records_of text) s → (r : Result PlanParts PlanFaultKind)
+    lacking : (s : Stated) → RecordsState 1 nothing_stated (records_of text) s → (r : Result PlanParts PlanFaultKind)
         → finished s ≡ r
         → at_row number r ≡ Err fault → IsLacking (records_of text) fault
     lacking s all (Ok q) is e = absurd cc
@@ -55,19 +63,15 @@ planned_fails text fault e = by (read_all plan_grammar 1 nothing_stated (records
         let same : record { row = number; kind = kind } ≡ fault = cc in
         (s, all, is ∙ ap (λ (f : PlanFault). Err f.kind) same, ap (λ (f : PlanFault). f.row) (sym same))
 
-    by : (r : Result Stated PlanFault) → read_all plan_grammar 1 nothing_stated (records_of text) ≡ r → Ended number r ≡ Err fault
+    by : (r : Result Stated PlanFault) → records_from 1 nothing_stated (records_of text) ≡ r
+        → (r >>= λ s. at_row number (finished s)) ≡ Err fault
         → IsFault text fault
-    by (Ok s) is e = inr (lacking s (read_all_states plan_grammar 1 nothing_stated (records_of text) s plan_fine is) (finished s) refl e)
+    by (Ok s) is e = inr (lacking s ((records_stated 1 nothing_stated (records_of text)).told s is) (finished s) refl e)
     by (Err other) is e =
         let same : other ≡ fault = cc in
-        inl (read_first_fault plan_grammar 1 nothing_stated (records_of text) fault plan_fine (is ∙ ap Err same))
+        inl (first_told (records_of text) 1 nothing_stated fault (is ∙ ap Err same))
 
 pub fails_planned : (text : List ℕ) (fault : PlanFault) → IsFault text fault → planned text ≡ Err fault
-fails_planned text fault (inl first) =
-    plan_is text
-    ∙ ap (Ended (length (records_of text) + 1)) (fault_read plan_grammar 1 nothing_stated (records_of text) fault plan_fine first)
+fails_planned text fault (inl first) = rw (first_back (records_of text) 1 nothing_stated fault first) refl
 fails_planned text fault (inr (s, all, lacks, place)) =
-    plan_is text
-    ∙ ap (Ended (length (records_of text) + 1)) (all_read plan_grammar 1 nothing_stated (records_of text) s plan_fine all)
-    ∙ ap (at_row (length (records_of text) + 1)) lacks
-    ∙ ap Err (λ i. record { row = sym place i; kind = fault.kind })
+    rw ((records_stated 1 nothing_stated (records_of text)).back s all, lacks) (λ i. Err (record { row = sym place i; kind = fault.kind }))

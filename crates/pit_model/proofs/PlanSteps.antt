@@ -1,24 +1,19 @@
 -- One record of a plan after the other: what the records ahead state, behind those before them.
-use Rattle.std.specs.Prelude.{Bool, Some, not, if◌then◌else◌}
 use Rattle.std.proofs.Common.{◌≡◌, ◌<◌, ◌≤◌, ℕ, suc, ◌+◌, true, false, List, [], ◌∷◌, Result, Ok, Err, refl, sym, ◌∙◌, ap, arith, length, nat_le}
 use Rattle.std.proofs.lemmas.Bool.Decides.{nat_tests}
-use Rattle.forms.specs.Words.{Shape, failing, placed, read, read_all, said, unless, ◌>>=◌}
+use Rattle.pit_units.specs.Steps.{◌>>=◌}
 use Rattle.records.specs.RecordCells.{cells_of}
 use Rattle.pit_parts.specs.Plan.{PlanParts}
-use Rattle.pit_model.specs.PlanShapes.{record_shape}
 use Rattle.pit_model.specs.PlanRecords.{record_of}
 use Rattle.pit_model.specs.Planned.{at_row, finished, planned, record_at, records_from}
-use Rattle.pit_model.specs.SpelledPlan.{numbered_shape, plan_grammar, planned_by_shapes}
 use Rattle.records.specs.RecordReader.{RecordReaderView, Rows, Over, GaveUp, TakesRow}
 use Rattle.records.specs.Records.{records_of}
 use Rattle.pit_model.specs.Stated.{Stated, nothing_stated}
 use Rattle.pit_model.specs.declared.plan_fault.PlanFault.{PlanFault}
-use Rattle.pit_model.specs.declared.plan_fault.PlanFaultKind.{PlanFaultKind}
 use Rattle.pit_model.specs.declared.plan_fault.PlanFaultKind.TheVariants.{TooMany}
 use Rattle.pit_units.specs.OrMemory.{Gives}
 use Rattle.pit_units.specs.declared.or_memory.OrMemory.{OrMemory}
 use Rattle.pit_units.specs.declared.or_memory.OrMemory.TheVariants.{Fault, OutOfMemory}
-use Rattle.pit_model.proofs.RecordFacts.{record_is}
 
 -- the plan of these records, the first of them of this number
 abbrev pub plan_from : List (List (List ℕ)) → ℕ → Stated → Result PlanParts PlanFault
@@ -97,31 +92,3 @@ refused E old fields after n s next OutOfMemory stated t h fails = tt
 refused E old fields after n s next (Fault fault) stated t h fails =
     let p = took E old fields after n s stated t h in
     sym p.1.1 ∙ one fields p.0 n s ∙ ap (λ r. r >>= λ x. plan_from p.0 (n + 1) x) fails
-
--- the record of a number goes by its shape
-at_shape : (n : ℕ) (s : Stated) (row : List (List ℕ))
-    → record_at n s row ≡ placed plan_grammar n row (said (numbered_shape n (record_shape s (cells_of row))))
-at_shape n s row =
-    ap (λ r. at_row n (if not (nat_le n 10000) then Err TooMany else r)) (record_is s (cells_of row))
-    ∙ ap (at_row n) (by (nat_le n 10000) (record_shape s (cells_of row)))
-    ∙ same (said (numbered_shape n (record_shape s (cells_of row))))
-  where
-    by : (t : Bool) (shape : Shape PlanFaultKind Stated) → (if not t then Err TooMany else said shape)
-        ≡ unless (if t then failing shape.first else Some TooMany) (read shape.kinds shape.form shape.texts >>= λ values.
-        unless (failing (shape.last values)) (Ok (shape.next values)))
-    by true shape = refl
-    by false shape = refl
-
-    same : (r : Result Stated PlanFaultKind) → at_row n r ≡ placed plan_grammar n row r
-    same (Ok next) = refl
-    same (Err kind) = refl
-
-all_by_shapes : (n : ℕ) (s : Stated) (rows : List (List (List ℕ))) → records_from n s rows ≡ read_all plan_grammar n s rows
-all_by_shapes n s [] = refl
-all_by_shapes n s (row ∷ rows) =
-    (λ i. record_at n s row >>= λ next. all_by_shapes (suc n) next rows i)
-    ∙ ap (λ r. r >>= λ next. read_all plan_grammar (suc n) next rows) (at_shape n s row)
-
--- and so does a plan
-pub plan_is : (text : List ℕ) → planned text ≡ planned_by_shapes text
-plan_is text = ap (λ r. r >>= λ s. at_row (length (records_of text) + 1) (finished s)) (all_by_shapes 1 nothing_stated (records_of text))

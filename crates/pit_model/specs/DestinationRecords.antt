@@ -1,6 +1,6 @@
 -- What the record of a destination states, cell by cell, or its first fault: a mill, a leach or a dump.
 use Rattle.std.specs.Prelude.{ℕ, ◌%◌, ◌==◌, ◌||◌, not, nat_le, nat_lt, List, [], ◌∷◌, length, drop, pos, unsigned_abs, is_some, Result, Ok, Err, if◌then◌else◌}
-use Rattle.forms.specs.Words.{◌>>=◌}
+use Rattle.pit_units.specs.Steps.{◌>>=◌}
 use Rattle.records.specs.RecordCells.{cell_at}
 use Rattle.pit_parts.specs.formulas.BandsKept.{starts_rise}
 use Rattle.pit_model.specs.Stated.{Stated, destination_named, with_destination}

@@ -1,11 +1,9 @@
 pub mod DestinationRecords
 pub mod FaultText
-pub mod FormulaShapes
-pub mod PlanCells
 pub mod PlanKeys
 pub mod PlanRecords
-pub mod PlanShapes
 pub mod Planned
+pub mod SpelledCells
 pub mod SpelledPlan
 pub mod Stated
 pub mod StatedCells

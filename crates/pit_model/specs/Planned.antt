@@ -1,6 +1,6 @@
 -- The plan that a text states: what its records state in turn, once each part that must be there is.
 use Rattle.std.specs.Prelude.{ℕ, suc, ◌+◌, ◌==◌, ◌||◌, not, nat_le, List, [], ◌∷◌, length, ℤ, Option, Some, Result, Ok, Err, if◌then◌else◌}
-use Rattle.forms.specs.Words.{◌>>=◌}
+use Rattle.pit_units.specs.Steps.{◌>>=◌}
 use Rattle.records.specs.RecordCells.{cells_of}
 use Rattle.records.specs.Records.{records_of}
 use Rattle.pit_parts.specs.Plan.{PlanParts}

@@ -1,38 +1,26 @@
--- Records that spell a plan, and what is wrong with others, by the shapes of their keys.
-use Rattle.std.specs.Prelude.{◌≡◌, ℕ, ◌+◌, nat_le, List, ◌++◌, length, Result, Ok, Err}
-use Rattle.forms.specs.Words.{Grammar, read_all, AllState, Shape, check, ◌>>=◌}
-use Rattle.records.specs.RecordCells.{cells_of}
-use Rattle.records.specs.Records.{records_of}
+-- Records that state a plan one after the other, and what is wrong with others.
+use Rattle.std.specs.Prelude.{◌≡◌, ℕ, suc, ◌+◌, ◌⊎◌, List, [], ◌∷◌, length, Ok, Err}
 use Rattle.pit_parts.specs.Plan.{PlanParts}
-use Rattle.pit_model.specs.PlanShapes.{record_shape}
-use Rattle.pit_model.specs.Planned.{at_row, finished}
+use Rattle.pit_model.specs.Planned.{finished, record_at}
 use Rattle.pit_model.specs.Stated.{Stated, nothing_stated}
 use Rattle.pit_model.specs.declared.plan_fault.PlanFault.{PlanFault}
-use Rattle.pit_model.specs.declared.plan_fault.PlanFaultKind.{PlanFaultKind}
-use Rattle.pit_model.specs.declared.plan_fault.PlanFaultKind.TheVariants.{TooMany}
-use Rattle.pit_parts.specs.declared.ranges.TheConstants.{MAX_PLAN_RECORDS}
 
--- the record of this number, of at most 10,000
-abbrev pub numbered_shape : ℕ → Shape PlanFaultKind Stated → Shape PlanFaultKind Stated
-numbered_shape number shape = record shape { first = check TooMany (nat_le number MAX_PLAN_RECORDS) ++ shape.first }
+-- records, the first of this number, each behind those before it
+abbrev pub RecordsState : ℕ → Stated → List (List (List ℕ)) → Stated → Type 0
+RecordsState number s [] last = last ≡ s
+RecordsState number s (row ∷ rows) last = (next : Stated) × (record_at number s row ≡ Ok next) × RecordsState (suc number) next rows last
 
--- the records of a plan, each the bytes of its cells
-abbrev pub plan_grammar : Grammar (List (List ℕ)) Stated PlanFaultKind PlanFault
-plan_grammar = record {
-  shape = λ number s row. numbered_shape number (record_shape s (cells_of row));
-  fault = λ number row kind. record { row = number; kind = kind };
-}
+-- the fault is that of the first record that states nothing
+abbrev pub IsFirstFault : ℕ → Stated → List (List (List ℕ)) → PlanFault → Type 0
+IsFirstFault number s [] fault = ⊥
+IsFirstFault number s (row ∷ rows) fault =
+    (record_at number s row ≡ Err fault) ⊎ ((next : Stated) × (record_at number s row ≡ Ok next) × IsFirstFault (suc number) next rows fault)
 
--- the plan that a text states by these shapes
-abbrev pub planned_by_shapes : List ℕ → Result PlanParts PlanFault
-planned_by_shapes text =
-    read_all plan_grammar 1 nothing_stated (records_of text) >>= λ s. at_row (length (records_of text) + 1) (finished s)
-
--- the records state the plan
+-- the records spell the plan
 abbrev pub SpellPlan : List (List (List ℕ)) → PlanParts → Type 0
-SpellPlan rows p = (s : Stated) × AllState plan_grammar 1 nothing_stated rows s × (finished s ≡ Ok p)
+SpellPlan rows p = (s : Stated) × RecordsState 1 nothing_stated rows s × (finished s ≡ Ok p)
 
 -- each record states its part, and in the end one is missing
 abbrev pub IsLacking : List (List (List ℕ)) → PlanFault → Type 0
 IsLacking rows fault =
-    (s : Stated) × AllState plan_grammar 1 nothing_stated rows s × (finished s ≡ Err fault.kind) × (fault.row ≡ length rows + 1)
+    (s : Stated) × RecordsState 1 nothing_stated rows s × (finished s ≡ Err fault.kind) × (fault.row ≡ length rows + 1)

@@ -1,6 +1,6 @@
 -- What a cell of a plan's record states, or which fault it has.
 use Rattle.std.specs.Prelude.{ℕ, ◌*◌, ◌/◌, ◌^◌, List, ℤ, pos, ◌*ℤ◌, ◌-ℤ◌, int_div, unsigned_abs, Option, Some, None, Result, Ok, Err, if◌then◌else◌}
-use Rattle.forms.specs.Words.{◌>>=◌}
+use Rattle.pit_units.specs.Steps.{◌>>=◌}
 use Rattle.pit_units.specs.Decimal.{decimal_within}
 use Rattle.pit_units.specs.declared.fault.DecFault.{DecFault}
 use Rattle.pit_units.specs.declared.fault.DecFault.TheVariants as dec

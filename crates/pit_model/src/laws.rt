@@ -1,16 +1,16 @@
 //! Laws of the definitions that contracts cite: each function here does nothing, and its contract states one.
 
-ghost use Rattle.std.specs.Prelude.{◌≡◌, ◌↔◌, ◌⊎◌, ℕ, List, ◌∷◌, Ok, Err};
+ghost use Rattle.std.specs.Prelude.{◌≡◌, ◌↔◌, ◌⊎◌, ◌≤◌, ℕ, ℤ, List, ◌∷◌, Ok, Err};
 ghost use Rattle.std.specs.List.Sorted.{IsPermutation};
-ghost use Rattle.forms.specs.Words.{IsFirstFault, said};
 ghost use Rattle.pit_parts.specs.Plan.{PlanParts};
 ghost use Rattle.pit_parts.specs.PlanKept.{IsPlan};
-ghost use Rattle.pit_model.specs.PlanRecords.{record_of};
-ghost use Rattle.pit_model.specs.PlanShapes.{record_shape};
+ghost use Rattle.pit_units.specs.SpelledNumbers.{SpellsBelow, SpellsNumber, SpellsWhole};
 ghost use Rattle.pit_model.specs.Planned.{planned};
-ghost use Rattle.pit_model.specs.SpelledPlan.{IsLacking, SpellPlan, plan_grammar, planned_by_shapes};
+ghost use Rattle.pit_model.specs.SpelledCells.{IsNameOf, SpellsOrigin, SpellsSize};
+ghost use Rattle.pit_model.specs.SpelledPlan.{IsFirstFault, IsLacking, SpellPlan};
 ghost use Rattle.records.specs.Records.{records_of};
-ghost use Rattle.pit_model.specs.Stated.{Stated, nothing_stated, with_limit};
+ghost use Rattle.pit_model.specs.Stated.{nothing_stated, with_limit};
+ghost use Rattle.pit_model.specs.StatedCells.{below_in, name_in, number_in, origin_in, size_in, whole_in};
 ghost use Rattle.pit_parts.specs.declared.limit.Limit.{Limit};
 ghost use Rattle.pit_model.specs.declared.plan_fault.PlanFault.{PlanFault};
 
@@ -29,7 +29,7 @@ pub fn plans_are_spelled()
 pub fn faults_are_first()
     ensures { (text : List ℕ) (fault : PlanFault)
         → (planned text ≡ Err fault)
-        ↔ (IsFirstFault plan_grammar 1 nothing_stated (records_of text) fault
+        ↔ (IsFirstFault 1 nothing_stated (records_of text) fault
         ⊎ IsLacking (records_of text) fault) }
 {}
 
@@ -44,9 +44,16 @@ pub fn spelled_is_plan()
     ensures { (rows : List (List (List ℕ))) (p : PlanParts) → SpellPlan rows p → IsPlan p }
 {}
 
-/// A plan and its records, which are said outright, go by the shapes of the records' keys.
-#[tactic(auto, using(crate::proofs::RecordFacts::record_is, crate::proofs::PlanSteps::plan_is))]
-pub fn plans_go_by_forms()
-    ensures records { (s : Stated) (cells : List (List ℕ)) → record_of s cells ≡ said (record_shape s cells) }
-    ensures plans { (text : List ℕ) → planned text ≡ planned_by_shapes text }
+/// What is read of a cell is what the cell spells: a number with so many decimals in a range, a whole number in a range
+/// or below a limit, an origin or a size in metres, a NAME.
+pub fn cells_are_spelled()
+    ensures numbers { (decimals : ℕ) (low high : ℤ) (cell : List ℕ) (m : ℤ) → decimals ≤ 6
+        → (number_in decimals low high cell ≡ Ok m) ↔ SpellsNumber decimals low high cell m }
+    ensures whole { (low high : ℕ) (cell : List ℕ) (n : ℕ)
+        → (whole_in low high cell ≡ Ok n) ↔ SpellsWhole low high cell n }
+    ensures below { (limit : ℕ) (cell : List ℕ) (n : ℕ)
+        → (below_in limit cell ≡ Ok n) ↔ SpellsBelow limit cell n }
+    ensures origins { (cell : List ℕ) (mm : ℤ) → (origin_in cell ≡ Ok mm) ↔ SpellsOrigin cell mm }
+    ensures sizes { (cell : List ℕ) (mm : ℕ) → (size_in cell ≡ Ok mm) ↔ SpellsSize cell mm }
+    ensures names { (cell name : List ℕ) → (name_in cell ≡ Ok name) ↔ IsNameOf cell name }
 {}

@@ -5,17 +5,16 @@ use Rattle.std.proofs.lemmas.Bool.{eqb-true, eq-eqb}
 use Rattle.std.proofs.lemmas.Int.{ints}
 use Rattle.std.proofs.lemmas.Nat.{div-add-mod'}
 use Rattle.std.proofs.Math.Nat.{mul-div_left, div-lt_iff_lt-mul}
-use Rattle.forms.specs.Words.{is_on_step}
 use Rattle.pit_parts.specs.declared.grid.Axis.{Axis}
-use Rattle.zone_csv.specs.Cell.{index_at, least}
-use Rattle.zone_csv.specs.RowShape.{IsInGrid, centroid}
+use Rattle.zone_csv.specs.Cell.{index_at, is_on_step, least}
+use Rattle.zone_csv.specs.SpelledRow.{IsInGrid, centroid}
 
 module _ (axis : Axis) (some : 0 < axis.size) where
   abbrev size : ℕ
   size = 1000 * axis.size
 
   -- an index is that of a coordinate's blocks
-  pub index_is_centroid : (coordinate : ℤ) (index : ℕ) → IsInGrid axis coordinate → is_on_step size (least axis) coordinate ≡ true
+  pub index_is_centroid : (coordinate : ℤ) (index : ℕ) → IsInGrid axis coordinate → is_on_step axis coordinate ≡ true
       → index_at axis coordinate ≡ index → (coordinate ≡ centroid axis index) × (index < 10000)
   index_is_centroid coordinate index within step answer = by (coordinate -ℤ least axis) refl step answer
     where
@@ -34,11 +33,11 @@ module _ (axis : Axis) (some : 0 < axis.size) where
   -- a coordinate that is whole sizes above the origin is on the step, and the centroid of as many blocks as there are sizes
   pub whole_sizes : (coordinate : ℤ) (above : ℕ) → IsInGrid axis coordinate → above ≡ unsigned_abs (coordinate -ℤ least axis)
       → above / size * size ≡ above
-      → (is_on_step size (least axis) coordinate ≡ true) × (coordinate ≡ centroid axis (above / size))
+      → (is_on_step axis coordinate ≡ true) × (coordinate ≡ centroid axis (above / size))
   whole_sizes coordinate above within is whole =
       let sum : above / size * size + above % size ≡ above = div-add-mod' above size in
       let none : above % size ≡ 0 = omega (arith, sum, whole) in
-      let step : is_on_step size (least axis) coordinate ≡ true =
+      let step : is_on_step axis coordinate ≡ true =
       eq-eqb (unsigned_abs (coordinate -ℤ least axis) % size) 0 (ap (λ n. n % size) (sym is) ∙ none) in
       (step, (index_is_centroid coordinate (above / size) within step (ap (λ n. n / size) (sym is))).0)
 
@@ -52,7 +51,7 @@ module _ (axis : Axis) (some : 0 < axis.size) where
   pub centroid_index : (index : ℕ) → index_at axis (centroid axis index) ≡ index
   centroid_index index = rw (far index) (whole_blocks index)
 
-  pub centroid_on_step : (index : ℕ) → is_on_step size (least axis) (centroid axis index) ≡ true
+  pub centroid_on_step : (index : ℕ) → is_on_step axis (centroid axis index) ≡ true
   centroid_on_step index =
       let sum : index * size / size * size + index * size % size ≡ index * size = div-add-mod' (index * size) size in
       let product : index * size / size * size ≡ index * size = ap (λ n. n * size) (whole_blocks index) in

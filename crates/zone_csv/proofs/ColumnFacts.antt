@@ -1,22 +1,17 @@
 -- A header's columns are those that it names.
-use Rattle.std.proofs.Common.{◌≡◌, ℕ, zero, suc, ◌+◌, ◌<◌, Bool, true, false, List, [], ◌∷◌, ◌++◌, length, arith, refl, sym, ◌∙◌, ap, subst, Ok, Err, Some, None}
+use Rattle.std.proofs.Common.{◌≡◌, ℕ, zero, suc, ◌+◌, ◌<◌, Bool, true, false, List, [], ◌∷◌, length, arith, refl, sym, ap, subst, Ok, Err}
 use Rattle.std.specs.List.{AllZip}
-use Rattle.std.specs.Prelude.{Result, Option, ◌==◌, flat_map, map, nat_le, slice_index_or, if◌then◌else◌}
-use Rattle.std.proofs.lemmas.Bool.Decides.{nat_tests}
+use Rattle.std.specs.Prelude.{if◌then◌else◌}
 use Rattle.records.specs.Cells.{trimmed, is_word}
-use Rattle.forms.specs.Words.{Check, failing, unless}
-use Rattle.zone_csv.proofs.RowFacts.{AreOfRow, failing_of_row}
-use Rattle.zone_csv.specs.Cell.{a_fault, trimmed_at}
+use Rattle.pit_units.proofs.Exactly.{Exactly, as_, done, made, same, then_}
+use Rattle.zone_csv.proofs.RowFacts.{IsOfRow, step_of_row}
+use Rattle.zone_csv.specs.Cell.{trimmed_at}
 use Rattle.zone_csv.specs.Columns.{all_columns, column_name}
-use Rattle.zone_csv.proofs.HeaderFacts.{columns_are}
-use Rattle.zone_csv.specs.Header.{columns_of, places_in, places_of}
+use Rattle.zone_csv.specs.Header.{columns_of, each_place, one_place, places_in, places_of}
 use Rattle.zone_csv.specs.NamedColumns.{NamesColumn, NamesColumns}
-use Rattle.zone_csv.specs.RowShape.{a_column, asked_of_column, asked_of_header, place_in}
-use Rattle.zone_csv.specs.declared.columns.Columns.{Columns}
 use Rattle.zone_csv.specs.declared.row_fault.Column.{Column}
 use Rattle.zone_csv.specs.declared.row_fault.Column.TheVariants.{X}
 use Rattle.zone_csv.specs.declared.row_fault.RowFault.{RowFault}
-use Rattle.zone_csv.specs.declared.row_fault.RowFaultKind.TheVariants.{TwiceColumn}
 
 module _ (name : List ℕ) (no_name : is_word [] name ≡ false) where
   abbrev Is : List (List ℕ) → ℕ → Type 0
@@ -75,16 +70,11 @@ module _ (name : List ℕ) (no_name : is_word [] name ≡ false) where
           let other : two.1 ≡ p = h.1 two.1 two.3 in
           absurd (omega (arith, first, other, two.4))
 
--- a column of which nothing fails has one place, and leaves what is asked of those behind it
-one_place_each : (column : Column) (places : List ℕ) (rest : List (Check RowFault)) → failing (a_column column places ++ rest) ≡ None
-    → (places ≡ slice_index_or places 0 0 ∷ []) × ((more : List (Check RowFault)) → failing (a_column column places ++ more) ≡ failing more)
-one_place_each column [] rest e = absurd cc
-one_place_each column (p ∷ []) rest e = (refl, λ more. refl)
-one_place_each column (p ∷ second ∷ more) rest e =
-    let some : (length (p ∷ second ∷ more) == 0) ≡ false = grind (arith, nat_tests) in
-    let twice : nat_le (length (p ∷ second ∷ more)) 1 ≡ false = grind (arith, nat_tests) in
-    let fails : Some (a_fault 1 column TwiceColumn) ≡ None = rw (some, twice) at e in
-    absurd cc
+-- a column that stands at one place stands at no other
+one_stands : (column : Column) (places : List ℕ) (place : ℕ) → one_place column places ≡ Ok place → places ≡ place ∷ []
+one_stands column [] place e = absurd cc
+one_stands column (p ∷ []) place e = ap (λ q. q ∷ []) (same p place e)
+one_stands column (p ∷ second ∷ more) place e = absurd cc
 
 -- no column is named by an empty cell
 no_name : (column : Column) → is_word [] (column_name column) ≡ false
@@ -95,68 +85,55 @@ module _ (header : List (List ℕ)) where
   abbrev IsNamed : Column → ℕ → Type 0
   IsNamed column place = NamesColumn header (column_name column) place
 
-  -- columns of which nothing fails are named at their places
-  columns_stand : (columns : List Column) → failing (flat_map (asked_of_column header) columns) ≡ None
-      → AllZip IsNamed columns (map (place_in header) columns)
-  columns_stand [] e = tt
-  columns_stand (column ∷ columns) e =
-      let rest = flat_map (asked_of_column header) columns in
-      let one = one_place_each column (places_in header column) rest e in
-      (place_named (column_name column) (no_name column) header _ one.0, columns_stand columns (sym (one.1 rest) ∙ e))
+  -- a column stands at one place, and at no other, exactly where it is named there
+  one_named : (column : Column) → Exactly (one_place column (places_in header column)) (IsNamed column)
+  one_named column = record {
+    told = λ place e. place_named (column_name column) (no_name column) header place (one_stands column (places_in header column) place e);
+    back = λ place named. ap (one_place column) (named_place (column_name column) (no_name column) header place named);
+  }
 
-  -- and of columns that are named nothing fails
-  standing_columns : (columns : List Column) (places : List ℕ) → AllZip IsNamed columns places
-      → (failing (flat_map (asked_of_column header) columns) ≡ None) × (map (place_in header) columns ≡ places)
-  standing_columns [] [] named = (refl, refl)
-  standing_columns (column ∷ columns) (place ∷ places) named =
-      let here = named_place (column_name column) (no_name column) header place named.0 in
-      let rest = standing_columns columns places named.1 in
-      (rw here rest.0, rw here (ap (λ ps. place ∷ ps) rest.1))
-  standing_columns _ _ named = absurd named
+  -- and so do columns, each at its place
+  each_named : (columns : List Column) → Exactly (each_place header columns) (AllZip IsNamed columns)
+  each_named [] = as_ (done []) (λ places is. subst (AllZip IsNamed []) (sym is) tt) none
+    where
+      none : (places : List ℕ) → AllZip IsNamed [] places → places ≡ []
+      none [] h = refl
+      none (place ∷ places) h = absurd h
+  each_named (column ∷ columns) = as_ (steps (each_named columns)) to from
+    where
+      Steps : List ℕ → Type 0
+      Steps all = (place : ℕ) × IsNamed column place × ((places : List ℕ) × AllZip IsNamed columns places × (all ≡ place ∷ places))
 
-passed : {S : Type 0} (found : Option RowFault) (made other : S) → ◌≡◌ {A = Result S RowFault} (unless found (Ok made)) (Ok other)
-    → (found ≡ None) × (made ≡ other)
-passed (Some fault) made other e = absurd cc
-passed None made other e = (refl, cc)
+      steps : Exactly (each_place header columns) (AllZip IsNamed columns) → Exactly (each_place header (column ∷ columns)) Steps
+      steps more = then_ (one_named column) (λ place. then_ more (λ places. done (place ∷ places)))
 
-pub columns_named : (header : List (List ℕ)) (columns : Columns) → columns_of header ≡ Ok columns → NamesColumns header columns
-columns_named header columns e =
-    let all = passed (failing (asked_of_header header)) _ columns (sym (columns_are header) ∙ e) in
-    subst (NamesColumns header) all.1 (record { width = refl; places = columns_stand header all_columns all.0 })
+      to : (all : List ℕ) → Steps all → AllZip IsNamed (column ∷ columns) all
+      to all (place, named, (places, more, is)) = subst (AllZip IsNamed (column ∷ columns)) (sym is) (named, more)
 
-pub named_columns : (header : List (List ℕ)) (columns : Columns) → NamesColumns header columns → columns_of header ≡ Ok columns
-named_columns header columns named =
-    let all = standing_columns header all_columns columns.places named.places in
-    rw (columns_are header, all.0) (λ i. Ok (record { width = sym named.width i; places = all.1 i }))
+      from : (all : List ℕ) → AllZip IsNamed (column ∷ columns) all → Steps all
+      from [] h = absurd h
+      from (place ∷ places) h = (place, h.0, (places, h.1, refl))
 
--- a header is refused with what fails first in it
-pub header_fails : (header : List (List ℕ)) (fault : RowFault) → failing (asked_of_header header) ≡ Some fault
-    → columns_of header ≡ Err fault
-header_fails header fault e = rw (columns_are header, e) refl
+  pub header_named : Exactly (columns_of header) (NamesColumns header)
+  unfolding columns_of
+  header_named =
+      made (λ places. record { width = length header; places = places }) (each_named all_columns)
+      (λ places named. record { width = refl; places = named })
+      (λ columns named. (columns.places, named.places, λ i. record { width = sym named.width i; places = columns.places }))
 
-refused : {S : Type 0} (found : Option RowFault) (made : S) (fault : RowFault)
-    → ◌≡◌ {A = Result S RowFault} (unless found (Ok made)) (Err fault)
-    → found ≡ Some fault
-refused (Some other) made fault e = cc
-refused None made fault e = absurd cc
+-- the fault of a header is of its row
+place_of_row : (column : Column) (places : List ℕ) → IsOfRow 1 (one_place column places)
+place_of_row column [] = refl
+place_of_row column (place ∷ []) = tt
+place_of_row column (place ∷ second ∷ more) = refl
 
-pub refused_header : (header : List (List ℕ)) (fault : RowFault) → columns_of header ≡ Err fault
-    → failing (asked_of_header header) ≡ Some fault
-refused_header header fault e = refused (failing (asked_of_header header)) _ fault (sym (columns_are header) ∙ e)
+places_of_row : (header : List (List ℕ)) (columns : List Column) → IsOfRow 1 (each_place header columns)
+places_of_row header [] = tt
+places_of_row header (column ∷ columns) =
+    step_of_row 1 (one_place column (places_in header column)) _ (place_of_row column (places_in header column)) (λ place.
+    step_of_row 1 (each_place header columns) _ (places_of_row header columns) (λ places. tt))
 
--- what is asked of a header is of its row
-of_row_1 : (header : List (List ℕ)) (columns : List Column) → AreOfRow 1 (flat_map (asked_of_column header) columns)
-of_row_1 header [] = tt
-of_row_1 header (column ∷ columns) = (refl, (refl, of_row_1 header columns))
-
-pub fault_of_header : (header : List (List ℕ)) (fault : RowFault) → failing (asked_of_header header) ≡ Some fault → fault.row ≡ 1
-fault_of_header header fault e = failing_of_row 1 (asked_of_header header) fault (of_row_1 header all_columns) e
-
--- columns that a header names have five places
-pub five_places : (header : List (List ℕ)) (columns : Columns) → NamesColumns header columns → length columns.places ≡ 5
-five_places header columns named = sym (as_many all_columns columns.places named.places)
-  where
-    as_many : (left : List Column) (places : List ℕ) → AllZip (IsNamed header) left places → length left ≡ length places
-    as_many [] [] all = refl
-    as_many (column ∷ left) (place ∷ places) all = ap suc (as_many left places all.1)
-    as_many _ _ all = absurd all
+pub fault_of_header : (header : List (List ℕ)) (fault : RowFault) → columns_of header ≡ Err fault → fault.row ≡ 1
+unfolding columns_of
+fault_of_header header fault e =
+    subst (IsOfRow 1) e (step_of_row 1 (each_place header all_columns) _ (places_of_row header all_columns) (λ places. tt))

@@ -1,7 +1,6 @@
 pub mod CentroidFacts
 pub mod HeaderFacts
 pub mod RowFacts
-pub mod ShapeFacts
 pub mod ZoneFacts
 pub mod ColumnFacts
 pub mod AnsweredAgain

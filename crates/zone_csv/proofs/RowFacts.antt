@@ -1,174 +1,211 @@
--- What a row's answer tells of its number, and that a row states a block exactly where its cells spell the block's values.
-use Rattle.std.proofs.Common.{rules, ◌≡◌, ℕ, ◌*◌, ◌/◌, ◌%◌, ◌^◌, ◌<◌, ◌≤◌, Bool, true, false, List, [], ◌∷◌, ◌++◌, suc, arith, refl, sym, ◌∙◌, ap, subst, leb-true, inl, inr, pos, negsuc, Some, None, Ok, Err, min, length}
-use Rattle.std.specs.Prelude.{Option, map, nat_le, unsigned_abs, ◌↔◌, if◌then◌else◌}
+-- What a row's answer tells: that its fault is of its number, and that it states a block exactly where its cells spell the block.
+use Rattle.std.proofs.Common.{◌≡◌, ℕ, ◌*◌, ◌/◌, ◌%◌, ◌^◌, ◌<◌, ◌≤◌, Bool, true, false, List, arith, refl, sym, ◌∙◌, ap, subst, leb-true, ℤ, pos, Ok, Err, min, length}
+use Rattle.std.specs.Prelude.{Result, ◌==◌, nat_le, not, if◌then◌else◌}
 use Rattle.std.proofs.Math.Nat.{min-eq_left, mul-div_left}
-use Rattle.std.proofs.lemmas.Bool.{eq-eqb, le-leb}
-use Rattle.std.proofs.lemmas.Int.{ints}
-use Rattle.forms.proofs.ShapeFacts.{IsAnswer, said_answers, states_said, fails_said}
-use Rattle.forms.specs.Words.{Demand, FailsFirst, asked, asked_of_field, asked_of_fields, Field, Decimal, Stepped, Word, Value, Millionths, Bytes, millionths, FieldFault, next_kinds, ◌>>=◌, Says, Spell, Check, Shape, failing, Fails, States}
+use Rattle.std.proofs.lemmas.Bool.{eq-eqb, le-leb, not-false}
+use Rattle.pit_units.proofs.Exactly.{Exactly, as_, counted, done, holds, same, tested, then_}
+use Rattle.pit_units.proofs.Multiples.{stands_multiple}
+use Rattle.pit_units.proofs.SpelledFacts.{size_of_number, stands_within, within_stands}
+use Rattle.pit_units.specs.Decimal.{decimal_within}
+use Rattle.pit_units.specs.SpelledNumbers.{SpellsNumber, SpellsSize}
+use Rattle.pit_units.specs.StandsFor.{StandsFor}
+use Rattle.pit_units.specs.Steps.{◌>>=◌}
+use Rattle.pit_units.specs.declared.fault.DecFault.{DecFault}
+use Rattle.pit_units.specs.declared.fault.DecFault.TheVariants as dec
+use Rattle.pit_parts.proofs.BlockFacts.{block_again}
 use Rattle.pit_parts.specs.Block.{block_with}
 use Rattle.pit_parts.specs.declared.block.Block.{Block}
 use Rattle.pit_parts.specs.declared.grid.Axis.{Axis}
 use Rattle.pit_parts.specs.declared.grid.Grid.{Grid}
-use Rattle.pit_units.proofs.Multiples.{stands_multiple}
-use Rattle.pit_parts.proofs.BlockFacts.{block_again}
-use Rattle.zone_csv.proofs.CentroidFacts.{centroid_index, index_is_centroid}
-use Rattle.zone_csv.proofs.ShapeFacts.{row_is}
-use Rattle.zone_csv.specs.Cell.{index_at}
-use Rattle.zone_csv.specs.Columns.{all_columns}
-use Rattle.zone_csv.specs.Row.{cell_in, index_said, row_of, size_said}
-use Rattle.zone_csv.specs.RowShape.{a_tonnage, block_of, centroid, coordinate, field_of, grade, row_shape, row_values}
-use Rattle.zone_csv.specs.declared.row_fault.Column.TheVariants.{X, Y, Z, Tonnes, Grade}
+use Rattle.zone_csv.proofs.CentroidFacts.{centroid_in_grid, centroid_index, centroid_on_step, index_is_centroid}
+use Rattle.zone_csv.specs.Cell.{a_fault, greatest, index_at, is_on_step, least}
+use Rattle.zone_csv.specs.Row.{cell_in, index_said, number_said, row_of, size_said}
+use Rattle.zone_csv.specs.SpelledRow.{SpellsBlock, centroid}
 use Rattle.zone_csv.specs.declared.columns.Columns.{Columns}
+use Rattle.zone_csv.specs.declared.row_fault.Column.{Column}
+use Rattle.zone_csv.specs.declared.row_fault.Column.TheVariants.{X, Y, Z, Tonnes, Grade, Whole}
 use Rattle.zone_csv.specs.declared.row_fault.RowFault.{RowFault}
+use Rattle.zone_csv.specs.declared.row_fault.RowFaultKind.TheVariants.{OffGrid, TooManyRows, Width}
 
--- the fault of the first test that fails, and of the first thing asked that does not hold, is of the row that all of them are of
-abbrev pub AreOfRow : ℕ → List (Check RowFault) → Type 0
-AreOfRow row [] = Unit {0}
-AreOfRow row (c ∷ checks) = (c.kind.row ≡ row) × AreOfRow row checks
+-- the fault of steps is of the row that each one's is of
+abbrev pub IsOfRow : {A : Type 0} → ℕ → Result A RowFault → Type 0
+IsOfRow row (Ok x) = Unit {0}
+IsOfRow row (Err fault) = fault.row ≡ row
 
-pub failing_of_row : (row : ℕ) (checks : List (Check RowFault)) (fault : RowFault) → AreOfRow row checks → failing checks ≡ Some fault
-    → fault.row ≡ row
-failing_of_row row [] fault all e = absurd cc
-failing_of_row row (c ∷ checks) fault all e = by c.holds e (λ rest. failing_of_row row checks fault all.1 rest)
+pub step_of_row : {A B : Type 0} (row : ℕ) (r : Result A RowFault) (next : A → Result B RowFault) → IsOfRow row r
+    → ((x : A) → IsOfRow row (next x)) → IsOfRow row (r >>= next)
+step_of_row row (Ok x) next here behind = behind x
+step_of_row row (Err fault) next here behind = here
+
+number_of_row : (row : ℕ) (column : Column) (d : Result ℤ DecFault) → IsOfRow row (number_said row column d)
+number_of_row row column (Ok m) = tt
+number_of_row row column (Err dec.Number) = refl
+number_of_row row column (Err dec.TooFine) = refl
+number_of_row row column (Err dec.Range) = refl
+
+index_of_row : (row : ℕ) (column : Column) (axis : Axis) (cell : List ℕ) → IsOfRow row (index_said row column axis cell)
+index_of_row row column axis cell =
+    step_of_row row (number_said row column (decimal_within 3 (least axis) (greatest axis) cell)) _ (number_of_row row column _) (λ m. by m (is_on_step axis m))
   where
-    by : (holds : Bool) → (if holds then failing checks else Some c.kind) ≡ Some fault → (failing checks ≡ Some fault → fault.row ≡ row)
-        → fault.row ≡ row
-    by true e rest = rest e
-    by false e rest = let same : c.kind ≡ fault = cc in ap (λ (f : RowFault). f.row) (sym same) ∙ all.0
+    by : (m : ℤ) (t : Bool) → IsOfRow row (if t then Ok (index_at axis m) else Err (a_fault row column OffGrid))
+    by m true = tt
+    by m false = refl
 
-abbrev pub AreAskedOfRow : ℕ → List (Demand RowFault) → Type 0
-AreAskedOfRow row [] = Unit {0}
-AreAskedOfRow row (d ∷ demands) = (d.kind.row ≡ row) × AreAskedOfRow row demands
+size_of_row : (row : ℕ) (column : Column) (decimals most : ℕ) (cell : List ℕ) → IsOfRow row (size_said row column decimals most cell)
+size_of_row row column decimals most cell =
+    step_of_row row (number_said row column (decimal_within decimals (pos 0) (pos most) cell)) _ (number_of_row row column _) (λ m. tt)
 
--- what is asked of texts is of the row that each kind is of
-fields_of_row : (row : ℕ) (kinds : ℕ → FieldFault → RowFault) → ((place : ℕ) (found : FieldFault) → (kinds place found).row ≡ row)
-    → (form : List Field) (texts : List (List ℕ)) → AreAskedOfRow row (asked_of_fields kinds form texts)
-fields_of_row row kinds own [] texts = tt
-fields_of_row row kinds own (field ∷ form) [] = tt
-fields_of_row row kinds own (field ∷ form) (text ∷ texts) = by field (fields_of_row row (next_kinds kinds) (λ place. own (suc place)) form texts)
-  where
-    by : (field : Field) → AreAskedOfRow row (asked_of_fields (next_kinds kinds) form texts)
-        → AreAskedOfRow row (asked_of_field (kinds 0) field text ++ asked_of_fields (next_kinds kinds) form texts)
-    by (Decimal decimals low high) rest = (own 0 _, (own 0 _, (own 0 _, rest)))
-    by (Stepped decimals step low high) rest = (own 0 _, (own 0 _, (own 0 _, (own 0 _, rest))))
-    by (Word passes) rest = (own 0 _, rest)
+-- cells, each read exactly as what it spells: a number in a range, the index whose centroid it spells, and a size
+module _ (row : ℕ) (column : Column) where
+  number_ok : (d : Result ℤ DecFault) (m : ℤ) → number_said row column d ≡ Ok m → d ≡ Ok m
+  number_ok (Ok n) m e = ap Ok (same n m e)
+  number_ok (Err dec.Number) m e = absurd cc
+  number_ok (Err dec.TooFine) m e = absurd cc
+  number_ok (Err dec.Range) m e = absurd cc
 
-asked_of_row : (row : ℕ) (demands : List (Demand RowFault)) (fault : RowFault) → AreAskedOfRow row demands → FailsFirst demands fault
-    → fault.row ≡ row
-asked_of_row row [] fault all fails = absurd fails
-asked_of_row row (d ∷ demands) fault all (inl here) = ap (λ (f : RowFault). f.row) here.1 ∙ all.0
-asked_of_row row (d ∷ demands) fault all (inr later) = asked_of_row row demands fault all.1 later.1
+  number_spelled : (decimals : ℕ) (low high : ℤ) (cell : List ℕ) → decimals ≤ 6
+      → Exactly (number_said row column (decimal_within decimals low high cell)) (SpellsNumber decimals low high cell)
+  number_spelled decimals low high cell few = record {
+    told = λ m e. within_stands decimals low high cell m few (number_ok (decimal_within decimals low high cell) m e);
+    back = λ m h. ap (number_said row column) (stands_within decimals low high cell m few h);
+  }
+
+  index_spelled : (axis : Axis) (cell : List ℕ) → 0 < axis.size
+      → Exactly (index_said row column axis cell) (λ index. StandsFor 3 cell (centroid axis index) × (index < 10000))
+  index_spelled axis cell some = as_ steps to from
+    where
+      Steps : ℕ → Type 0
+      Steps index = (m : ℤ) × SpellsNumber 3 (least axis) (greatest axis) cell m × ((is_on_step axis m ≡ true) × (index ≡ index_at axis m))
+
+      steps : Exactly (index_said row column axis cell) Steps
+      steps =
+          then_ (number_spelled 3 (least axis) (greatest axis) cell (omega arith)) (λ m.
+          holds (a_fault row column OffGrid) (done (index_at axis m)))
+
+      to : (index : ℕ) → Steps index → StandsFor 3 cell (centroid axis index) × (index < 10000)
+      to index (m, spells, (whole, is)) =
+          let there = index_is_centroid axis some m index (spells.1, spells.2) whole (sym is) in
+          (subst (StandsFor 3 cell) there.0 spells.0, there.1)
+
+      from : (index : ℕ) → StandsFor 3 cell (centroid axis index) × (index < 10000) → Steps index
+      from index h =
+          let within = centroid_in_grid axis some index h.1 in
+          (centroid axis index, (h.0, within.0, within.1), (centroid_on_step axis some index, sym (centroid_index axis some index)))
+
+  size_spelled : (decimals most : ℕ) (cell : List ℕ) → decimals ≤ 6
+      → Exactly (size_said row column decimals most cell) (SpellsSize decimals most cell)
+  size_spelled decimals most cell few = size_of_number cell decimals most (number_spelled decimals (pos 0) (pos most) cell few)
+
+itself : {A F : Type 0} (r : Result A F) → Exactly r (λ y. r ≡ Ok y)
+itself r = record { told = λ y e. e; back = λ y e. e }
 
 module _ (grid : Grid) (zone : ℕ) (columns : Columns) (number : ℕ) (cells : List (List ℕ)) where
-  abbrev shape : Shape RowFault Block
-  shape = row_shape grid zone columns number cells
+  abbrev cell : ℕ → List ℕ
+  cell k = cell_in columns cells k
+
+  -- what the cells say
+  abbrev said : Result Block RowFault
+  said =
+      index_said number X grid.x (cell 0) >>= λ x. index_said number Y grid.y (cell 1) >>= λ y. index_said number Z grid.z (cell 2) >>= λ z.
+      size_said number Tonnes 3 (10 ^ 9 * 1000) (cell 3) >>= λ tonnes. size_said number Grade 6 (10 ^ 12) (cell 4) >>= λ grade.
+      Ok (block_with x y z (tonnes / 1000) grade zone)
 
   -- what is read of a row that is not too many, and as wide as the header
-  pub row_read : number ≤ 1000001 → length cells ≡ columns.width
-      → row_of grid zone columns number cells
-      ≡ (index_said number X grid.x (cell_in columns cells 0) >>= λ x.
-      index_said number Y grid.y (cell_in columns cells 1) >>= λ y.
-      index_said number Z grid.z (cell_in columns cells 2) >>= λ z.
-      size_said number Tonnes 3 (10 ^ 9 * 1000) (cell_in columns cells 3) >>= λ tonnes.
-      size_said number Grade 6 (10 ^ 12) (cell_in columns cells 4) >>= λ grade.
-      Ok (block_with x y z (tonnes / 1000) grade zone))
+  pub row_read : number ≤ 1000001 → length cells ≡ columns.width → row_of grid zone columns number cells ≡ said
   unfolding row_of
   row_read few wide = rw (le-leb number 1000001 few, eq-eqb (length cells) columns.width wide) refl
 
-  pub row_answers : length columns.places ≡ 5 → IsAnswer shape (row_of grid zone columns number cells)
-  row_answers five = subst (IsAnswer shape) (sym (row_is grid zone columns number cells five)) (said_answers shape refl)
+  -- a row states a block step by step
+  abbrev IsRead : Block → Type 0
+  IsRead b =
+      (number ≤ 1000001) × ((length cells ≡ columns.width) × ((x : ℕ) × (index_said number X grid.x (cell 0) ≡ Ok x)
+      × ((y : ℕ) × (index_said number Y grid.y (cell 1) ≡ Ok y) × ((z : ℕ) × (index_said number Z grid.z (cell 2) ≡ Ok z)
+      × ((tonnes : ℕ) × (size_said number Tonnes 3 (10 ^ 9 * 1000) (cell 3) ≡ Ok tonnes)
+      × ((grade : ℕ) × (size_said number Grade 6 (10 ^ 12) (cell 4) ≡ Ok grade)
+      × (b ≡ block_with x y z (tonnes / 1000) grade zone)))))))
 
-  pub states_row : length columns.places ≡ 5 → (b : Block) → States shape b → row_of grid zone columns number cells ≡ Ok b
-  states_row five b states = row_is grid zone columns number cells five ∙ states_said shape b refl states
+  pub row_is_read : Exactly (row_of grid zone columns number cells) IsRead
+  unfolding row_of
+  row_is_read =
+      tested (a_fault number Whole TooManyRows) (λ e. leb-true number 1000001 (not-false (nat_le number 1000001) e))
+      (λ h. rw (le-leb number 1000001 h) refl) (
+      counted (a_fault number Whole Width) (length cells) columns.width (
+      then_ (itself (index_said number X grid.x (cell 0))) (λ x. then_ (itself (index_said number Y grid.y (cell 1))) (λ y.
+      then_ (itself (index_said number Z grid.z (cell 2))) (λ z.
+      then_ (itself (size_said number Tonnes 3 (10 ^ 9 * 1000) (cell 3))) (λ tonnes.
+      then_ (itself (size_said number Grade 6 (10 ^ 12) (cell 4))) (λ grade.
+      done (block_with x y z (tonnes / 1000) grade zone))))))))
 
-  pub fails_row : length columns.places ≡ 5 → (fault : RowFault) → Fails shape fault → row_of grid zone columns number cells ≡ Err fault
-  fails_row five fault fails = row_is grid zone columns number cells five ∙ fails_said shape fault refl fails
+  -- a row with a block is within the first 1,000,001 records, and its block is of the zone; a fault is of the row
+  pub row_within : (b : Block) → row_of grid zone columns number cells ≡ Ok b → number ≤ 1000001
+  row_within b e = (row_is_read.told b e).0
 
-  pub fails_alone : (b : Block) (fault : RowFault) → Fails shape fault → States shape b → ⊥
-  fails_alone b fault fails states = absurd (cc (fails_said shape fault refl fails, states_said shape b refl states))
-
-  -- a row with a block is within the first 1,000,001 records, and its block is of the zone
-  pub row_within : (b : Block) → States shape b → number ≤ 1000001
-  row_within b states = by (nat_le number 1000001) _ _ refl states.first
-    where
-      by : (few : Bool) (rest : Option RowFault) (fault : RowFault) → nat_le number 1000001 ≡ few
-          → (if few then rest else Some fault) ≡ None
-          → number ≤ 1000001
-      by true rest fault few e = leb-true number 1000001 few
-      by false rest fault few e = absurd cc
-
-  pub zone_of_row : (b : Block) → States shape b → b.zone ≡ min zone 63
+  pub zone_of_row : (b : Block) → row_of grid zone columns number cells ≡ Ok b → b.zone ≡ min zone 63
   unfolding block_with
-  zone_of_row b states = ap (λ (c : Block). c.zone) states.is
-
-  pub fault_of_row : (fault : RowFault) → Fails shape fault → fault.row ≡ number
-  fault_of_row fault (inl e) = failing_of_row number shape.first fault (refl, (refl, tt)) e
-  fault_of_row fault (inr (e, inl first)) =
-      asked_of_row number (asked shape.kinds shape.form shape.texts) fault
-      (refl, fields_of_row number shape.kinds (λ place found. refl) shape.form shape.texts) first
-  fault_of_row fault (inr (e, inr last)) = absurd (none last.fails)
+  zone_of_row b e = by (row_is_read.told b e)
     where
-      none : None ≡ Some fault → ⊥
-      none e = absurd cc
+      by : IsRead b → b.zone ≡ min zone 63
+      by (few, (wide, (x, of_x, (y, of_y, (z, of_z, (tonnes, of_tonnes, (grade, of_grade, is))))))) = ap (λ (c : Block). c.zone) is
 
--- the value of a coordinate, of a tonnage or of a grade is that of the number that it states
-index_back : (axis : Axis) (cell : List ℕ) (value : Value) → 0 < axis.size → Says (coordinate axis) cell value
-    → value ≡ Millionths (centroid axis (min (index_at axis (millionths value)) 9999))
-index_back axis cell (Millionths m) some says =
-    let is = index_is_centroid axis some m (index_at axis m) (says.1, says.2) says.3 refl in
-    ap Millionths (is.0 ∙ ap (centroid axis) (sym (min-eq_left (omega (arith, is.1)))))
-index_back axis cell (Bytes word) some says = absurd says
-
-kilograms_back : (cell : List ℕ) (value : Value) → Says a_tonnage cell value
-    → value ≡ Millionths (pos (min (unsigned_abs (millionths value) / 1000) (10 ^ 9) * 1000))
-kilograms_back cell (Millionths (pos n)) says =
-    let rest : n % 10 ^ 3 ≡ 0 = stands_multiple 3 cell (pos n) (omega arith) says.0 in
-    let few : n / 1000 ≤ 10 ^ 9 = omega (arith, ints, says.2) in
-    let whole : n ≡ n / 1000 * 1000 = omega (arith, rest) in
-    ap (λ k. Millionths (pos k)) (whole ∙ ap (λ k. k * 1000) (sym (min-eq_left few)))
-kilograms_back cell (Millionths (negsuc n)) says = absurd (omega (arith, ints, says.1))
-kilograms_back cell (Bytes word) says = absurd says
-
-grade_back : (cell : List ℕ) (value : Value) → Says grade cell value
-    → value ≡ Millionths (pos (min (unsigned_abs (millionths value)) (10 ^ 12)))
-grade_back cell (Millionths (pos n)) says =
-    let few : n ≤ 10 ^ 12 = omega (arith, ints, says.2) in
-    ap (λ k. Millionths (pos k)) (sym (min-eq_left few))
-grade_back cell (Millionths (negsuc n)) says = absurd (omega (arith, ints, says.1))
-grade_back cell (Bytes word) says = absurd says
-
-module _ (grid : Grid) (zone : ℕ) (sx : 0 < grid.x.size) (sy : 0 < grid.y.size) (sz : 0 < grid.z.size) where
-  -- a block is stated by its values
-  block_back : (b : Block) → b.zone ≡ zone → b ≡ block_of grid zone (row_values grid b)
-  block_back b own =
-      let kg : b.kg * 1000 / 1000 ≡ b.kg = mul-div_left b.kg (omega arith) in
-      sym (block_again b) ∙ rw (own, centroid_index grid.x sx b.x, centroid_index grid.y sy b.y, centroid_index grid.z sz b.z, kg) refl
-
-  -- values that are spelled are those of the block that they state
-  values_back : (texts : List (List ℕ)) (values : List Value) → Spell (map (field_of grid) all_columns) texts values
-      → values ≡ row_values grid (block_of grid zone values)
-  unfolding block_with
-  values_back (cx ∷ cy ∷ cz ∷ ct ∷ cg ∷ []) (x ∷ y ∷ z ∷ t ∷ g ∷ []) (of_x, (of_y, (of_z, (of_t, (of_g, end))))) = λ i.
-      index_back grid.x cx x sx of_x i ∷ index_back grid.y cy y sy of_y i ∷ index_back grid.z cz z sz of_z i
-      ∷ kilograms_back ct t of_t i ∷ grade_back cg g of_g i ∷ []
-  values_back _ _ spelled = absurd (search rules)
-
-  pub row_spells_block : zone < 64 → (columns : Columns) (number : ℕ) (cells : List (List ℕ)) (b : Block)
-      → let shape = row_shape grid zone columns number cells in
-      States shape b ↔ ((failing shape.first ≡ None) × Spell shape.form shape.texts (row_values grid b) × (b.zone ≡ zone))
-  row_spells_block small columns number cells b = (to, from)
+  row_of_row : IsOfRow number (row_of grid zone columns number cells)
+  unfolding row_of
+  row_of_row = by (nat_le number 1000001) (length cells == columns.width)
     where
-      here : Shape RowFault Block
-      here = row_shape grid zone columns number cells
+      cells_of_row : IsOfRow number said
+      cells_of_row =
+          step_of_row number (index_said number X grid.x (cell 0)) _ (index_of_row number X grid.x (cell 0)) (λ x.
+          step_of_row number (index_said number Y grid.y (cell 1)) _ (index_of_row number Y grid.y (cell 1)) (λ y.
+          step_of_row number (index_said number Z grid.z (cell 2)) _ (index_of_row number Z grid.z (cell 2)) (λ z.
+          step_of_row number (size_said number Tonnes 3 (10 ^ 9 * 1000) (cell 3)) _ (size_of_row number Tonnes 3 (10 ^ 9 * 1000) (cell 3)) (λ tonnes.
+          step_of_row number (size_said number Grade 6 (10 ^ 12) (cell 4)) _ (size_of_row number Grade 6 (10 ^ 12) (cell 4)) (λ grade. tt)))))
 
-      to : States here b → (failing here.first ≡ None) × Spell here.form here.texts (row_values grid b) × (b.zone ≡ zone)
-      to states = (
-        states.first,
-        subst (Spell here.form here.texts)
-            (values_back here.texts states.values states.spelled ∙ ap (row_values grid) (sym states.is)) states.spelled,
-        zone_of_row grid zone columns number cells b states ∙ min-eq_left (omega (arith, small)),
-      )
+      by : (few wide : Bool) → IsOfRow number (if not few then Err (a_fault number Whole TooManyRows)
+          else (if not wide then Err (a_fault number Whole Width) else said))
+      by true true = cells_of_row
+      by true false = refl
+      by false wide = refl
 
-      from : (failing here.first ≡ None) × Spell here.form here.texts (row_values grid b) × (b.zone ≡ zone) → States here b
-      from h = record { first = h.0; values = row_values grid b; spelled = h.1; last = refl; is = block_back b h.2 }
+  pub fault_of_row : (fault : RowFault) → row_of grid zone columns number cells ≡ Err fault → fault.row ≡ number
+  fault_of_row fault e = subst (IsOfRow number) e row_of_row
+
+  module _ (sx : 0 < grid.x.size) (sy : 0 < grid.y.size) (sz : 0 < grid.z.size) where
+    pub read : (b : Block) → SpellsBlock grid zone columns number cells b → IsRead b
+    read b s =
+        let kg : b.kg * 1000 / 1000 ≡ b.kg = mul-div_left b.kg (omega arith) in
+        let is : b ≡ block_with b.x b.y b.z (b.kg * 1000 / 1000) b.grade zone = rw (kg, sym s.own) (sym (block_again b)) in
+        let x = (index_spelled number X grid.x (cell 0) sx).back b.x (s.x, b.x_in_grid) in
+        let y = (index_spelled number Y grid.y (cell 1) sy).back b.y (s.y, b.y_in_grid) in
+        let z = (index_spelled number Z grid.z (cell 2) sz).back b.z (s.z, b.z_in_grid) in
+        let tonnes = (size_spelled number Tonnes 3 (10 ^ 9 * 1000) (cell 3) (omega arith)).back (b.kg * 1000) (s.tonnes, omega (arith, b.kg_in_range)) in
+        let grade = (size_spelled number Grade 6 (10 ^ 12) (cell 4) (omega arith)).back b.grade (s.grade, b.grade_in_range) in
+        (s.few, (s.wide, (b.x, x, (b.y, y, (b.z, z, (b.kg * 1000, tonnes, (b.grade, grade, is)))))))
+
+    module _ (small : zone < 64) where
+      spelled : (b : Block) → IsRead b → SpellsBlock grid zone columns number cells b
+      unfolding block_with
+      spelled b (few, (wide, (x, x_read, (y, y_read, (z, z_read, (tonnes, tonnes_read, (grade, grade_read, is))))))) =
+          let at_x = (index_spelled number X grid.x (cell 0) sx).told x x_read in
+          let at_y = (index_spelled number Y grid.y (cell 1) sy).told y y_read in
+          let at_z = (index_spelled number Z grid.z (cell 2) sz).told z z_read in
+          let of_t = (size_spelled number Tonnes 3 (10 ^ 9 * 1000) (cell 3) (omega arith)).told tonnes tonnes_read in
+          let of_g = (size_spelled number Grade 6 (10 ^ 12) (cell 4) (omega arith)).told grade grade_read in
+          let is_x : b.x ≡ min x 9999 = ap (λ (c : Block). c.x) is in
+          let is_y : b.y ≡ min y 9999 = ap (λ (c : Block). c.y) is in
+          let is_z : b.z ≡ min z 9999 = ap (λ (c : Block). c.z) is in
+          let is_kg : b.kg ≡ min (tonnes / 1000) (10 ^ 9) = ap (λ (c : Block). c.kg) is in
+          let is_grade : b.grade ≡ min grade (10 ^ 12) = ap (λ (c : Block). c.grade) is in
+          let rest : tonnes % 10 ^ 3 ≡ 0 = stands_multiple 3 (cell 3) (pos tonnes) (omega arith) of_t.0 in
+          let kg : tonnes ≡ b.kg * 1000 = omega (arith, rest, is_kg, of_t.1) in
+          record {
+            few = few;
+            wide = wide;
+            x = subst (λ n. StandsFor 3 (cell 0) (centroid grid.x n)) (omega (arith, is_x, at_x.1)) at_x.0;
+            y = subst (λ n. StandsFor 3 (cell 1) (centroid grid.y n)) (omega (arith, is_y, at_y.1)) at_y.0;
+            z = subst (λ n. StandsFor 3 (cell 2) (centroid grid.z n)) (omega (arith, is_z, at_z.1)) at_z.0;
+            tonnes = subst (λ n. StandsFor 3 (cell 3) (pos n)) kg of_t.0;
+            grade = subst (λ n. StandsFor 6 (cell 4) (pos n)) (omega (arith, is_grade, of_g.1)) of_g.0;
+            own = ap (λ (c : Block). c.zone) is ∙ min-eq_left (omega (arith, small));
+          }
+
+      pub row_spelled : Exactly (row_of grid zone columns number cells) (SpellsBlock grid zone columns number cells)
+      row_spelled = as_ row_is_read spelled read

@@ -4,22 +4,23 @@ use Rattle.std.specs.Prelude.{Result, Option, All, MatchOption, ◌⊎◌, ◌�
 use Rattle.std.specs.Result.{ok_prefix}
 use Rattle.std.proofs.Math.Nat.{min-eq_left}
 use Rattle.std.proofs.lemmas.List.Elements.{All-nil, All-cons}
-use Rattle.forms.proofs.ShapeFacts.{IsAnswer}
 use Rattle.records.specs.Records.{records_of}
 use Rattle.pit_parts.specs.declared.block.Block.{Block}
 use Rattle.pit_parts.specs.declared.grid.Grid.{Grid}
-use Rattle.zone_csv.proofs.ColumnFacts.{columns_named, fault_of_header, five_places, header_fails, named_columns, refused_header}
-use Rattle.zone_csv.proofs.RowFacts.{fails_row, fault_of_row, row_answers, row_within, states_row, zone_of_row}
+use Rattle.zone_csv.proofs.ColumnFacts.{fault_of_header, header_named}
+use Rattle.zone_csv.proofs.RowFacts.{fault_of_row, row_within, zone_of_row}
+use Rattle.zone_csv.specs.Cell.{a_fault}
 use Rattle.zone_csv.specs.Header.{columns_of}
 use Rattle.zone_csv.specs.NamedColumns.{NamesColumns}
 use Rattle.zone_csv.specs.Row.{row_of}
-use Rattle.zone_csv.specs.RowShape.{row_shape}
 use Rattle.zone_csv.specs.Zone.{below_header, blocks_of, fault_of, first_fault, records_say, rows_say}
 use Rattle.zone_csv.specs.ZoneReaderView.{Ahead, ZoneReaderView}
 use Rattle.zone_csv.specs.ZoneKept.{AccountsForRecords, HasFewBlocks, HasOwnBlocks}
 use Rattle.zone_csv.specs.ZoneStates.{HeaderFails, RowsState, ZoneStates, header_record}
 use Rattle.zone_csv.specs.declared.columns.Columns.{Columns}
+use Rattle.zone_csv.specs.declared.row_fault.Column.TheVariants as column
 use Rattle.zone_csv.specs.declared.row_fault.RowFault.{RowFault}
+use Rattle.zone_csv.specs.declared.row_fault.RowFaultKind.TheVariants.{MissingColumn}
 
 -- what records tell: where there is a fault, it may be the header's
 abbrev pub Tell : Grid → ℕ → List (List (List ℕ)) → List Block → Option RowFault → Type 0
@@ -36,21 +37,29 @@ abbrev IsWhole : ℕ → Option RowFault → List Block → Type 0
 IsWhole records fault blocks =
     MatchOption fault (records ≡ length blocks + 1) (λ f. (f.row ≡ length blocks + 2) ⊎ ((f.row ≡ 1) × (blocks ≡ [])))
 
+-- where there are no records, the header has no cells
+empty_header : columns_of [] ≡ Err (a_fault 1 column.X MissingColumn)
+unfolding columns_of
+empty_header = refl
+
 -- no cells name columns
 no_columns : (columns : Columns) → NamesColumns [] columns → ⊥
-no_columns columns named = absurd (cc (header_fails [] _ refl, named_columns [] columns named))
+no_columns columns named = absurd (cc (empty_header, (header_named []).back columns named))
+
+no_header : (fault : RowFault) → columns_of [] ≡ Err fault → Some (a_fault 1 column.X MissingColumn) ≡ Some fault
+no_header fault e = let here = empty_header in cc
 
 module _ (grid : Grid) (zone : ℕ) where
-  module _ (columns : Columns) (five : length columns.places ≡ 5) where
+  module _ (columns : Columns) where
     -- rows state what they say
     rows_told : (rows : List (List (List ℕ))) (number : ℕ)
         → RowsState grid zone columns number rows (ok_prefix (rows_say grid zone columns rows number))
         (first_fault (rows_say grid zone columns rows number))
     rows_told [] number = tt
     rows_told (row ∷ rows) number =
-        by (row_of grid zone columns number row) (row_answers grid zone columns number row five) (rows_told rows (number + 1))
+        by (row_of grid zone columns number row) refl (rows_told rows (number + 1))
       where
-        by : (r : Result Block RowFault) → IsAnswer (row_shape grid zone columns number row) r
+        by : (r : Result Block RowFault) → row_of grid zone columns number row ≡ r
             → RowsState grid zone columns (number + 1) rows
             (ok_prefix (rows_say grid zone columns rows (number + 1))) (first_fault (rows_say grid zone columns rows (number + 1)))
             → RowsState grid zone columns number
@@ -65,12 +74,10 @@ module _ (grid : Grid) (zone : ℕ) where
         → (first_fault (rows_say grid zone columns rows number) ≡ fault) × (ok_prefix (rows_say grid zone columns rows number) ≡ blocks)
     told_rows [] number [] None h = (refl, refl)
     told_rows (row ∷ rows) number [] (Some fault) fails =
-        let here = fails_row grid zone columns number row five fault fails in
-        (rw here refl, rw here refl)
+        (rw fails refl, rw fails refl)
     told_rows (row ∷ rows) number (b ∷ blocks) fault (states, rest) =
-        let here = states_row grid zone columns number row five b states in
         let more = told_rows rows (number + 1) blocks fault rest in
-        (rw here more.0, rw here (ap (λ bs. b ∷ bs) more.1))
+        (rw states more.0, rw states (ap (λ bs. b ∷ bs) more.1))
     told_rows _ number _ _ h = absurd h
 
     -- rows that state blocks are few, the blocks are of the zone, and each row has one, up to that of the fault
@@ -99,7 +106,7 @@ module _ (grid : Grid) (zone : ℕ) where
   -- records tell what they say
   pub told : (records : List (List (List ℕ)))
       → Tell grid zone records (ok_prefix (records_say grid zone records)) (first_fault (records_say grid zone records))
-  told [] = inl (refl, refl)
+  told [] = inl (refl, empty_header)
   told (header ∷ rows) = by (columns_of header) refl
     where
       below : (columns : Columns) (blocks : List Block) (fault : Option RowFault) → NamesColumns header columns
@@ -111,9 +118,9 @@ module _ (grid : Grid) (zone : ℕ) where
       by : (r : Result Columns RowFault) → columns_of header ≡ r
           → Tell grid zone (header ∷ rows) (ok_prefix (below_header grid zone r rows)) (first_fault (below_header grid zone r rows))
       by (Ok columns) e =
-          let named = columns_named header columns e in
-          below columns _ _ named (rows_told columns (five_places header columns named) rows 2)
-      by (Err fault) e = inl (refl, refused_header header fault e)
+          let named = (header_named header).told columns e in
+          below columns _ _ named (rows_told columns rows 2)
+      by (Err fault) e = inl (refl, e)
 
   -- and say what they tell
   stated_records : (records : List (List (List ℕ))) (blocks : List Block) (fault : Option RowFault)
@@ -121,24 +128,23 @@ module _ (grid : Grid) (zone : ℕ) where
       → (first_fault (records_say grid zone records) ≡ fault) × (ok_prefix (records_say grid zone records) ≡ blocks)
   stated_records [] blocks fault (columns, named, states) = absurd (no_columns columns named)
   stated_records (header ∷ rows) blocks fault (columns, named, states) =
-      let above = named_columns header columns named in
-      let below = told_rows columns (five_places header columns named) rows 2 blocks fault states in
+      let above = (header_named header).back columns named in
+      let below = told_rows columns rows 2 blocks fault states in
       (rw above below.0, rw above below.1)
 
   pub tell_back : (records : List (List (List ℕ))) (blocks : List Block) (fault : Option RowFault) → Tell grid zone records blocks fault
       → (first_fault (records_say grid zone records) ≡ fault) × (ok_prefix (records_say grid zone records) ≡ blocks)
   tell_back records blocks None states = stated_records records blocks None states
   tell_back records blocks (Some fault) (inr states) = stated_records records blocks (Some fault) states
-  tell_back [] blocks (Some fault) (inl (none, fails)) = (fails, sym none)
+  tell_back [] blocks (Some fault) (inl (none, fails)) = (no_header fault fails, sym none)
   tell_back (header ∷ rows) blocks (Some fault) (inl (none, fails)) =
-      let above = header_fails header fault fails in
-      (rw above refl, rw above (sym none))
+      (rw fails refl, rw fails (sym none))
 
   behind : (records : List (List (List ℕ))) (blocks : List Block) (fault : Option RowFault) → ZoneStates grid zone records blocks fault
       → (length blocks ≤ 1000000) × All (λ (b : Block). b.zone ≡ min zone 63) blocks × IsWhole (length records) fault blocks
   behind [] blocks fault (columns, named, states) = absurd (no_columns columns named)
   behind (header ∷ rows) blocks fault (columns, named, states) =
-      let all = rows_kept columns (five_places header columns named) rows 2 blocks fault (omega arith) states in
+      let all = rows_kept columns rows 2 blocks fault (omega arith) states in
       (omega (arith, all.0), all.1, whole fault all.2)
     where
       whole : (fault : Option RowFault) → Accounts (length rows) 2 fault (length blocks) → IsWhole (length (header ∷ rows)) fault blocks

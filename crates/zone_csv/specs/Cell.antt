@@ -1,5 +1,5 @@
 -- The cells of a row, and the coordinates and indices of a grid.
-use Rattle.std.specs.Prelude.{ℕ, ◌*◌, ◌/◌, List, [], ℤ, pos, negsuc, ◌+ℤ◌, ◌-ℤ◌, ◌*ℤ◌, unsigned_abs, slice_index_or}
+use Rattle.std.specs.Prelude.{ℕ, ◌*◌, ◌/◌, ◌%◌, ◌==◌, Bool, List, [], ℤ, pos, negsuc, ◌+ℤ◌, ◌-ℤ◌, ◌*ℤ◌, unsigned_abs, slice_index_or}
 use Rattle.records.specs.Cells.{trimmed}
 use Rattle.pit_parts.specs.declared.grid.Axis.{Axis}
 use Rattle.zone_csv.specs.declared.row_fault.Column.{Column}
@@ -25,3 +25,7 @@ greatest axis = (pos 1000 *ℤ (axis.origin +ℤ pos (GRID_CELLS * axis.size))) 
 -- the index of the blocks at a coordinate: how many sizes it is above the origin
 abbrev pub index_at : Axis → ℤ → ℕ
 index_at axis coordinate = unsigned_abs (coordinate -ℤ least axis) / (1000 * axis.size)
+
+-- a coordinate is whole sizes of a block above the origin
+abbrev pub is_on_step : Axis → ℤ → Bool
+is_on_step axis coordinate = unsigned_abs (coordinate -ℤ least axis) % (1000 * axis.size) == 0

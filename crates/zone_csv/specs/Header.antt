@@ -1,6 +1,6 @@
 -- The header of a zone file: where its columns stand.
 use Rattle.std.specs.Prelude.{ℕ, ◌+◌, List, [], ◌∷◌, length, Result, Ok, Err, if◌then◌else◌}
-use Rattle.forms.specs.Words.{◌>>=◌}
+use Rattle.pit_units.specs.Steps.{◌>>=◌}
 use Rattle.records.specs.Cells.{trimmed, is_word}
 use Rattle.zone_csv.specs.Cell.{a_fault}
 use Rattle.zone_csv.specs.Columns.{all_columns, column_name}

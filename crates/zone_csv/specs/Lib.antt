@@ -4,7 +4,7 @@ pub mod FaultText
 pub mod Header
 pub mod NamedColumns
 pub mod Row
-pub mod RowShape
+pub mod SpelledRow
 pub mod Zone
 pub mod ZoneKept
 pub mod ZoneReaderView

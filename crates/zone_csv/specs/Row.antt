@@ -1,6 +1,6 @@
 -- What a row of a zone file says, cell by cell: a block, or its first fault.
-use Rattle.std.specs.Prelude.{ℕ, ◌+◌, ◌*◌, ◌/◌, ◌%◌, ◌==◌, nat_le, not, List, length, slice_index_or, ℤ, pos, ◌-ℤ◌, unsigned_abs, Result, Ok, Err, if◌then◌else◌}
-use Rattle.forms.specs.Words.{◌>>=◌}
+use Rattle.std.specs.Prelude.{ℕ, ◌+◌, ◌*◌, ◌/◌, ◌==◌, nat_le, not, List, length, slice_index_or, ℤ, pos, unsigned_abs, Result, Ok, Err, if◌then◌else◌}
+use Rattle.pit_units.specs.Steps.{◌>>=◌}
 use Rattle.pit_units.specs.Decimal.{decimal_within}
 use Rattle.pit_units.specs.declared.fault.DecFault.{DecFault}
 use Rattle.pit_units.specs.declared.fault.DecFault.TheVariants as dec
@@ -9,7 +9,7 @@ use Rattle.pit_parts.specs.declared.block.Block.{Block}
 use Rattle.pit_parts.specs.declared.grid.Axis.{Axis}
 use Rattle.pit_parts.specs.declared.grid.Grid.{Grid}
 use Rattle.pit_parts.specs.declared.ranges.TheConstants.{MAX_GRADE, MAX_KG, MAX_ROWS}
-use Rattle.zone_csv.specs.Cell.{a_fault, greatest, index_at, least, trimmed_at}
+use Rattle.zone_csv.specs.Cell.{a_fault, greatest, index_at, is_on_step, least, trimmed_at}
 use Rattle.zone_csv.specs.declared.columns.Columns.{Columns}
 use Rattle.zone_csv.specs.declared.row_fault.Column.{Column}
 use Rattle.zone_csv.specs.declared.row_fault.Column.TheVariants.{X, Y, Z, Tonnes, Grade, Whole}
@@ -27,7 +27,7 @@ number_said row column (Err dec.Range) = Err (a_fault row column Range)
 abbrev pub index_said : ℕ → Column → Axis → List ℕ → Result ℕ RowFault
 index_said row column axis cell =
     number_said row column (decimal_within 3 (least axis) (greatest axis) cell) >>= λ m.
-    if unsigned_abs (m -ℤ least axis) % (1000 * axis.size) == 0 then Ok (index_at axis m) else Err (a_fault row column OffGrid)
+    if is_on_step axis m then Ok (index_at axis m) else Err (a_fault row column OffGrid)
 
 -- so many millionths, from 0 to the most, with so many decimals
 abbrev pub size_said : ℕ → Column → ℕ → ℕ → List ℕ → Result ℕ RowFault

@@ -1,10 +1,10 @@
 -- What the records of a zone file state, as relations.
-use Rattle.std.specs.Prelude.{◌≡◌, ℕ, ◌+◌, List, [], ◌∷◌, drop, slice_index_or, Option, Some, None}
-use Rattle.forms.specs.Words.{failing, Fails, States}
+use Rattle.std.specs.Prelude.{◌≡◌, ℕ, ◌+◌, List, [], ◌∷◌, drop, slice_index_or, Option, Some, None, Ok, Err}
 use Rattle.pit_parts.specs.declared.block.Block.{Block}
 use Rattle.pit_parts.specs.declared.grid.Grid.{Grid}
+use Rattle.zone_csv.specs.Header.{columns_of}
 use Rattle.zone_csv.specs.NamedColumns.{NamesColumns}
-use Rattle.zone_csv.specs.RowShape.{asked_of_header, row_shape}
+use Rattle.zone_csv.specs.Row.{row_of}
 use Rattle.zone_csv.specs.declared.columns.Columns.{Columns}
 use Rattle.zone_csv.specs.declared.row_fault.RowFault.{RowFault}
 
@@ -14,9 +14,9 @@ RowsState grid zone columns number [] [] None = Unit {0}
 RowsState grid zone columns number [] [] (Some fault) = ⊥
 RowsState grid zone columns number [] (block ∷ blocks) fault = ⊥
 RowsState grid zone columns number (row ∷ rows) [] None = ⊥
-RowsState grid zone columns number (row ∷ rows) [] (Some fault) = Fails (row_shape grid zone columns number row) fault
+RowsState grid zone columns number (row ∷ rows) [] (Some fault) = row_of grid zone columns number row ≡ Err fault
 RowsState grid zone columns number (row ∷ rows) (block ∷ blocks) fault =
-    States (row_shape grid zone columns number row) block × RowsState grid zone columns (number + 1) rows blocks fault
+    (row_of grid zone columns number row ≡ Ok block) × RowsState grid zone columns (number + 1) rows blocks fault
 
 -- the header of these records, which has no cells where there are none
 abbrev pub header_record : List (List (List ℕ)) → List (List ℕ)
@@ -27,6 +27,6 @@ abbrev pub ZoneStates : Grid → ℕ → List (List (List ℕ)) → List Block �
 ZoneStates grid zone records blocks fault =
     (columns : Columns) × NamesColumns (header_record records) columns × RowsState grid zone columns 2 (drop 1 records) blocks fault
 
--- the fault is what fails first in the header, and then there are no blocks
+-- the header has this fault, and then there are no blocks
 abbrev pub HeaderFails : List (List (List ℕ)) → List Block → RowFault → Type 0
-HeaderFails records blocks fault = (blocks ≡ []) × (failing (asked_of_header (header_record records)) ≡ Some fault)
+HeaderFails records blocks fault = (blocks ≡ []) × (columns_of (header_record records) ≡ Err fault)

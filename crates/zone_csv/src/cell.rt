@@ -5,7 +5,7 @@ ghost use Rattle.pit_parts.specs.PlanKept.{IsAxis};
 ghost use Rattle.pit_units.specs.Decimal.{decimal_within};
 ghost use Rattle.zone_csv.specs.Cell.{a_fault, greatest, least};
 ghost use Rattle.zone_csv.specs.Row.{index_said, number_said, size_said};
-ghost use Rattle.zone_csv.specs.RowShape.{IsInGrid};
+ghost use Rattle.zone_csv.specs.SpelledRow.{IsInGrid};
 ghost use Rattle.zone_csv.specs.inner.RowAnswers.{in_row};
 ghost use Rattle.pit_parts.specs.declared.ranges.TheConstants.{GRID_CELLS};
 

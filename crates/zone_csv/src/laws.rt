@@ -1,18 +1,16 @@
 //! What holds of every zone file and of every coordinate, for whoever speaks of them in a contract. The calls do nothing.
 
-ghost use Rattle.std.specs.Prelude.{◌≡◌, ◌*◌, ◌<◌, ◌⊎◌, ◌↔◌, ℕ, ℤ, true, length, map, List, Option, Result, Ok, Err, None, Some};
-ghost use Rattle.forms.specs.Words.{is_on_step, Spell, failing, said, unless, Fails, States};
+ghost use Rattle.std.specs.Prelude.{◌≡◌, ◌<◌, ◌⊎◌, ◌↔◌, ℕ, ℤ, true, List, Option, Result, Ok, Err, None, Some};
 ghost use Rattle.pit_units.specs.declared.or_memory.OrMemory.{OrMemory};
 ghost use Rattle.pit_parts.specs.declared.grid.Axis.{Axis as AnAxis};
 ghost use Rattle.pit_parts.specs.declared.grid.Grid.{Grid as AGrid};
 ghost use Rattle.records.specs.Records.{records_of};
 ghost use Rattle.pit_parts.specs.declared.block.Block.{Block};
-ghost use Rattle.zone_csv.specs.Cell.{index_at, least};
-ghost use Rattle.zone_csv.specs.Columns.{all_columns};
+ghost use Rattle.zone_csv.specs.Cell.{index_at, is_on_step};
 ghost use Rattle.zone_csv.specs.Header.{columns_of};
 ghost use Rattle.zone_csv.specs.NamedColumns.{NamesColumns};
 ghost use Rattle.zone_csv.specs.Row.{row_of};
-ghost use Rattle.zone_csv.specs.RowShape.{IsInGrid, asked_of_header, centroid, place_in, row_shape, row_values};
+ghost use Rattle.zone_csv.specs.SpelledRow.{IsInGrid, SpellsBlock, centroid};
 ghost use Rattle.zone_csv.specs.Zone.{blocks_of, fault_of};
 ghost use Rattle.zone_csv.specs.ZoneKept.{HasFewBlocks, HasOwnBlocks, AccountsForRecords};
 ghost use Rattle.zone_csv.specs.ZoneReaderView.{Answers, ZoneReaderView};
@@ -37,7 +35,7 @@ pub fn zone_files()
 pub fn coordinates()
     ensures { (axis : AnAxis) (coordinate : ℤ) (index : ℕ) → 0 < axis.size
         → (IsInGrid axis coordinate
-        × (is_on_step (1000 * axis.size) (least axis) coordinate ≡ true)
+        × (is_on_step axis coordinate ≡ true)
         × (index_at axis coordinate ≡ index))
         ↔ ((coordinate ≡ centroid axis index) × (index < GRID_CELLS)) }
 {}
@@ -53,10 +51,8 @@ pub fn rows_spell_blocks()
     ensures { (grid : AGrid) (zone : ℕ) (columns : FiveColumns) (number : ℕ)
         (row : List (List ℕ)) (block : Block)
         → 0 < grid.x.size → 0 < grid.y.size → 0 < grid.z.size → zone < MAX_ZONES
-        → let shape = row_shape grid zone columns number row in
-        States shape block
-        ↔ ((failing shape.first ≡ None) × Spell shape.form shape.texts (row_values grid block)
-        × (block.zone ≡ zone)) }
+        → (row_of grid zone columns number row ≡ Ok block)
+        ↔ SpellsBlock grid zone columns number row block }
 {}
 
 /// A zone file has these blocks and no fault exactly where its header names the columns, and each record behind it
@@ -77,14 +73,19 @@ pub fn zone_faults_are_first()
         ⊎ ZoneStates grid zone (records_of text) blocks (Some fault)) }
 {}
 
-/// A record that fails states no block, and a header that fails names no columns.
+/// A record with a fault states no block, and its cells spell none; a header with a fault names no columns.
 pub fn faulty_rows_spell_no_block()
     ensures rows { (grid : AGrid) (zone : ℕ) (columns : FiveColumns) (number : ℕ)
         (row : List (List ℕ)) (block : Block) (fault : RowFault)
-        → Fails (row_shape grid zone columns number row) fault
-        → ¬ (States (row_shape grid zone columns number row) block) }
+        → row_of grid zone columns number row ≡ Err fault
+        → ¬ (row_of grid zone columns number row ≡ Ok block) }
+    ensures cells { (grid : AGrid) (zone : ℕ) (columns : FiveColumns) (number : ℕ)
+        (row : List (List ℕ)) (block : Block) (fault : RowFault)
+        → 0 < grid.x.size → 0 < grid.y.size → 0 < grid.z.size
+        → row_of grid zone columns number row ≡ Err fault
+        → ¬ (SpellsBlock grid zone columns number row block) }
     ensures headers { (header : List (List ℕ)) (columns : FiveColumns) (fault : RowFault)
-        → failing (asked_of_header header) ≡ Some fault → ¬ (NamesColumns header columns) }
+        → columns_of header ≡ Err fault → ¬ (NamesColumns header columns) }
 {}
 
 /// A reader that answered the end of its file, its fault or want of memory answers the same when it is asked again.
@@ -95,15 +96,4 @@ pub fn readers_answer_again()
     ensures refused { (old then after : ZoneReaderView) (fault : OrMemory RowFault)
         (again : Result (Option Block) (OrMemory RowFault))
         → Answers old (Err fault) then → Answers then again after → again ≡ Err fault }
-{}
-
-/// A header and a row, which are said outright, go by what is asked of the header, and by the shape of the row.
-#[tactic(auto, using(crate::proofs::HeaderFacts::columns_are, crate::proofs::ShapeFacts::row_is))]
-pub fn headers_and_rows_go_by_forms()
-    ensures headers { (header : List (List ℕ)) → columns_of header
-        ≡ unless (failing (asked_of_header header))
-        (Ok (record { width = length header; places = map (place_in header) all_columns })) }
-    ensures rows { (grid : AGrid) (zone : ℕ) (columns : FiveColumns) (number : ℕ) (row : List (List ℕ))
-        → length columns.places ≡ 5
-        → row_of grid zone columns number row ≡ said (row_shape grid zone columns number row) }
 {}

@@ -2,7 +2,7 @@ use Rattle.std.proofs.Common.{rules, ◌≡◌, ◌*◌, ◌/◌, ◌<◌, Ok, a
 use Rattle.pit_units.specs.Decimal.{decimal_within}
 use Rattle.zone_csv.specs.Cell.{greatest, least}
 use Rattle.zone_csv.specs.Row.{number_said}
-use Rattle.zone_csv.specs.RowShape.{IsInGrid}
+use Rattle.zone_csv.specs.SpelledRow.{IsInGrid}
 use Rattle.zone_csv.proofs.CentroidFacts.{whole_sizes}
 use Rattle.zone_csv.proofs.cell.index_of.Goals as goal
 

@@ -1,6 +1,6 @@
 use Rattle.std.proofs.Common.{◌≡◌, ◌++◌, Ok, drop, length, take}
 use Rattle.csv.specs.Records.{fields_of}
-use Rattle.forms.specs.Words.{◌>>=◌}
+use Rattle.pit_units.specs.Steps.{◌>>=◌}
 use Rattle.zone_csv.specs.Columns.{all_columns}
 use Rattle.zone_csv.specs.Header.{each_place}
 use Rattle.zone_csv.proofs.columns.columns_of.Given as goal

@@ -1,5 +1,5 @@
-use Rattle.zone_csv.proofs.ColumnFacts.{columns_named, named_columns}
+use Rattle.zone_csv.proofs.ColumnFacts.{header_named}
 use Rattle.zone_csv.proofs.laws.columns_are_named.Goals as goal
 
 pub returns : goal.returns
-returns c = λ header columns. (columns_named header columns, named_columns header columns)
+returns c = λ header columns. ((header_named header).told columns, (header_named header).back columns)
