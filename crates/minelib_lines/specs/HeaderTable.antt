@@ -1,76 +1,58 @@
--- The field and the value of each header key of the model files, a row each.
-use Rattle.std.specs.Prelude.{ℕ, ◌+◌, Bool, true, false, List, pos}
+-- The value of each header key of the model files as it is written, with its line, and its field as the code has it.
+use Rattle.std.specs.Prelude.{ℕ, ◌+◌, ◌-◌, ◌*◌, ◌^◌, Bool, true, false, List, [], ◌∷◌, ◌++◌, map, unsigned_abs, codes, decimal}
 use Rattle.std.specs.List.{filter}
-use Rattle.std.specs.Str.{bytes_eq}
-use Rattle.forms.specs.Words.{Field, Decimal, Word, Value, Millionths, Bytes, below, between, whole}
-use Rattle.pit_parts.specs.Name.{is_name}
 use Rattle.pit_parts.specs.declared.ranges.TheConstants.{MAX_BLOCKS, MAX_DESTINATIONS, MAX_PERIODS, MAX_RATE, MAX_RESOURCES}
-use Rattle.minelib_lines.specs.HeaderKeys.{header_keys, type_text}
-use Rattle.minelib_lines.specs.LineValues.{StatedHeader}
+use Rattle.pit_units.specs.Decimal.{shortest}
+use Rattle.minelib_lines.specs.HeaderKeys.{header_keys, key_word}
+use Rattle.minelib_lines.specs.Lines.{line_of}
+use Rattle.minelib_lines.specs.StatedHeader.{StatedHeader}
 use Rattle.minelib_lines.specs.declared.header_key.HeaderKey.{HeaderKey}
 use Rattle.minelib_lines.specs.declared.header_key.HeaderKey.TheVariants as key
-use Rattle.minelib_lines.specs.declared.problem.Problem.{Problem}
-
--- what is said of a key
-pub record KeyRow : Type 0 where
-  -- the files of a UPIT have it
-  pub of_upit : Bool
-  -- the field of its value, in a file of the problem
-  pub field : Problem → Field
-  -- its value where TYPE names the problem so, of n blocks, with what the header states
-  pub value : List ℕ → ℕ → StatedHeader → Value
-
--- of each; there are no general side constraints
-abbrev pub key_row : HeaderKey → KeyRow
-key_row key.Name = record {
-  of_upit = true;
-  field = λ problem. Word is_name;
-  value = λ problem n h. Bytes h.name;
-}
-key_row key.Type = record {
-  of_upit = true;
-  field = λ problem. Word (λ text. bytes_eq text (type_text problem));
-  value = λ problem n h. Bytes problem;
-}
-key_row key.Blocks = record {
-  of_upit = true;
-  field = λ problem. below (MAX_BLOCKS + 1);
-  value = λ problem n h. whole n;
-}
-key_row key.Periods = record {
-  of_upit = false;
-  field = λ problem. between 1 MAX_PERIODS;
-  value = λ problem n h. whole h.periods;
-}
-key_row key.Destinations = record {
-  of_upit = false;
-  field = λ problem. between 1 MAX_DESTINATIONS;
-  value = λ problem n h. whole h.destinations;
-}
-key_row key.Resources = record {
-  of_upit = false;
-  field = λ problem. below (MAX_RESOURCES + 1);
-  value = λ problem n h. whole h.resources;
-}
-key_row key.General = record {
-  of_upit = false;
-  field = λ problem. below 1;
-  value = λ problem n h. whole 0;
-}
-key_row key.Rate = record {
-  of_upit = false;
-  field = λ problem. Decimal 6 (pos 0) MAX_RATE;
-  value = λ problem n h. Millionths h.rate;
-}
-
--- the field of each key's value
-abbrev pub field_of : Problem → HeaderKey → Field
-field_of problem k = (key_row k).field problem
-
--- the value of a key
-abbrev pub key_value : List ℕ → ℕ → StatedHeader → HeaderKey → Value
-key_value problem n h k = (key_row k).value problem n h
+use Rattle.minelib_lines.specs.declared.header_key.KeyField.{KeyField}
+use Rattle.minelib_lines.specs.declared.header_key.KeyField.TheVariants as field
 
 -- the keys of a UPIT file
+abbrev pub of_upit : HeaderKey → Bool
+of_upit key.Name = true
+of_upit key.Type = true
+of_upit key.Blocks = true
+of_upit k = false
+
 abbrev pub upit_keys : List HeaderKey
-upit_keys = filter (λ k. (key_row k).of_upit) header_keys
+upit_keys = filter of_upit header_keys
+
+-- the value of a key as it is written, where TYPE names the problem so, of n blocks, with what the header states; there are no general
+-- side constraints
+abbrev pub key_text : List ℕ → ℕ → StatedHeader → HeaderKey → List ℕ
+key_text problem n h key.Name = h.name
+key_text problem n h key.Type = problem
+key_text problem n h key.Blocks = decimal n
+key_text problem n h key.Periods = decimal h.periods
+key_text problem n h key.Destinations = decimal h.destinations
+key_text problem n h key.Resources = decimal h.resources
+key_text problem n h key.General = decimal 0
+key_text problem n h key.Rate = shortest h.rate
+
+-- its line, and a line for each of these keys
+abbrev pub key_line : HeaderKey → List ℕ → List ℕ
+key_line k text = line_of ((key_word k ++ codes ":") ∷ text ∷ [])
+
+abbrev pub key_lines : (HeaderKey → List ℕ) → List HeaderKey → List (List ℕ)
+key_lines text keys = map (λ k. key_line k (text k)) keys
+
+-- the field of a value: a whole number from the lowest to the highest, or one below a limit
+abbrev pub between : ℕ → ℕ → KeyField
+between low high = field.Number 0 (low * 10 ^ 6) (high * 10 ^ 6)
+
+abbrev pub below : ℕ → KeyField
+below limit = field.Number 0 0 (limit * 10 ^ 6 - 1)
+
+abbrev pub key_field : HeaderKey → KeyField
+key_field key.Name = field.Name
+key_field key.Type = field.Type
+key_field key.Blocks = below (MAX_BLOCKS + 1)
+key_field key.Periods = between 1 MAX_PERIODS
+key_field key.Destinations = between 1 MAX_DESTINATIONS
+key_field key.Resources = below (MAX_RESOURCES + 1)
+key_field key.General = below 1
+key_field key.Rate = field.Number 6 0 (unsigned_abs MAX_RATE)

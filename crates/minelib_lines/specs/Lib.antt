@@ -1,6 +1,5 @@
 pub mod HeaderKeys
 pub mod HeaderTable
 pub mod KeyParts
-pub mod LineValues
 pub mod Lines
-pub mod WrittenLines
+pub mod StatedHeader

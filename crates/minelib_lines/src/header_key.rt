@@ -1,12 +1,10 @@
 //! The keys of the header of a model file, a row each.
 
 ghost use Rattle.std.specs.Prelude.{◌≡◌, ◌<◌, ◌≤◌, ◌*◌, ◌-◌, ◌^◌};
-ghost use Rattle.minelib_lines.specs.HeaderTable.{field_of, upit_keys};
+ghost use Rattle.minelib_lines.specs.HeaderTable.{key_field, upit_keys};
 ghost use Rattle.minelib_lines.specs.HeaderKeys.{key_word, keys_of, place};
-ghost use Rattle.minelib_lines.specs.KeyParts.{field_in};
 ghost use Rattle.minelib_lines.specs.declared.header_key.KeyField.TheVariants as KeyField;
 ghost use Rattle.minelib_lines.specs.declared.header_key.TheConstants.{KEYS};
-ghost use Rattle.minelib_lines.specs.declared.problem.Problem.{Problem};
 ghost use Rattle.minelib_lines.specs.declared.problem.Problem.TheVariants as Problem;
 
 use pit_parts::ranges::{MAX_BLOCKS, MAX_DESTINATIONS, MAX_PERIODS, MAX_RATE, MAX_RESOURCES};
@@ -52,7 +50,7 @@ impl HeaderKey {
     /// What is said of this key.
     pub fn row(self) -> KeyRow
         ensures word { result.word.now ≡ key_word self }
-        ensures field { (problem : Problem) → field_in problem result.field ≡ field_of problem self }
+        ensures field { result.field ≡ key_field self }
     {
         match self {
             HeaderKey::Name => row(b"NAME", KeyField::Name),

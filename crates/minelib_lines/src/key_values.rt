@@ -2,9 +2,9 @@
 
 ghost use Rattle.std.specs.Prelude.{◌≡◌, length, true};
 ghost use Rattle.pit_parts.specs.Name.{is_name};
-ghost use Rattle.minelib_lines.specs.HeaderTable.{key_value};
-ghost use Rattle.minelib_lines.specs.KeyParts.{said_by, value_in};
-ghost use Rattle.minelib_lines.specs.LineValues.{header_of, header_of_cpit};
+ghost use Rattle.minelib_lines.specs.HeaderTable.{key_text};
+ghost use Rattle.minelib_lines.specs.KeyParts.{text_in, value_text};
+ghost use Rattle.minelib_lines.specs.StatedHeader.{header_of, header_of_cpit};
 
 use crate::header_key::HeaderKey;
 use mine_instance::coefs::list::CoefList;
@@ -40,8 +40,8 @@ impl<'a> KeyValues<'a> {
         problem: &'a [u8],
         instance: &'a Instance<P, C, V>,
     ) -> KeyValues<'a>
-        ensures values { value_in result
-            ≡ key_value problem.now (length instance.now.blocks) (header_of instance.now) }
+        ensures values { text_in result
+            ≡ key_text problem.now (length instance.now.blocks) (header_of instance.now) }
         ensures kept { is_name instance.now.name ≡ true }
     {
         KeyValues {
@@ -60,8 +60,8 @@ impl<'a> KeyValues<'a> {
         problem: &'a [u8],
         instance: &'a Instance<P, C, V>,
     ) -> KeyValues<'a>
-        ensures values { value_in result
-            ≡ key_value problem.now (length instance.now.blocks)
+        ensures values { text_in result
+            ≡ key_text problem.now (length instance.now.blocks)
             (record (header_of instance.now) { destinations = 1 }) }
         ensures kept { is_name instance.now.name ≡ true }
     {
@@ -78,8 +78,8 @@ impl<'a> KeyValues<'a> {
 
     /// Of a CPIT, which has one destination.
     pub fn of_cpit(problem: &'a [u8], cpit: &'a Cpit) -> KeyValues<'a>
-        ensures values { value_in result
-            ≡ key_value problem.now (length cpit.now.values) (header_of_cpit cpit.now) }
+        ensures values { text_in result
+            ≡ key_text problem.now (length cpit.now.values) (header_of_cpit cpit.now) }
         ensures kept { is_name cpit.now.name ≡ true }
     {
         KeyValues {
@@ -95,7 +95,7 @@ impl<'a> KeyValues<'a> {
 
     /// The value of a key.
     pub fn of(&self, key: HeaderKey) -> KeyValue<'a>
-        ensures { said_by result ≡ value_in self.now key }
+        ensures { value_text result ≡ text_in self.now key }
     {
         match key {
             HeaderKey::Name => KeyValue::Text(self.name),

@@ -2,5 +2,4 @@ pub mod counts
 pub mod keys
 pub mod lines
 pub mod models
-pub mod plain
 pub mod spelled

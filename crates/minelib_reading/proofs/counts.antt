@@ -1,4 +1,5 @@
 pub mod CountedFacts
-pub mod CountedLater
+pub mod LaterLines
 pub mod FedAnswers
 pub mod MarkFacts
+pub mod LimitSteps

@@ -1,11 +1,5 @@
-pub mod BlockLineFacts
-pub mod CoefLineFacts
-pub mod FormFields
+pub mod FaultFacts
 pub mod ItemLines
-pub mod LimitLineFacts
-pub mod LineKindsFacts
-pub mod LinesThen
-pub mod PrecLineFacts
+pub mod LineFacts
+pub mod LineFields
 pub mod PrecTests
-pub mod ShapeSteps
-pub mod ValuesLineFacts

@@ -1,7 +1,7 @@
-pub mod Finished
+pub mod Drafts
 pub mod KeptRead
+pub mod LineCases
 pub mod ModelFacts
-pub mod ModelShapes
 pub mod ModelSteps
 pub mod Places
 pub mod ValidModel

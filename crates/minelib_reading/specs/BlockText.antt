@@ -1,6 +1,6 @@
 -- What a line of a block file states, field by field, or the kind of its first fault; and the blocks of a file.
 use Rattle.std.specs.Prelude.{ℕ, ◌*◌, ◌/◌, ◌==◌, not, List, [], ◌∷◌, ◌++◌, length, Result, Ok, Err, if◌then◌else◌}
-use Rattle.forms.specs.Words.{◌>>=◌}
+use Rattle.pit_units.specs.Steps.{◌>>=◌}
 use Rattle.pit_parts.specs.Block.{block_with}
 use Rattle.pit_parts.specs.declared.block.Block.{Block}
 use Rattle.text_lines.specs.Reading.{read_lines}

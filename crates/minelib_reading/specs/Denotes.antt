@@ -1,7 +1,7 @@
 -- Which instance MineLib texts denote, and which constrained pit limit problem its text.
 use Rattle.std.specs.Prelude.{◌≡◌, ℕ, List, length, pos, Result, Ok}
 use Rattle.std.specs.List.{flat_map}
-use Rattle.forms.specs.Words.{◌>>=◌}
+use Rattle.pit_units.specs.Steps.{◌>>=◌}
 use Rattle.pit_parts.specs.declared.block.Block.{Block}
 use Rattle.mine_instance.specs.cpit.Cpit.{CpitParts}
 use Rattle.mine_instance.specs.cpit.CpitKept.{cpit_of}

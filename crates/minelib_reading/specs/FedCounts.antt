@@ -1,6 +1,6 @@
 -- What is counted of the text of a feed.
 use Rattle.std.specs.Prelude.{◌≡◌, ℕ, List, length, sum_by, Option, Result, Ok}
-use Rattle.forms.specs.Words.{◌>>=◌}
+use Rattle.pit_units.specs.Steps.{◌>>=◌}
 use Rattle.text_lines.specs.Fed.{IsTextOf}
 use Rattle.text_lines.specs.declared.text_fault.LineFault.{LineFault}
 use Rattle.minelib_reading.specs.BlockText.{blocks_in}

@@ -8,5 +8,4 @@ pub mod ModelText
 pub mod PrecText
 pub mod StatedModel
 pub mod inner
-pub mod shapes
 pub mod spelled

@@ -3,7 +3,7 @@ use Rattle.std.specs.Prelude.{ℕ, ◌+◌, ◌==◌, Bool, List, [], ◌∷◌,
 use Rattle.std.specs.List.{find}
 use Rattle.std.specs.Option.{option_map}
 use Rattle.std.specs.Str.{bytes_eq}
-use Rattle.forms.specs.Words.{◌>>=◌}
+use Rattle.pit_units.specs.Steps.{◌>>=◌}
 use Rattle.pit_parts.specs.Name.{is_name}
 use Rattle.minelib_lines.specs.HeaderKeys.{key_word, keys_of, type_text}
 use Rattle.minelib_lines.specs.declared.header_key.HeaderKey.{HeaderKey}

@@ -1,10 +1,14 @@
 -- What a model file states, and what that is of an instance and of a constrained pit limit problem.
-use Rattle.std.specs.Prelude.{List, [], ◌∷◌, map, ℤ}
+use Rattle.std.specs.Prelude.{ℕ, List, [], ◌∷◌, map, ℤ, pos}
 use Rattle.pit_parts.specs.declared.limit.Limit.{Limit}
 use Rattle.mine_instance.specs.cpit.Cpit.{CpitParts}
 use Rattle.mine_instance.specs.declared.coefs.coef.Coef.{Coef}
 use Rattle.mine_instance.specs.Instance.{Instance}
-use Rattle.minelib_lines.specs.LineValues.{StatedHeader, header_of, header_of_cpit}
+use Rattle.minelib_lines.specs.StatedHeader.{StatedHeader, header_of, header_of_cpit}
+use Rattle.minelib_lines.specs.declared.header_key.HeaderKey.TheVariants as key
+use Rattle.minelib_reading.specs.HeaderNumbers.{count_in}
+use Rattle.minelib_reading.specs.ModelDraft.{ModelDraftView}
+use Rattle.minelib_reading.specs.declared.model.key.Header.{Header}
 
 -- the header, and what the sections state: of each block a value for each destination, coefficients and limits
 pub record StatedModel : Type 0 where
@@ -33,4 +37,23 @@ model_of_cpit c = record {
   values = map alone c.values;
   coefs = c.coefs;
   limits = c.limits;
+}
+
+-- what a NAME and a header state
+abbrev pub header_stated : List ℕ → Header → StatedHeader
+header_stated name h = record {
+  name = name;
+  periods = count_in h key.Periods;
+  destinations = count_in h key.Destinations;
+  resources = count_in h key.Resources;
+  rate = pos (count_in h key.Rate);
+}
+
+-- what the lines so far state
+abbrev pub stated_by : ModelDraftView → StatedModel
+stated_by d = record {
+  header = header_stated d.name d.header;
+  values = d.values;
+  coefs = d.coefs;
+  limits = d.limits;
 }

@@ -1,3 +1,4 @@
+pub mod SpelledItems
 pub mod SpelledKeys
 pub mod SpelledLines
 pub mod SpelledModel

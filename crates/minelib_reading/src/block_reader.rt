@@ -3,9 +3,10 @@
 ghost use Rattle.std.specs.Prelude.{◌≡◌, ◌<◌, ◌≤◌, [], length, IfOk, OnOk};
 ghost use Rattle.pit_parts.specs.Block.{block_with};
 ghost use Rattle.pit_parts.specs.BlockParts.{AreInRange};
-ghost use Rattle.minelib_reading.specs.BlockText.{blocks_in};
-ghost use Rattle.minelib_reading.specs.inner.LinesTaken.{admit_block, uncounted_block, block_said};
+ghost use Rattle.minelib_reading.specs.BlockText.{block_stated, blocks_in, with_block};
+ghost use Rattle.minelib_reading.specs.inner.LinesTaken.{uncounted_block};
 ghost use Rattle.pit_units.specs.OrMemory.{Gives};
+ghost use Rattle.text_lines.specs.TextLines.{fields_of};
 ghost use Rattle.pit_parts.specs.declared.ranges.TheConstants.{MAX_BLOCKS};
 
 use crate::taking::TakeBlocks;
@@ -38,7 +39,7 @@ impl<B: TakeBlocks> Model for BlockDraft<B> {
 }
 
 impl<B: TakeBlocks> Admit for BlockDraft<B> {
-    ghost admit_line = { admit_block };
+    ghost admit_line = { with_block };
 
     fn admit(&mut self, line: &[u8]) -> Result<(), OrMemory<TextKind>> {
         let block = block_said(line, self.blocks.count())?;
@@ -66,7 +67,7 @@ impl<B: TakeBlocks + Drop> BlockDraft<B> {
 
 // The block of a line, where so many blocks stand before.
 fn block_said(line: &[u8], before: usize) -> Result<Block, TextKind>
-    ensures value { result ≡ block_said before line.now }
+    ensures value { result ≡ block_stated before (fields_of line.now) }
     ensures few { OnOk result (before < MAX_BLOCKS) }
 {
     match uncounted_block(line, before) {
@@ -76,9 +77,9 @@ fn block_said(line: &[u8], before: usize) -> Result<Block, TextKind>
 }
 
 #[inline(always)]
-#[tactic(auto, using(crate::proofs::counts::CountedLater::block_read))]
+#[tactic(auto, using(crate::proofs::counts::LaterLines::block_read))]
 fn uncounted_block(line: &[u8], before: usize) -> Result<Block, TextKind>
-    ensures value { result ≡ uncounted_block before line.now }
+    ensures value { result ≡ uncounted_block before (fields_of line.now) }
     ensures few { OnOk result (before < MAX_BLOCKS) }
 {
     let (id, behind_id) = first_whole(line, MAX_BLOCKS as u64)?;
@@ -128,7 +129,6 @@ pub fn read_blocks(alloc: Global, text: &[u8]) -> Result<Blocks, OrMemory<LineFa
     Ok(blocks)
 }
 
-#[tactic(auto, using(crate::proofs::spelled::SpelledRead::blocks_read))]
 fn drafted(alloc: Global, text: &[u8]) -> Result<Blocks, OrMemory<LineFault>>
     ensures { Gives (λ x. x) result (blocks_in text.now) }
 {

@@ -1,36 +1,33 @@
 //! What holds of reading, whatever the texts say: each contract is a law, and a call of it changes nothing.
 
 ghost use Rattle.std.specs.Prelude.{◌≡◌, ◌≢◌, ◌↔◌, ◌⊎◌, ℕ, ◌≤◌, [], ◌∷◌, ◌++◌, false, true, List, length, ℤ, Ok, Err};
-ghost use Rattle.forms.specs.Words.{Spell, AllState, IsFirstFault, Value, whole_at, Fails, States, said};
 ghost use Rattle.mine_instance.specs.cpit.Cpit.{CpitParts};
 ghost use Rattle.mine_instance.specs.cpit.CpitKept.{IsCpit};
 ghost use Rattle.mine_instance.specs.Valid.{ArePredsOf, IsValid};
 ghost use Rattle.mine_instance.specs.Order.{coef_before};
 ghost use Rattle.mine_instance.specs.declared.coefs.coef.Coef.{Coef};
 ghost use Rattle.mine_instance.specs.Instance.{Instance as AnInstance};
-ghost use Rattle.minelib_reading.specs.shapes.BlockLines.{block_form, block_grammar, block_shape, blocks_by_shapes};
-ghost use Rattle.minelib_reading.specs.BlockText.{blocks_in, block_stated};
+ghost use Rattle.minelib_reading.specs.BlockText.{block_stated, blocks_in, with_block};
 ghost use Rattle.minelib_reading.specs.Denotes.{Denotes, DenotesCpit};
-ghost use Rattle.minelib_lines.specs.HeaderTable.{field_of, key_value};
-ghost use Rattle.minelib_lines.specs.HeaderKeys.{type_text};
-ghost use Rattle.minelib_lines.specs.LineValues.{block_values, preds_values};
+ghost use Rattle.minelib_reading.specs.HeaderNumbers.{count_in};
 ghost use Rattle.minelib_reading.specs.ModelDraft.{ModelDraftView, is_behind, is_next, is_ready, last_of};
-ghost use Rattle.minelib_reading.specs.shapes.ModelLines.{coef_line, header_line, limit_line, section_line, values_line, model_by_shapes, model_line};
-ghost use Rattle.minelib_reading.specs.ModelText.{model_in, line_stated};
-ghost use Rattle.minelib_reading.specs.shapes.ModelStates.{StateModel, stated_by};
-ghost use Rattle.minelib_reading.specs.shapes.PrecLines.{LacksLines, prec_grammar, preds_form, preds_of, preds_shape, preds_by_shapes};
-ghost use Rattle.minelib_reading.specs.PrecText.{preds_in, preds_stated};
-ghost use Rattle.minelib_reading.specs.spelled.SpelledModel.{AreModelLines, SpellCoef, SpellLimit, SpellValues};
-ghost use Rattle.minelib_reading.specs.spelled.SpelledTexts.{SpellCpit, SpellInstance};
-ghost use Rattle.minelib_reading.specs.StatedModel.{StatedModel};
-ghost use Rattle.minelib_lines.specs.declared.header_key.HeaderKey.{HeaderKey};
+ghost use Rattle.minelib_reading.specs.ModelText.{item_stated, key_stated, model_in, section_stated};
+ghost use Rattle.minelib_reading.specs.PrecText.{LacksLines, preds_in, preds_stated, with_preds};
+ghost use Rattle.minelib_reading.specs.StatedModel.{StatedModel, stated_by};
+ghost use Rattle.minelib_reading.specs.spelled.SpelledItems.{NumbersThen, SpellsBlock, SpellsCoef, SpellsLimit, SpellsPreds, SpellsValues};
+ghost use Rattle.minelib_reading.specs.spelled.SpelledModel.{AreModelLines, SpellsKey, StateModel};
+ghost use Rattle.minelib_reading.specs.spelled.SpelledTexts.{SpellBlocks, SpellCpit, SpellInstance, SpellPreds};
 ghost use Rattle.minelib_reading.specs.declared.model.key.Section.{Section};
-ghost use Rattle.text_lines.specs.TextLines.{fields_of, lines_in};
+ghost use Rattle.minelib_reading.specs.declared.model.key.Section.TheVariants.{Coefs, Limits, Objective};
+ghost use Rattle.minelib_lines.specs.declared.header_key.HeaderKey.{HeaderKey};
+ghost use Rattle.minelib_lines.specs.declared.header_key.HeaderKey.TheVariants as key;
 ghost use Rattle.minelib_lines.specs.declared.problem.Problem.{Problem};
+ghost use Rattle.text_lines.specs.Reading.{IsFirstFault};
+ghost use Rattle.text_lines.specs.TextLines.{fields_of, lines_in};
 ghost use Rattle.text_lines.specs.declared.text_fault.LineFault.{LineFault};
 ghost use Rattle.text_lines.specs.declared.text_fault.TextKind.TheVariants.{Count, Fields, Key, Missing, Order, Twice};
 ghost use Rattle.pit_parts.specs.declared.block.Block.{Block};
-ghost use Rattle.pit_parts.specs.PlanKept.{stands_before};
+ghost use Rattle.pit_parts.specs.PlanKept.{is_turned, stands_before};
 ghost use Rattle.pit_parts.specs.declared.limit.Limit.{Limit};
 ghost use Rattle.pit_parts.specs.declared.ranges.TheConstants.{MAX_BLOCKS};
 
@@ -60,45 +57,45 @@ pub fn cpit_read_is_valid()
 ///   it comes behind the last one.
 pub fn lines_state_what_they_spell()
     // Of the files of blocks and predecessors.
-    ensures blocks { (before : ℕ) (line : List ℕ) (b : Block) → States (block_shape before line) b
-        ↔ Spell block_form (fields_of line) (block_values before b) }
-    ensures preds { (n own : ℕ) (line ids : List ℕ) → States (preds_shape n own line) ids
-        ↔ (Spell (preds_form n (fields_of line)) (fields_of line) (preds_values own ids)
-        × ArePredsOf own n ids) }
+    ensures blocks { (before : ℕ) (line : List ℕ) (b : Block)
+        → (block_stated before (fields_of line) ≡ Ok b) ↔ SpellsBlock before (fields_of line) b }
+    ensures preds { (n own : ℕ) (line ids : List ℕ)
+        → (preds_stated n own (fields_of line) ≡ Ok ids) ↔ SpellsPreds n own (fields_of line) ids }
 
     // Of a model file: its header, and the lines of its sections.
     ensures header { (d next : ModelDraftView) (k : HeaderKey) (fields : List (List ℕ))
-        → States (header_line d k fields) next
-        → Spell (field_of d.problem k ∷ []) fields
-        (key_value (type_text d.problem) d.blocks (stated_by next).header k ∷ []) }
+        → key_stated d k fields ≡ Ok next
+        → (value : List ℕ) × (fields ≡ value ∷ [])
+        × SpellsKey d.problem d.blocks (stated_by next).header k value }
     ensures values { (d next : ModelDraftView) (fields : List (List ℕ))
-        → States (values_line d fields) next
-        ↔ (vs : List ℤ) × (next ≡ record d { values = d.values ++ vs ∷ [] })
-        × SpellValues d.blocks (stated_by d).header (length d.values) fields vs }
+        → (item_stated d Objective fields ≡ Ok next)
+        ↔ ((vs : List ℤ) × (next ≡ record d { values = d.values ++ vs ∷ [] })
+        × SpellsValues d.blocks (count_in d.header key.Destinations) (length d.values) fields vs) }
     ensures coefs { (d next : ModelDraftView) (fields : List (List ℕ))
-        → States (coef_line d fields) next
-        ↔ (c : Coef) × (next ≡ record d { coefs = d.coefs ++ c ∷ [] })
-        × SpellCoef d.problem d.blocks (stated_by d).header fields c
-        × (is_behind coef_before (last_of d.coefs) c ≡ true) }
+        → (item_stated d Coefs fields ≡ Ok next)
+        ↔ ((c : Coef) × (next ≡ record d { coefs = d.coefs ++ c ∷ [] })
+        × SpellsCoef d.problem d.blocks (count_in d.header key.Destinations)
+        (count_in d.header key.Resources) fields c
+        × (is_behind coef_before (last_of d.coefs) c ≡ true)) }
     ensures limits { (d next : ModelDraftView) (fields : List (List ℕ))
-        → States (limit_line d fields) next
-        ↔ (l : Limit) × (next ≡ record d { limits = d.limits ++ l ∷ [] })
-        × SpellLimit (stated_by d).header fields l
-        × (is_behind stands_before (last_of d.limits) l ≡ true) }
+        → (item_stated d Limits fields ≡ Ok next)
+        ↔ ((l : Limit) × (next ≡ record d { limits = d.limits ++ l ∷ [] })
+        × SpellsLimit (count_in d.header key.Resources) (count_in d.header key.Periods) fields l
+        × (is_turned l.bound ≡ false)
+        × (is_behind stands_before (last_of d.limits) l ≡ true)) }
 {}
 
-/// Where a text is read as blocks, each line that is not skipped states one of them, in order.
-#[tactic(auto, using(crate::proofs::spelled::SpelledRead::blocks_spelled))]
+/// Where a text is read as blocks, each line that is not skipped spells one of them, in order.
 pub fn block_lines_are_spelled()
     ensures { (text : List ℕ) (blocks : List Block) → blocks_in text ≡ Ok blocks
-        → AllState block_grammar 1 [] (lines_in text) blocks }
+        → SpellBlocks text blocks }
 {}
 
-/// Where a text is read as the predecessors of n blocks, each line that is not skipped states those of one block, in
+/// Where a text is read as the predecessors of n blocks, each line that is not skipped spells those of one block, in
 /// order.
 pub fn prec_lines_are_spelled()
     ensures { (n : ℕ) (text : List ℕ) (lists : List (List ℕ)) → preds_in n text ≡ Ok lists
-        → AllState (prec_grammar n) 1 [] (lines_in text) lists }
+        → SpellPreds n text lists }
 {}
 
 /// Where a model file of n blocks is read, its lines that are not skipped spell what it states.
@@ -139,19 +136,16 @@ pub fn cpits_are_spelled()
     ensures { (n : ℕ) (text : List ℕ) (c : CpitParts) → DenotesCpit n text c ↔ SpellCpit n text c }
 {}
 
-/// Lines that state blocks are read as these blocks, whatever their spelling.
-#[tactic(auto, using(crate::proofs::spelled::SpelledRead::blocks_back))]
+/// Lines that spell blocks are read as these blocks, whatever their spelling.
 pub fn spelled_blocks_are_read()
-    ensures { (text : List ℕ) (blocks : List Block)
-        → AllState block_grammar 1 [] (lines_in text) blocks
+    ensures { (text : List ℕ) (blocks : List Block) → SpellBlocks text blocks
         → blocks_in text ≡ Ok blocks }
 {}
 
-/// Lines that state the predecessors of n blocks, one line for each block, are read as these.
-#[tactic(auto, using(crate::proofs::spelled::SpelledRead::lists_back))]
+/// Lines that spell the predecessors of n blocks, one line for each block, are read as these.
 pub fn spelled_preds_are_read()
-    ensures { (n : ℕ) (text : List ℕ) (lists : List (List ℕ)) → length lists ≡ n
-        → AllState (prec_grammar n) 1 [] (lines_in text) lists → preds_in n text ≡ Ok lists }
+    ensures { (n : ℕ) (text : List ℕ) (lists : List (List ℕ)) → SpellPreds n text lists
+        → preds_in n text ≡ Ok lists }
 {}
 
 /// The faulty line of a block file is the first that states no block behind those before it. Its kind is that of the
@@ -159,7 +153,7 @@ pub fn spelled_preds_are_read()
 #[tactic(auto, using(crate::proofs::spelled::SpelledRead::bad_block))]
 pub fn faulty_lines_spell_no_block()
     ensures { (text : List ℕ) (fault : LineFault) → blocks_in text ≡ Err fault
-        → IsFirstFault block_grammar 1 [] (lines_in text) fault }
+        → IsFirstFault with_block [] (lines_in text) fault }
 {}
 
 /// The fault of a precedence file is one of two. Either its line is the first that states no predecessors behind those
@@ -168,7 +162,7 @@ pub fn faulty_lines_spell_no_block()
 #[tactic(auto, using(crate::proofs::spelled::SpelledRead::bad_preds))]
 pub fn faulty_lines_spell_no_preds()
     ensures { (n : ℕ) (text : List ℕ) (fault : LineFault) → preds_in n text ≡ Err fault
-        → IsFirstFault (prec_grammar n) 1 [] (lines_in text) fault ⊎ LacksLines n text fault }
+        → IsFirstFault (with_preds n) [] (lines_in text) fault ⊎ LacksLines n text fault }
 {}
 
 /// The kind of a fault is that of the first thing that is wrong with a line.
@@ -180,45 +174,25 @@ pub fn faulty_lines_spell_no_preds()
 ///   stands behind the colon; or nothing does, and something is missing before it.
 pub fn faulty_lines_have_their_kind()
     // Of a line of predecessors: its own number, how many it states, and which.
-    ensures order { (n own : ℕ) (line : List ℕ) → Fails (preds_shape n own line) Order
-        ↔ (values : List Value) × Spell (preds_form n (fields_of line)) (fields_of line) values
-        × (whole_at values 0 ≢ own) }
-    ensures count { (n own : ℕ) (line : List ℕ) → Fails (preds_shape n own line) Count
-        ↔ (values : List Value) × Spell (preds_form n (fields_of line)) (fields_of line) values
-        × (whole_at values 0 ≡ own) × (whole_at values 1 ≢ length (preds_of values)) }
-    ensures twice { (n own : ℕ) (line : List ℕ) → Fails (preds_shape n own line) Twice
-        ↔ (values : List Value) × Spell (preds_form n (fields_of line)) (fields_of line) values
-        × (whole_at values 0 ≡ own) × (whole_at values 1 ≡ length (preds_of values))
-        × ¬ (ArePredsOf own n (preds_of values)) }
+    ensures order { (n own : ℕ) (line : List ℕ)
+        → (preds_stated n own (fields_of line) ≡ Err Order)
+        ↔ NumbersThen n (fields_of line) (λ id k ids. id ≢ own) }
+    ensures count { (n own : ℕ) (line : List ℕ)
+        → (preds_stated n own (fields_of line) ≡ Err Count)
+        ↔ NumbersThen n (fields_of line) (λ id k ids. (id ≡ own) × (k ≢ length ids)) }
+    ensures twice { (n own : ℕ) (line : List ℕ)
+        → (preds_stated n own (fields_of line) ≡ Err Twice)
+        ↔ NumbersThen n (fields_of line) (λ id k ids. (id ≡ own)
+        × ((k ≡ length ids) × ¬ (ArePredsOf own n ids))) }
 
     // Of the key of a section: its turn, what stands behind it, and what has to stand before.
     ensures key { (d : ModelDraftView) (section : Section) (fields : List (List ℕ))
-        → Fails (section_line d section fields) Key ↔ (is_next d.section section ≡ false) }
+        → (section_stated d section fields ≡ Err Key) ↔ (is_next d.section section ≡ false) }
     ensures fields { (d : ModelDraftView) (section : Section) (fields : List (List ℕ))
-        → Fails (section_line d section fields) Fields
-        ↔ (is_next d.section section ≡ true) × (fields ≢ []) }
+        → (section_stated d section fields ≡ Err Fields)
+        ↔ ((is_next d.section section ≡ true) × (fields ≢ [])) }
     ensures missing { (d : ModelDraftView) (section : Section) (fields : List (List ℕ))
-        → Fails (section_line d section fields) Missing
-        ↔ (is_next d.section section ≡ true) × (fields ≡ []) × (is_ready d d.section ≡ false) }
-{}
-
-/// What texts state, which is said outright, goes by forms.
-///
-/// - `block_lines`, `preds_lines`, `model_lines`: what a line states, or its first fault, is what its shape says.
-/// - `blocks`, `preds`, `models`: so it is of a whole text, line by line.
-#[tactic(auto, using(crate::proofs::plain::BlockForms::block_is, crate::proofs::plain::PrecForms::preds_are, crate::proofs::plain::TextForms::line_is, crate::proofs::plain::TextForms::blocks_are, crate::proofs::plain::TextForms::lists_are, crate::proofs::plain::TextForms::models_are))]
-pub fn texts_are_read_by_forms()
-    // Line by line.
-    ensures block_lines { (before : ℕ) (line : List ℕ)
-        → block_stated before (fields_of line) ≡ said (block_shape before line) }
-    ensures preds_lines { (n own : ℕ) (line : List ℕ)
-        → preds_stated n own (fields_of line) ≡ said (preds_shape n own line) }
-    ensures model_lines { (d : ModelDraftView) (line : List ℕ)
-        → line_stated d line ≡ said (model_line d line) }
-
-    // Whole texts.
-    ensures blocks { (text : List ℕ) → blocks_in text ≡ blocks_by_shapes text }
-    ensures preds { (n : ℕ) (text : List ℕ) → preds_in n text ≡ preds_by_shapes n text }
-    ensures models { (problem : Problem) (n : ℕ) (text : List ℕ)
-        → model_in problem n text ≡ model_by_shapes problem n text }
+        → (section_stated d section fields ≡ Err Missing)
+        ↔ ((is_next d.section section ≡ true)
+        × ((fields ≡ []) × (is_ready d d.section ≡ false))) }
 {}

@@ -3,8 +3,8 @@
 ghost use Rattle.std.specs.Prelude.{◌≡◌, ◌<◌, ◌≤◌, ◌&&◌, [], not, All, IfOk, OnOk, length};
 ghost use Rattle.text_lines.specs.FieldValues.{all_by};
 ghost use Rattle.text_lines.specs.StatedFields.{below_in};
-ghost use Rattle.minelib_reading.specs.inner.LinesTaken.{admit_preds, no_lists, uncounted_preds, preds_said};
-ghost use Rattle.minelib_reading.specs.PrecText.{all_differ, finish_preds, preds_in, stands_in};
+ghost use Rattle.minelib_reading.specs.inner.LinesTaken.{admit_preds, no_lists, uncounted_preds};
+ghost use Rattle.minelib_reading.specs.PrecText.{all_differ, finish_preds, preds_in, preds_stated, stands_in};
 ghost use Rattle.pit_units.specs.OrMemory.{Gives};
 ghost use Rattle.text_lines.specs.Reading.{Leaves};
 ghost use Rattle.text_lines.specs.TextLines.{fields_of};
@@ -47,14 +47,14 @@ impl<P: TakePreds> Admit for PrecDraft<P> {
 }
 
 // The predecessors of a line, where so many lines stand before.
-#[tactic(auto, using(crate::proofs::counts::CountedLater::preds_counted, crate::proofs::counts::CountedLater::preds_by_count))]
+#[tactic(auto, using(crate::proofs::counts::LaterLines::preds_counted, crate::proofs::counts::LaterLines::preds_by_count))]
 fn preds_said(
     line: &[u8],
     before: usize,
     ids: &mut Vec<u32>,
     marks: &mut Marks,
 ) -> Result<(), OrMemory<TextKind>>
-    ensures value { Leaves ids.new.items result (preds_said marks.old before line.now) }
+    ensures value { Leaves ids.new.items result (preds_stated marks.old before (fields_of line.now)) }
     ensures kept { marks.new ≡ marks.old }
     ensures few { OnOk result ((before < MAX_BLOCKS) × (length ids.new.items ≤ MAX_BLOCKS)) }
 {
@@ -68,14 +68,14 @@ fn preds_said(
 }
 
 // The predecessors of a line of two fields or more.
-#[tactic(auto, using(crate::proofs::counts::CountedLater::uncounted_preds_read))]
+#[tactic(auto, using(crate::proofs::counts::LaterLines::uncounted_preds_read))]
 fn uncounted_preds(
     line: &[u8],
     before: usize,
     ids: &mut Vec<u32>,
     marks: &mut Marks,
 ) -> Result<(), OrMemory<TextKind>>
-    ensures value { Leaves ids.new.items result (uncounted_preds marks.old before line.now) }
+    ensures value { Leaves ids.new.items result (uncounted_preds marks.old before (fields_of line.now)) }
     ensures kept { marks.new ≡ marks.old }
     ensures few { OnOk result ((before < MAX_BLOCKS) × (length ids.new.items ≤ MAX_BLOCKS)) }
 {

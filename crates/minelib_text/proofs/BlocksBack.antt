@@ -1,34 +1,61 @@
 -- The text of blocks and that of predecessors spell them.
-use Rattle.std.proofs.Common.{◌≡◌, ◌≢◌, ℕ, ◌<◌, ◌≤◌, List, [], ◌∷◌, length, arith, refl, sym, subst, eqb}
-use Rattle.std.specs.Prelude.{drop, map}
-use Rattle.std.proofs.lemmas.Bool.{ne_eqb, eqb-true}
+use Rattle.std.specs.Prelude.{List, ℕ, ◌*◌, ◌^◌, ◌≢◌}
+use Rattle.std.proofs.Common.{[], arith, eqb, length, refl, subst, sym, ◌<◌, ◌∷◌, ◌≡◌, ◌≤◌}
+use Rattle.std.proofs.lemmas.Bool.{eqb-true, ne_eqb}
 use Rattle.std.proofs.lemmas.List.Elements.{All-cons, All-contains}
 use Rattle.std.proofs.lemmas.List.Kept.{AllPairs-cons}
 use Rattle.std.proofs.lemmas.Map.Keys.{IsDistinct-from_apart}
-use Rattle.std.proofs.lemmas.Map.Views.{Contains-from_any}
 use Rattle.std.proofs.lemmas.Map.Steps.{length-le_from_distinct_below}
-use Rattle.forms.specs.Words.{Spell, below}
-use Rattle.mine_instance.specs.Valid.{ArePredsOf, ArePreds}
+use Rattle.std.proofs.lemmas.Map.Views.{Contains-from_any}
 use Rattle.pit_parts.specs.declared.block.Block.{Block}
-use Rattle.minelib_lines.specs.LineValues.{block_values, preds_values}
-use Rattle.minelib_lines.specs.Lines.{lines_from, text_of}
-use Rattle.minelib_reading.specs.shapes.BlockLines.{block_form}
-use Rattle.minelib_reading.specs.shapes.PrecLines.{preds_form}
-use Rattle.minelib_reading.specs.spelled.SpelledTexts.{SpellBlocks, SpellPreds}
-use Rattle.minelib_reading.proofs.lines.BlockLineFacts.{block_fits}
-use Rattle.minelib_reading.proofs.lines.FormFields.{ArePlain}
-use Rattle.minelib_reading.proofs.models.Places.{is_place, stands_there}
-use Rattle.minelib_reading.proofs.lines.PrecLineFacts.{fine, wholes_fit}
-use Rattle.minelib_lines.specs.WrittenLines.{block_fields, prec_fields}
+use Rattle.mine_instance.specs.Valid.{ArePreds, ArePredsOf}
+use Rattle.text_lines.proofs.PlainText.{EachField, IsLine}
 use Rattle.text_lines.specs.TextLines.{fields_of}
+use Rattle.minelib_lines.specs.Lines.{line_of, lines_from, text_of}
+use Rattle.minelib_writing.specs.Written.{block_line, prec_line}
+use Rattle.minelib_reading.proofs.keys.Keyless.{number_field}
+use Rattle.minelib_reading.proofs.models.Places.{is_place, stands_there}
+use Rattle.minelib_reading.specs.spelled.SpelledItems.{SpellsBlock, SpellsPreds}
+use Rattle.minelib_reading.specs.spelled.SpelledTexts.{SpellBlocks, SpellPreds}
 use Rattle.minelib_text.proofs.LinesBack.{text_spells}
-use Rattle.minelib_text.proofs.PlainLines.{form_line}
+use Rattle.minelib_text.proofs.PlainLines.{plain_line}
+use Rattle.minelib_text.proofs.WrittenNumbers.{below_field, below_written, size_written, wholes_written}
 
-pub blocks_back : (blocks : List Block) → length blocks ≤ 64000000 → SpellBlocks (text_of (lines_from block_fields 0 blocks)) blocks
+block_written : (id : ℕ) (b : Block) → id < 64000000
+    → IsLine (line_of (block_line id b)) × SpellsBlock id (fields_of (line_of (block_line id b))) b
+block_written id b low =
+    let spells : SpellsBlock id (block_line id b) b = record {
+      seven = refl;
+      id = below_written 64000000 id low (omega arith);
+      x = below_written 10000 b.x b.x_in_grid (omega arith);
+      y = below_written 10000 b.y b.y_in_grid (omega arith);
+      z = below_written 10000 b.z b.z_in_grid (omega arith);
+      tonnes = size_written 3 (10 ^ 9 * 1000) (b.kg * 1000) (omega arith) (omega (arith, b.kg_in_range)) (omega arith) (omega arith);
+      grade = size_written 6 (10 ^ 12) b.grade (omega arith) b.grade_in_range (omega arith) (omega arith);
+      zone = below_written 64 b.zone b.zone_in_range (omega arith);
+    } in
+    let fields : EachField (block_line id b) = (
+      below_field _ _ _ spells.id,
+      (
+        below_field _ _ _ spells.x,
+        (
+          below_field _ _ _ spells.y,
+          (
+            below_field _ _ _ spells.z,
+            (
+              number_field 3 _ _ spells.tonnes.0,
+              (number_field 6 _ _ spells.grade.0, (below_field _ _ _ spells.zone, tt)),
+            ),
+          ),
+        ),
+      ),
+    ) in
+    plain_line (block_line id b) (λ fields. SpellsBlock id fields b) (omega arith) fields spells
+
+pub blocks_back : (blocks : List Block) → length blocks ≤ 64000000 → SpellBlocks (text_of (lines_from block_line 0 blocks)) blocks
 blocks_back blocks few =
-    text_spells (λ id line b. Spell block_form (fields_of line) (block_values id b)) block_fields blocks (λ done b rest whole.
-    form_line (λ _. block_form) (block_values (length done) b) refl tt (omega arith)
-    (block_fits (length done) b (omega (arith, is_place blocks done b rest whole))))
+    text_spells (λ id line b. SpellsBlock id (fields_of line) b) block_line blocks (λ done b rest whole.
+    block_written (length done) b (omega (arith, few, is_place blocks done b rest whole)))
 
 -- there are fewer predecessors than blocks, since none is the block itself
 fewer : (own n : ℕ) (ids : List ℕ) → own < n → ArePredsOf own n ids → length ids < n
@@ -42,24 +69,26 @@ fewer own n ids below h =
           (λ q found. All-contains (λ id. id < n) (own ∷ ids) q all (Contains-from_any eqb-true q (own ∷ ids) found)),
     )
 
-wholes_plain : (n : ℕ) (fields : List (List ℕ)) → ArePlain (map (λ field. below n) fields)
-wholes_plain n [] = tt
-wholes_plain n (field ∷ fields) = wholes_plain n fields
+preds_written : (n own : ℕ) (ids : List ℕ) → n ≤ 64000000 → own < n → ArePredsOf own n ids
+    → IsLine (line_of (prec_line own ids)) × SpellsPreds n own (fields_of (line_of (prec_line own ids))) ids
+preds_written n own ids few low are =
+    let each = wholes_written n ids few are.below in
+    let spells : SpellsPreds n own (prec_line own ids) ids = record {
+      two = omega arith;
+      id = below_written n own low (omega (arith, few));
+      count = below_written n (length ids) (fewer own n ids low are) (omega (arith, few));
+      each = each.0;
+      are = are;
+    } in
+    plain_line (prec_line own ids) (λ fields. SpellsPreds n own fields ids) (omega arith)
+    (below_field _ _ _ spells.id, (below_field _ _ _ spells.count, each.1)) spells
 
 pub preds_back : (n : ℕ) (lists : List (List ℕ)) → n ≤ 64000000 → length lists ≡ n → ArePreds n lists
-    → SpellPreds n (text_of (lines_from prec_fields 0 lists)) lists
+    → SpellPreds n (text_of (lines_from prec_line 0 lists)) lists
 preds_back n lists few as_many h = (
   as_many,
-  text_spells (λ own line ids. Spell (preds_form n (fields_of line)) (fields_of line) (preds_values own ids) × ArePredsOf own n ids)
-      prec_fields lists (λ done ids rest whole.
+  text_spells (λ own line ids. SpellsPreds n own (fields_of line) ids) prec_line lists (λ done ids rest whole.
       let within = is_place lists done ids rest whole in
-      let own = length done in
-      let place : own < n = omega arith in
-      let are = subst (ArePredsOf own n) (stands_there lists done ids rest whole []) (h own within) in
-      let each = All-cons (λ id. id < n) own (length ids ∷ ids) place
-      (All-cons (λ id. id < n) (length ids) ids (fewer own n ids place are) are.below) in
-      let fields = prec_fields own ids in
-      let w = form_line (preds_form n) (preds_values own ids) (fine n fields) (wholes_plain n (drop 2 fields)) (omega arith)
-      (wholes_fit n (own ∷ length ids ∷ ids) few each) in
-      (w.0, (w.1, are))),
+      preds_written n (length done) ids few (omega (arith, within, as_many))
+      (subst (ArePredsOf (length done) n) (stands_there lists done ids rest whole []) (h (length done) within))),
 )

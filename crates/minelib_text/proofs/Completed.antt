@@ -1,35 +1,36 @@
 -- Whatever is read of a model file, some lines behind it complete it.
-use Rattle.std.specs.Prelude.{◌≡◌, ◌≢◌, ℕ, zero, suc, ◌+◌, ◌≤◌, ◌-◌, true, false, List, [], ◌∷◌, ◌++◌, length, pos, replicate, is_some, codes}
-use Rattle.std.specs.List.{Contains}
-use Rattle.std.proofs.Common.{refl, sym, ◌∙◌, ap, subst, arith, length-append, eq-eqb, inl, inr}
-use Rattle.std.proofs.lemmas.Bool.{cases_Bool, not-false}
+use Rattle.std.specs.Prelude.{List, Ok, codes, is_some, pos, replicate, ℕ, ◌≢◌}
+use Rattle.std.proofs.Common.{[], ap, arith, false, inl, inr, length, length-append, refl, subst, suc, sym, true, zero, ◌++◌, ◌+◌, ◌-◌, ◌∙◌, ◌∷◌, ◌≡◌, ◌≤◌}
+use Rattle.std.proofs.lemmas.Bool.{cases_Bool, eq-eqb, not-false}
 use Rattle.std.proofs.lemmas.Int.{ints}
 use Rattle.std.proofs.lemmas.List.{length-replicate}
 use Rattle.std.proofs.lemmas.List.Elements.{All-replicate}
+use Rattle.std.specs.List.{Contains}
 use Rattle.pit_units.specs.DecimalRange.{IsInDecimalRange}
-use Rattle.minelib_lines.specs.HeaderKeys.{has_key, header_keys, type_text}
-use Rattle.minelib_lines.specs.HeaderTable.{key_value}
-use Rattle.minelib_lines.specs.Lines.{line_of}
-use Rattle.minelib_lines.specs.WrittenLines.{key_line, value_fields}
-use Rattle.minelib_lines.specs.LineValues.{StatedHeader}
-use Rattle.minelib_reading.specs.HeaderNumbers.{with_key, count_in, is_given, is_complete}
-use Rattle.minelib_reading.specs.ModelDraft.{ModelDraftView, blank_header, is_next, is_ready, is_whole, name_with}
-use Rattle.minelib_reading.specs.shapes.ModelLines.{model_grammar, model_line}
-use Rattle.forms.specs.Words.{AllState, States}
+use Rattle.text_lines.proofs.LinesRead.{line_then}
+use Rattle.text_lines.proofs.PlainText.{IsField}
+use Rattle.text_lines.specs.Reading.{read_lines}
 use Rattle.text_lines.specs.TextLines.{Line}
-use Rattle.minelib_reading.specs.declared.model.key.Header.{Header}
+use Rattle.minelib_lines.specs.HeaderKeys.{has_key, header_keys, type_text}
+use Rattle.minelib_lines.specs.HeaderTable.{key_line, key_text}
+use Rattle.minelib_lines.specs.Lines.{line_of}
+use Rattle.minelib_lines.specs.StatedHeader.{StatedHeader}
 use Rattle.minelib_lines.specs.declared.header_key.HeaderKey.{HeaderKey}
 use Rattle.minelib_lines.specs.declared.header_key.HeaderKey.TheVariants as key
 use Rattle.minelib_lines.specs.declared.problem.Problem.{Problem}
-use Rattle.minelib_reading.specs.declared.model.key.Section.{Section}
-use Rattle.minelib_reading.specs.declared.model.key.Section.TheVariants.{Heading, Objective, Coefs, Limits}
-use Rattle.minelib_reading.proofs.keys.HeaderFacts.{KeepsOwn, each_with, each_key, all_given, contains_cases, first_given}
-use Rattle.minelib_reading.proofs.spelled.SpelledModelBack.{key_states, section_states, told, values_states}
+use Rattle.minelib_writing.specs.Written.{value_line}
+use Rattle.minelib_reading.proofs.keys.HeaderFacts.{KeepsOwn, all_given, contains_cases, each_key, each_with, first_given}
+use Rattle.minelib_reading.proofs.keys.KeyNumbers.{told}
+use Rattle.minelib_reading.proofs.models.Drafts.{heading}
+use Rattle.minelib_reading.proofs.spelled.SpelledModelBack.{key_states, section_states, values_states}
 use Rattle.minelib_reading.proofs.spelled.SpelledModelRead.{At, Now}
-use Rattle.minelib_reading.specs.shapes.ModelStates.{header_stated}
+use Rattle.minelib_reading.specs.HeaderNumbers.{count_in, is_complete, is_given, with_key}
+use Rattle.minelib_reading.specs.ModelDraft.{ModelDraftView, blank_header, is_next, is_ready, is_whole, name_with}
 use Rattle.minelib_reading.specs.ModelKeys.{section_text}
-use Rattle.text_lines.proofs.PlainText.{IsField}
-use Rattle.minelib_reading.proofs.lines.LinesThen.{heading}
+use Rattle.minelib_reading.specs.ModelText.{line_stated}
+use Rattle.minelib_reading.specs.declared.model.key.Header.{Header}
+use Rattle.minelib_reading.specs.declared.model.key.Section.{Section}
+use Rattle.minelib_reading.specs.declared.model.key.Section.TheVariants.{Coefs, Heading, Limits, Objective}
 use Rattle.minelib_text.proofs.KeysBack.{IsHeader, header_line, section_line, word_field}
 use Rattle.minelib_text.proofs.ModelBack.{values_line}
 
@@ -37,14 +38,14 @@ use Rattle.minelib_text.proofs.ModelBack.{values_line}
 pub record Completes (d : ModelDraftView) : Type 0 where
   pub rest : List Line
   pub last : ModelDraftView
-  pub states : (number : ℕ) → AllState model_grammar number d rest last
+  pub states : read_lines line_stated d rest ≡ Ok last
   pub whole : is_whole last ≡ true
 
-then_complete : (s t : ModelDraftView) (line : List ℕ) → States (model_line s line) t → Completes t → Completes s
+then_complete : (s t : ModelDraftView) (line : List ℕ) → line_stated s line ≡ Ok t → Completes t → Completes s
 then_complete s t line states c = record {
   rest = record { number = 0; text = line } ∷ c.rest;
   last = c.last;
-  states = λ number. (t, states, c.states (suc number));
+  states = line_then line_stated s t c.last (record { number = 0; text = line }) c.rest states c.states;
   whole = c.whole;
 }
 
@@ -62,7 +63,7 @@ from_limits : (d : ModelDraftView) → is_complete d.header ≡ true → length 
 from_limits d complete all = record {
   rest = [];
   last = in_section Limits d;
-  states = λ number. refl;
+  states = refl;
   whole = rw (complete, eq-eqb (length d.values) d.blocks all) refl;
 }
 
@@ -79,9 +80,9 @@ values_left (suc k) d complete count few =
     let destinations = count_in d.header key.Destinations in
     let vs = replicate destinations (pos 0) in
     let next : ModelDraftView = record d { values = d.values ++ vs ∷ [] } in
-    let written = values_line d.blocks (length d.values) (header_stated d.name d.header) vs few (omega arith)
+    let written = values_line d.blocks destinations (length d.values) vs few (omega arith)
     (length-replicate destinations (pos 0)) (All-replicate IsInDecimalRange destinations (pos 0) (omega arith)) in
-    let line = line_of (value_fields (length d.values) vs) in
+    let line = line_of (value_line (length d.values) vs) in
     then_complete (in_section Objective d) (in_section Objective next) line (values_states d vs line written.1)
     (values_left k next complete (omega (arith, length-append d.values (vs ∷ []))) few)
 
@@ -126,8 +127,8 @@ fill p n (k ∷ keys) name h few lacks = elim (cases_Bool (is_given k h)) [
       (let is : is_given j h ≡ true = subst (λ j. is_given j h ≡ true) same given in absurd cc)) new)
   | inr new ↦
       let has : has_key p k ≡ true = not-false (has_key p k) (sym (first_given p k) ∙ (lacks k new).0) in
-      let number = told p n least k in
-      let line = key_line k (key_value (type_text p) n least k) in
+      let number = told least k in
+      let line = key_line k (key_text (type_text p) n least k) in
       then_complete (heading p n name h) (heading p n (name_with k least.name name) (with_key h k number)) line
       (key_states (heading p n name h) least k line refl new (header_line p n least (least_fits n few) k has).1)
       (fill p n keys (name_with k least.name name) (with_key h k number) few

@@ -1,38 +1,33 @@
 -- The key lines of a model file spell what they are written of.
-use Rattle.std.proofs.Common.{◌≡◌, ◌≢◌, ℕ, ◌+◌, ◌^◌, ◌≤◌, true, List, [], ◌∷◌, ◌++◌, length, ℤ, pos, negsuc, ◌≤ℤ◌, append_assoc, arith, refl, sym, subst, ap, ◌∙◌, map, inl, inr}
-use Rattle.std.specs.Prelude.{◌*◌, ◌&&◌, ◌⊎◌, Bool, false, if◌then◌else◌, nat_le, All, AllPairs}
-use Rattle.std.specs.List.{list_all, filter, Contains}
-use Rattle.std.specs.Str.{bytes_eq}
+use Rattle.std.specs.Prelude.{AllPairs, Bool, List, filter, if◌then◌else◌, nat_le, negsuc, pos, ℕ, ℤ, ◌&&◌, ◌^◌, ◌≢◌, ◌≤ℤ◌, ◌⊎◌}
+use Rattle.std.proofs.Common.{All, [], ap, append_assoc, arith, false, inl, inr, length, map, refl, subst, sym, true, ◌++◌, ◌+◌, ◌∙◌, ◌∷◌, ◌≡◌, ◌≤◌}
 use Rattle.std.proofs.lemmas.Bool.{and_parts, leb-true}
 use Rattle.std.proofs.lemmas.Bool.Decides.{nat_tests}
 use Rattle.std.proofs.lemmas.Int.{ints}
 use Rattle.std.proofs.lemmas.List.{get_or-map}
 use Rattle.std.proofs.lemmas.List.Elements.{All-head, All-tail, Contains-append_right, filter_passes}
 use Rattle.std.proofs.lemmas.List.Kept.{AllPairs-filter}
-use Rattle.std.proofs.lemmas.Slice.Eq.{bytes_eq-Decides}
+use Rattle.std.specs.List.{Contains, list_all}
+use Rattle.pit_units.specs.DecimalRange.{IsInDecimalRange}
 use Rattle.pit_parts.specs.Name.{is_name, is_name_byte}
-use Rattle.pit_parts.specs.declared.ranges.TheConstants.{MAX_BLOCKS, MAX_DESTINATIONS, MAX_PERIODS, MAX_RATE, MAX_RESOURCES}
+use Rattle.pit_parts.specs.declared.ranges.TheConstants.{MAX_BLOCKS, MAX_DESTINATIONS, MAX_PERIODS, MAX_RESOURCES}
 use Rattle.mine_instance.specs.Valid.{IsHorizon}
-use Rattle.forms.proofs.FormFacts.{spell_written}
-use Rattle.forms.proofs.NumberFields.{size_fits, whole_fits}
-use Rattle.forms.specs.Words.{Decimal, Millionths, between, whole, FitsField, written_value}
-use Rattle.text_lines.proofs.PlainText.{is_plain, is_inner, all_weaker, all_parts, first_read, IsField, IsLine}
-use Rattle.minelib_lines.specs.HeaderTable.{field_of, key_value}
+use Rattle.text_lines.proofs.PlainText.{IsField, IsLine, all_parts, all_weaker, first_read, is_inner, is_plain}
 use Rattle.minelib_lines.specs.HeaderKeys.{has_key, header_keys, key_word, keys_of, place, type_text}
-use Rattle.minelib_lines.specs.LineValues.{StatedHeader}
+use Rattle.minelib_lines.specs.HeaderTable.{key_line, key_lines, key_text}
+use Rattle.minelib_lines.specs.StatedHeader.{StatedHeader}
 use Rattle.minelib_lines.specs.declared.header_key.HeaderKey.{HeaderKey}
 use Rattle.minelib_lines.specs.declared.header_key.HeaderKey.TheVariants as key
 use Rattle.minelib_lines.specs.declared.problem.Problem.{Problem}
-use Rattle.minelib_lines.specs.declared.problem.Problem.TheVariants.{Pcpsp, Cpit}
-use Rattle.minelib_lines.specs.WrittenLines.{key_line, key_lines}
-use Rattle.minelib_reading.proofs.lines.FormFields.{ArePlain, spelled_fields}
+use Rattle.minelib_lines.specs.declared.problem.Problem.TheVariants.{Cpit, Pcpsp}
 use Rattle.minelib_reading.proofs.keys.HeaderFacts.{contains_cases, each_key}
-use Rattle.minelib_reading.proofs.models.ModelShapes.{field_fine}
+use Rattle.minelib_reading.proofs.keys.Keyless.{number_field}
 use Rattle.minelib_reading.proofs.lines.PrecTests.{pairs_differ}
 use Rattle.minelib_reading.specs.spelled.SpelledKeys.{IsKeyLine}
-use Rattle.minelib_reading.specs.spelled.SpelledModel.{AreHeaderLines, IsHeaderLine}
+use Rattle.minelib_reading.specs.spelled.SpelledModel.{AreHeaderLines, IsHeaderLine, SpellsKey}
 use Rattle.minelib_text.proofs.LinesBack.{AreWritten, none_written, numbered, then_written}
 use Rattle.minelib_text.proofs.PlainLines.{inner_field, only_field}
+use Rattle.minelib_text.proofs.WrittenNumbers.{below_written, decimal_written, within_written}
 
 -- a key, a colon and what is behind it are a line
 key_is_line : (word rest : List ℕ) → IsField word → list_all is_inner rest ≡ true → IsLine (word ++ 58 ∷ rest)
@@ -68,45 +63,37 @@ pub record IsHeader (n : ℕ) (m : StatedHeader) : Type 0 where
   pub horizon : IsHorizon m.periods m.resources m.rate
   pub destinations : (1 ≤ m.destinations) × (m.destinations ≤ 8)
 
-counted_fits : (low high n : ℕ) → low ≤ n → n ≤ high → high ≤ 10 ^ 18 → FitsField (between low high) (whole n)
-counted_fits low high n from to small =
-    let least : pos (low * 10 ^ 6) ≤ℤ pos (n * 10 ^ 6) = omega (arith, ints, from) in
-    let most : pos (n * 10 ^ 6) ≤ℤ pos (high * 10 ^ 6) = omega (arith, ints, to) in
-    (least, most, omega (arith, to, small), omega arith)
+-- the text that is written of each key's value spells it
+rate_small : (rate : ℤ) → (pos 0 ≤ℤ rate) × (rate ≤ℤ pos (10 ^ 6)) → IsInDecimalRange rate
+rate_small (pos k) within = omega (arith, ints, within.1)
+rate_small (negsuc k) within = absurd (omega (arith, ints, within.0))
 
-rate_fits : (rate : ℤ) → (pos 0 ≤ℤ rate) × (rate ≤ℤ pos (10 ^ 6)) → FitsField (Decimal 6 (pos 0) MAX_RATE) (Millionths rate)
-rate_fits (negsuc k) within = absurd (omega (arith, ints))
-rate_fits (pos k) within = size_fits 6 (10 ^ 6) k (omega (arith, ints)) (omega arith) (omega arith)
+key_spells : (p : Problem) (n : ℕ) (m : StatedHeader) → IsHeader n m → (k : HeaderKey) → SpellsKey p n m k (key_text (type_text p) n m k)
+key_spells p n m is key.Name = (refl, is.name)
+key_spells p n m is key.Type = refl
+key_spells p n m is key.Blocks = below_written (MAX_BLOCKS + 1) n (omega (arith, is.few)) (omega arith)
+key_spells p n m is key.Periods =
+    within_written 1 MAX_PERIODS m.periods is.horizon.periods_1_to_100.0 is.horizon.periods_1_to_100.1 (omega arith)
+key_spells p n m is key.Destinations = within_written 1 MAX_DESTINATIONS m.destinations is.destinations.0 is.destinations.1 (omega arith)
+key_spells p n m is key.Resources = below_written (MAX_RESOURCES + 1) m.resources (omega (arith, is.horizon.at_most_8_resources)) (omega arith)
+key_spells p n m is key.General = below_written 1 0 (omega arith) (omega arith)
+key_spells p n m is key.Rate =
+    (decimal_written m.rate (rate_small m.rate is.horizon.rate_0_to_1), is.horizon.rate_0_to_1.0, is.horizon.rate_0_to_1.1)
 
-type_fits : (p : Problem) → bytes_eq (type_text p) (type_text p) ≡ true
-type_fits Pcpsp = refl
-type_fits Cpit = refl
-
--- the field of each key has room for its value
-key_fits : (p : Problem) (n : ℕ) (m : StatedHeader) → IsHeader n m → (k : HeaderKey) → FitsField (field_of p k) (key_value (type_text p) n m k)
-key_fits p n m is key.Name = is.name
-key_fits p n m is key.Type = type_fits p
-key_fits p n m is key.Blocks = whole_fits (MAX_BLOCKS + 1) n (omega (arith, is.few)) (omega arith)
-key_fits p n m is key.Periods =
-    counted_fits 1 MAX_PERIODS m.periods is.horizon.periods_1_to_100.0 is.horizon.periods_1_to_100.1 (omega arith)
-key_fits p n m is key.Destinations =
-    counted_fits 1 MAX_DESTINATIONS m.destinations is.destinations.0 is.destinations.1 (omega arith)
-key_fits p n m is key.Resources = whole_fits (MAX_RESOURCES + 1) m.resources (omega (arith, is.horizon.at_most_8_resources)) (omega arith)
-key_fits p n m is key.Rate = rate_fits m.rate is.horizon.rate_0_to_1
-key_fits p n m is k = (omega (arith, ints), omega (arith, ints), omega arith, refl)
-
+-- and is a field
 type_field : (p : Problem) → IsField (type_text p)
 type_field Pcpsp = word_field _ _ refl
 type_field Cpit = word_field _ _ refl
 
--- whose words are fields
-key_plain : (p : Problem) (k : HeaderKey) → ArePlain (field_of p k ∷ [])
-key_plain p key.Name = (name_field, tt)
-key_plain p key.Type = (
-  λ word same. subst IsField (sym ((bytes_eq-Decides word (type_text p)).0 same)) (type_field p),
-  tt,
-)
-key_plain p k = tt
+value_field : (p : Problem) (n : ℕ) (m : StatedHeader) → IsHeader n m → (k : HeaderKey) → IsField (key_text (type_text p) n m k)
+value_field p n m is key.Name = name_field m.name is.name
+value_field p n m is key.Type = type_field p
+value_field p n m is key.Blocks = number_field 0 _ _ (key_spells p n m is key.Blocks).0
+value_field p n m is key.Periods = number_field 0 _ _ (key_spells p n m is key.Periods).0
+value_field p n m is key.Destinations = number_field 0 _ _ (key_spells p n m is key.Destinations).0
+value_field p n m is key.Resources = number_field 0 _ _ (key_spells p n m is key.Resources).0
+value_field p n m is key.General = number_field 0 _ _ (key_spells p n m is key.General).0
+value_field p n m is key.Rate = number_field 6 _ _ (key_spells p n m is key.Rate).0
 
 key_field : (k : HeaderKey) → IsField (key_word k)
 key_field key.Name = word_field _ _ refl
@@ -114,12 +101,10 @@ key_field k = word_field _ _ refl
 
 -- the line of a key spells its value
 pub header_line : (p : Problem) (n : ℕ) (m : StatedHeader) → IsHeader n m → (k : HeaderKey) → has_key p k ≡ true
-    → IsLine (key_line k (key_value (type_text p) n m k)) × IsHeaderLine p n m (key_line k (key_value (type_text p) n m k)) k
+    → IsLine (key_line k (key_text (type_text p) n m k)) × IsHeaderLine p n m (key_line k (key_text (type_text p) n m k)) k
 header_line p n m is k has =
-    let value = key_value (type_text p) n m k in
-    let text = written_value value in
-    let says = spell_written (field_of p k ∷ []) (value ∷ []) (field_fine p k) (key_fits p n m is k, tt) in
-    let is_value : IsField text = (spelled_fields (field_of p k ∷ []) (text ∷ []) (value ∷ []) (key_plain p k) says).0 in
+    let text = key_text (type_text p) n m k in
+    let is_value = value_field p n m is k in
     let line : (key_word k ++ 58 ∷ []) ++ 32 ∷ text ≡ key_word k ++ 58 ∷ 32 ∷ text = append_assoc (key_word k) (58 ∷ []) (32 ∷ text) in (
       subst IsLine (sym line) (key_is_line (key_word k) (32 ∷ text) (key_field k) (inner_field text is_value)),
       record {
@@ -132,18 +117,18 @@ header_line p n m is k has =
           fields_are = only_field text is_value;
         };
         of_problem = has;
-        says = says.0;
+        says = key_spells p n m is k;
       },
     )
 
-abbrev pub SpellsKey : Problem → ℕ → StatedHeader → ℕ → List ℕ → HeaderKey → Type 0
-SpellsKey p n m = λ _ line k. IsHeaderLine p n m line k
+abbrev pub SpellsHeader : Problem → ℕ → StatedHeader → ℕ → List ℕ → HeaderKey → Type 0
+SpellsHeader p n m = λ _ line k. IsHeaderLine p n m line k
 
 keys_written : (p : Problem) (n : ℕ) (m : StatedHeader) → IsHeader n m → (i : ℕ) (keys : List HeaderKey) → All (λ k. has_key p k ≡ true) keys
-    → AreWritten (SpellsKey p n m) i (key_lines (key_value (type_text p) n m) keys) keys
-keys_written p n m is i [] has = none_written (SpellsKey p n m) i
+    → AreWritten (SpellsHeader p n m) i (key_lines (key_text (type_text p) n m) keys) keys
+keys_written p n m is i [] has = none_written (SpellsHeader p n m) i
 keys_written p n m is i (k ∷ keys) has =
-    then_written (SpellsKey p n m) i _ _ k keys (header_line p n m is k (All-head (λ k. has_key p k ≡ true) k keys has))
+    then_written (SpellsHeader p n m) i _ _ k keys (header_line p n m is k (All-head (λ k. has_key p k ≡ true) k keys has))
     (keys_written p n m is (i + 1) keys (All-tail (λ k. has_key p k ≡ true) k keys has))
 
 -- no key stands twice among all, and each that a problem has stands among its own
@@ -169,8 +154,8 @@ key_stands : (p : Problem) (k : HeaderKey) → has_key p k ≡ true → Contains
 key_stands p k has = still_there (has_key p) header_keys k has (each_key k)
 
 pub header_lines : (p : Problem) (n : ℕ) (m : StatedHeader) → IsHeader n m
-    → All IsLine (key_lines (key_value (type_text p) n m) (keys_of p))
-    × ((number : ℕ) → AreHeaderLines p n (numbered number (key_lines (key_value (type_text p) n m) (keys_of p))) m)
+    → All IsLine (key_lines (key_text (type_text p) n m) (keys_of p))
+    × ((number : ℕ) → AreHeaderLines p n (numbered number (key_lines (key_text (type_text p) n m) (keys_of p))) m)
 header_lines p n m is =
     let w = keys_written p n m is 0 (keys_of p) (filter_passes (has_key p) header_keys) in (
       w.each,

@@ -7,3 +7,4 @@ pub mod LinesOfText
 pub mod ModelBack
 pub mod PlainLines
 pub mod TextsBack
+pub mod WrittenNumbers

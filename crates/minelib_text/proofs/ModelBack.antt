@@ -1,50 +1,96 @@
 -- The text of a model file spells what it is written of.
-use Rattle.std.proofs.Common.{◌≡◌, ℕ, ◌+◌, ◌<◌, ◌≤◌, false, List, [], ◌∷◌, ◌++◌, length, ℤ, arith, refl, sym, ap, ◌∙◌, subst, append_assoc}
-use Rattle.std.specs.Prelude.{All, codes, slice_index_or}
-use Rattle.std.specs.Str.{bytes_eq}
+use Rattle.std.specs.Prelude.{List, codes, ℕ, ℤ}
+use Rattle.std.proofs.Common.{All, [], ap, append_assoc, arith, false, length, refl, subst, sym, true, ◌++◌, ◌+◌, ◌<◌, ◌∙◌, ◌∷◌, ◌≡◌, ◌≤◌}
+use Rattle.std.proofs.lemmas.List.{length-map}
 use Rattle.std.proofs.lemmas.List.Elements.{All-append, All-cons}
-use Rattle.pit_parts.specs.PlanKept.{is_turned}
-use Rattle.mine_instance.specs.declared.coefs.coef.Coef.{Coef}
+use Rattle.std.specs.List.{list_all}
+use Rattle.pit_units.specs.Decimal.{shortest}
 use Rattle.pit_units.specs.DecimalRange.{IsInDecimalRange}
+use Rattle.pit_parts.specs.PlanKept.{is_turned}
+use Rattle.pit_parts.specs.declared.limit.Bound.{Bound}
+use Rattle.pit_parts.specs.declared.limit.Bound.TheVariants.{AtLeast, AtMost, Between}
+use Rattle.pit_parts.specs.declared.limit.Limit.{Limit}
 use Rattle.mine_instance.specs.Kept.{HasDecimals}
-use Rattle.minelib_lines.specs.HeaderTable.{key_value}
+use Rattle.mine_instance.specs.declared.coefs.coef.Coef.{Coef}
+use Rattle.text_lines.proofs.PlainText.{EachField, IsField, IsLine, is_plain}
+use Rattle.text_lines.specs.TextLines.{Line, fields_of, lines_in}
 use Rattle.minelib_lines.specs.HeaderKeys.{keys_of, type_text}
-use Rattle.minelib_lines.specs.Lines.{text_of, line_of, lines_from}
-use Rattle.minelib_lines.specs.LineValues.{StatedHeader, coef_values, limit_values, values_values}
+use Rattle.minelib_lines.specs.HeaderTable.{key_lines, key_text}
+use Rattle.minelib_lines.specs.Lines.{line_of, lines_from, text_of}
 use Rattle.minelib_lines.specs.declared.problem.Problem.{Problem}
-use Rattle.minelib_lines.specs.declared.problem.Problem.TheVariants.{Pcpsp, Cpit}
-use Rattle.minelib_reading.proofs.lines.CoefLineFacts.{coef_fine, coef_fits, coef_plain}
-use Rattle.minelib_reading.proofs.lines.LimitLineFacts.{bound_plain, limit_fine, limit_fits}
+use Rattle.minelib_lines.specs.declared.problem.Problem.TheVariants.{Cpit, Pcpsp}
+use Rattle.minelib_writing.specs.Written.{bound_fields, coef_line, cpit_coef_line, limit_line, section_lines, value_line}
+use Rattle.minelib_reading.proofs.keys.Keyless.{number_field}
 use Rattle.minelib_reading.proofs.models.Places.{is_place, item_there}
 use Rattle.minelib_reading.proofs.models.ValidModel.{IsModel}
-use Rattle.minelib_reading.proofs.lines.ValuesLineFacts.{many_fine, many_plain, values_fits}
-use Rattle.minelib_reading.specs.shapes.ItemForms.{coef_form, limit_form, values_form}
-use Rattle.minelib_reading.specs.spelled.SpelledModel.{AreModelLines, HasDestination, IsSingle, SpellCoef, SpellLimit, SpellValues}
 use Rattle.minelib_reading.specs.StatedModel.{StatedModel}
-use Rattle.minelib_lines.specs.WrittenLines.{coef_fields, key_lines, limit_fields, value_fields}
-use Rattle.minelib_writing.specs.Written.{section_lines}
-use Rattle.text_lines.specs.TextLines.{Line, fields_of, lines_in}
-use Rattle.text_lines.proofs.PlainText.{IsLine}
+use Rattle.minelib_reading.specs.spelled.SpelledItems.{SpellsBound, SpellsCoef, SpellsLimit, SpellsValues}
+use Rattle.minelib_reading.specs.spelled.SpelledModel.{AreModelLines, IsSingle}
 use Rattle.minelib_text.proofs.KeysBack.{header_lines, section_line, word_field}
 use Rattle.minelib_text.proofs.LinesBack.{IsEachWritten, items_written, numbered, numbered_both, text_lines}
-use Rattle.minelib_text.proofs.PlainLines.{form_line}
+use Rattle.minelib_text.proofs.PlainLines.{plain_line}
+use Rattle.minelib_text.proofs.WrittenNumbers.{below_field, below_written, decimal_written, decimals_written}
 
 -- a block's values are written as they are spelled
-pub values_line : (n block : ℕ) (h : StatedHeader) (vs : List ℤ) → n ≤ 64000000 → block < n → length vs ≡ h.destinations
+pub values_line : (n destinations block : ℕ) (vs : List ℤ) → n ≤ 64000000 → block < n → length vs ≡ destinations
     → All IsInDecimalRange vs
-    → IsLine (line_of (value_fields block vs)) × SpellValues n h block (fields_of (line_of (value_fields block vs))) vs
-values_line n block h vs few low as_many kept =
-    form_line (λ _. values_form n h.destinations) (values_values block vs) (many_fine h.destinations) (many_plain h.destinations) (omega arith)
-    (values_fits n h.destinations block vs (omega arith) low as_many kept)
+    → IsLine (line_of (value_line block vs)) × SpellsValues n destinations block (fields_of (line_of (value_line block vs))) vs
+values_line n destinations block vs few low as_many kept =
+    let each = decimals_written vs kept in
+    let spells : SpellsValues n destinations block (value_line block vs) vs = record {
+      as_many = omega (arith, as_many, length-map vs shortest);
+      id = below_written n block low (omega (arith, few));
+      each = each.0;
+    } in
+    plain_line (value_line block vs) (λ fields. SpellsValues n destinations block fields vs) (omega arith)
+    (below_field _ _ _ spells.id, each.1) spells
 
--- a coefficient of a CPIT is of its only destination
-has_destination : (p : Problem) (destinations : ℕ) (c : Coef) → IsSingle p destinations → c.d < destinations → HasDestination p c
-has_destination Pcpsp destinations c single low = tt
-has_destination Cpit destinations c single low = omega arith
+-- a coefficient, and one of a CPIT, which is of its only destination
+abbrev pub coef_text : Problem → ℕ → Coef → List (List ℕ)
+coef_text Pcpsp n c = coef_line n c
+coef_text Cpit n c = cpit_coef_line n c
 
-some_fields : (p : Problem) (k : ℕ) (c : Coef) → 0 < length (coef_fields p k c)
-some_fields Pcpsp k c = omega arith
-some_fields Cpit k c = omega arith
+coefs_line : (p : Problem) (n destinations resources k : ℕ) (c : Coef) → n ≤ 64000000 → destinations ≤ 8 → resources ≤ 8
+    → (c.b < n) × (c.d < destinations) × (c.r < resources) → IsInDecimalRange c.v → IsSingle p destinations
+    → IsLine (line_of (coef_text p k c)) × SpellsCoef p n destinations resources (fields_of (line_of (coef_text p k c))) c
+coefs_line Pcpsp n destinations resources k c few many small within kept single =
+    let b = below_written n c.b within.0 (omega (arith, few)) in
+    let d = below_written destinations c.d within.1 (omega (arith, many)) in
+    let r = below_written resources c.r within.2 (omega (arith, small)) in
+    let v = decimal_written c.v kept in
+    plain_line (coef_line k c) (λ fields. SpellsCoef Pcpsp n destinations resources fields c) (omega arith)
+    (below_field _ _ _ b, (below_field _ _ _ d, (below_field _ _ _ r, (number_field 6 _ _ v, tt)))) (refl, b, d, r, v)
+coefs_line Cpit n destinations resources k c few many small within kept single =
+    let b = below_written n c.b within.0 (omega (arith, few)) in
+    let r = below_written resources c.r within.2 (omega (arith, small)) in
+    let v = decimal_written c.v kept in
+    plain_line (cpit_coef_line k c) (λ fields. SpellsCoef Cpit n destinations resources fields c) (omega arith)
+    (below_field _ _ _ b, (below_field _ _ _ r, (number_field 6 _ _ v, tt))) (refl, b, omega (arith, within.1, single), r, v)
+
+-- a limit
+letter : (c : ℕ) → list_all is_plain (c ∷ []) ≡ true → IsField (c ∷ [])
+letter c h = record { some = omega arith; bytes = h }
+
+bound_written : (k resource period : ℕ) (bound : Bound) → HasDecimals bound
+    → SpellsBound (limit_line k (record { resource = resource; period = period; bound = bound })) bound × EachField (bound_fields bound)
+bound_written k resource period (AtMost v) kept =
+    let h = decimal_written v kept in ((refl, refl, h), (letter 76 refl, (number_field 6 _ _ h, tt)))
+bound_written k resource period (AtLeast v) kept =
+    let h = decimal_written v kept in ((refl, refl, h), (letter 71 refl, (number_field 6 _ _ h, tt)))
+bound_written k resource period (Between v w) kept =
+    let h = decimal_written v kept.0 in
+    let g = decimal_written w kept.1 in
+    ((refl, refl, h, g), (letter 73 refl, (number_field 6 _ _ h, (number_field 6 _ _ g, tt))))
+
+limits_line : (resources periods k : ℕ) (l : Limit) → resources ≤ 8 → periods ≤ 100 → l.resource < resources → l.period < periods
+    → HasDecimals l.bound
+    → IsLine (line_of (limit_line k l)) × SpellsLimit resources periods (fields_of (line_of (limit_line k l))) l
+limits_line resources periods k l small short low_r low_t kept =
+    let r = below_written resources l.resource low_r (omega (arith, small)) in
+    let t = below_written periods l.period low_t (omega (arith, short)) in
+    let bound = bound_written k l.resource l.period l.bound kept in
+    plain_line (limit_line k l) (λ fields. SpellsLimit resources periods fields l) (omega arith)
+    (below_field _ _ _ r, (below_field _ _ _ t, bound.1)) (r, t, bound.0)
 
 -- what a model file states can be written: its numbers are decimals, and are in range and order
 pub record IsWritable (p : Problem) (n : ℕ) (m : StatedModel) : Type 0 where
@@ -55,57 +101,47 @@ pub record IsWritable (p : Problem) (n : ℕ) (m : StatedModel) : Type 0 where
   pub limits : All (λ l. HasDecimals l.bound) m.limits
 
 module _ (p : Problem) (n : ℕ) (m : StatedModel) (is : IsWritable p n m) where
-  each_values : IsEachWritten (λ block line vs. SpellValues n m.header block (fields_of line) vs) value_fields m.values
+  each_values : IsEachWritten (λ block line vs. SpellsValues n m.header.destinations block (fields_of line) vs) value_line m.values
   each_values done vs rest whole =
-      let place : length done < n = omega (arith, is.model.count, is_place m.values done vs rest whole) in
-      values_line n (length done) m.header vs is.few place
+      values_line n m.header.destinations (length done) vs is.few (omega (arith, is.model.count, is_place m.values done vs rest whole))
       (item_there m.values done vs rest whole (λ vs. length vs ≡ m.header.destinations) is.model.destinations.one_each)
       (item_there m.values done vs rest whole (λ vs. All IsInDecimalRange vs) is.values)
 
-  each_coef : IsEachWritten (λ _ line c. SpellCoef p n m.header (fields_of line) c) (coef_fields p) m.coefs
+  each_coef : IsEachWritten (λ _ line c. SpellsCoef p n m.header.destinations m.header.resources (fields_of line) c) (coef_text p) m.coefs
   each_coef done c rest whole =
-      let destinations = m.header.destinations in
-      let resources = m.header.resources in
-      let range = item_there m.coefs done c rest whole (λ c. (c.b < n) × (c.d < destinations) × (c.r < resources)) is.model.coefs.in_range in
-      let kept = item_there m.coefs done c rest whole (λ c. IsInDecimalRange c.v) is.coefs in
-      let few = is.few in
-      let many = is.model.destinations.from_1_to_8.1 in
-      let small = is.model.horizon.at_most_8_resources in
-      let w = form_line (λ _. coef_form p n destinations resources) (coef_values p c) (coef_fine p n destinations resources)
-      (coef_plain p n destinations resources) (some_fields p 0 c)
-      (coef_fits p n destinations resources c (omega arith) (omega arith) (omega arith) range kept) in
-      (w.0, (w.1, has_destination p destinations c is.model.single range.1))
+      coefs_line p n m.header.destinations m.header.resources (length done) c is.few is.model.destinations.from_1_to_8.1
+      is.model.horizon.at_most_8_resources
+      (item_there m.coefs done c rest whole (λ c. (c.b < n) × (c.d < m.header.destinations) × (c.r < m.header.resources)) is.model.coefs.in_range)
+      (item_there m.coefs done c rest whole (λ c. IsInDecimalRange c.v) is.coefs) is.model.single
 
-  each_limit : IsEachWritten (λ _ line l. SpellLimit m.header (fields_of line) l) limit_fields m.limits
+  each_limit : IsEachWritten
+      (λ _ line l. SpellsLimit m.header.resources m.header.periods (fields_of line) l × (is_turned l.bound ≡ false)) limit_line m.limits
   each_limit done l rest whole =
       let resources = m.header.resources in
       let periods = m.header.periods in
       let range = item_there m.limits done l rest whole (λ l. (l.resource < resources) × (l.period < periods) × (is_turned l.bound ≡ false))
       is.model.limits.in_range in
-      let kept = item_there m.limits done l rest whole (λ l. HasDecimals l.bound) is.limits in
-      let small = is.model.horizon.at_most_8_resources in
-      let short = is.model.horizon.periods_1_to_100.1 in
-      let w = form_line (limit_form resources periods) (limit_values l) (limit_fine resources periods (limit_fields 0 l))
-      (bound_plain (bytes_eq (slice_index_or (limit_fields 0 l) 2 []) (codes "I"))) (omega arith)
-      (limit_fits 0 resources periods l (omega arith) (omega arith) range.0 range.1 kept) in
+      let w = limits_line resources periods (length done) l is.model.horizon.at_most_8_resources is.model.horizon.periods_1_to_100.1 range.0 range.1
+      (item_there m.limits done l rest whole (λ l. HasDecimals l.bound) is.limits) in
       (w.0, (w.1, range.2))
 
-  pub model_back : AreModelLines p n (lines_in (text_of (key_lines (key_value (type_text p) n m.header) (keys_of p)
-      ++ section_lines (lines_from value_fields 0 m.values) (lines_from (coef_fields p) 0 m.coefs) (lines_from limit_fields 0 m.limits)))) m
+  pub model_back : AreModelLines p n (lines_in (text_of (key_lines (key_text (type_text p) n m.header) (keys_of p)
+      ++ section_lines (lines_from value_line 0 m.values) (lines_from (coef_text p) 0 m.coefs) (lines_from limit_line 0 m.limits)))) m
   model_back =
-      let keys = key_lines (key_value (type_text p) n m.header) (keys_of p) in
+      let keys = key_lines (key_text (type_text p) n m.header) (keys_of p) in
       let header = header_lines p n m.header (record {
         few = is.few;
         name = is.model.name;
         horizon = is.model.horizon;
         destinations = is.model.destinations.from_1_to_8;
       }) in
-      let values = items_written (λ block line vs. SpellValues n m.header block (fields_of line) vs) value_fields m.values each_values 0 [] m.values refl refl in
-      let coefs = items_written (λ _ line c. SpellCoef p n m.header (fields_of line) c) (coef_fields p) m.coefs each_coef 0 [] m.coefs refl refl in
-      let limits = items_written (λ _ line l. SpellLimit m.header (fields_of line) l) limit_fields m.limits each_limit 0 [] m.limits refl refl in
-      let of_values = lines_from value_fields 0 m.values in
-      let of_coefs = lines_from (coef_fields p) 0 m.coefs in
-      let of_limits = lines_from limit_fields 0 m.limits in
+      let values = items_written (λ block line vs. SpellsValues n m.header.destinations block (fields_of line) vs) value_line m.values each_values 0 [] m.values refl refl in
+      let coefs = items_written (λ _ line c. SpellsCoef p n m.header.destinations m.header.resources (fields_of line) c) (coef_text p) m.coefs each_coef 0 [] m.coefs refl refl in
+      let limits = items_written
+      (λ _ line l. SpellsLimit m.header.resources m.header.periods (fields_of line) l × (is_turned l.bound ≡ false)) limit_line m.limits each_limit 0 [] m.limits refl refl in
+      let of_values = lines_from value_line 0 m.values in
+      let of_coefs = lines_from (coef_text p) 0 m.coefs in
+      let of_limits = lines_from limit_line 0 m.limits in
       let objective = section_line (codes "OBJECTIVE_FUNCTION") (word_field _ _ refl) in
       let coefficients = section_line (codes "RESOURCE_CONSTRAINT_COEFFICIENTS") (word_field _ _ refl) in
       let bounds = section_line (codes "RESOURCE_CONSTRAINT_LIMITS") (word_field _ _ refl) in

@@ -1,13 +1,11 @@
--- Lines of the values of a form are read from their text as they are written.
-use Rattle.std.proofs.Common.{◌≡◌, ℕ, ◌<◌, true, false, List, [], ◌∷◌, ◌++◌, length, arith, refl, ◌∙◌, ap, sym, append-nil}
-use Rattle.std.specs.List.{list_all}
+-- Fields that are written with a space between them are read from their line as they are written.
+use Rattle.std.specs.Prelude.{List, ℕ}
+use Rattle.std.proofs.Common.{[], ap, append-nil, arith, false, length, refl, subst, sym, true, ◌++◌, ◌<◌, ◌∙◌, ◌∷◌, ◌≡◌}
 use Rattle.std.proofs.lemmas.Bool.{and_parts}
-use Rattle.forms.proofs.FormFacts.{spell_written}
-use Rattle.forms.specs.Words.{Field, Value, Fit, Spell, is_fine, written}
-use Rattle.minelib_lines.specs.Lines.{line_of}
-use Rattle.minelib_reading.proofs.lines.FormFields.{ArePlain, spelled_fields}
-use Rattle.text_lines.specs.TextLines.{is_skipped, fields_of}
+use Rattle.std.specs.List.{list_all}
 use Rattle.text_lines.proofs.PlainText.{EachField, IsField, IsLine, all_parts, all_weaker, first_field, first_read, is_inner, is_plain, plain_inner}
+use Rattle.text_lines.specs.TextLines.{fields_of, is_skipped}
+use Rattle.minelib_lines.specs.Lines.{line_of}
 
 fields_again : (fields : List (List ℕ)) → EachField fields → fields_of (line_of fields) ≡ fields
 fields_again [] h = refl
@@ -37,12 +35,7 @@ fields_line : (fields : List (List ℕ)) → 0 < length fields → EachField fie
 fields_line [] some h = absurd (omega (arith, some))
 fields_line (f ∷ fs) some h = record { inner = line_inner (f ∷ fs) h; is_read = line_read f fs h.0 }
 
--- values that fit a form are written as a line that spells them; the form may go by the fields
-pub form_line : (form : List (List ℕ) → List Field) (values : List Value) → is_fine (form (written values)) ≡ true
-    → ArePlain (form (written values)) → 0 < length (written values) → Fit (form (written values)) values
-    → IsLine (line_of (written values))
-    × Spell (form (fields_of (line_of (written values)))) (fields_of (line_of (written values))) values
-form_line form values fine plain some fit =
-    let spelled = spell_written (form (written values)) values fine fit in
-    let each = spelled_fields (form (written values)) (written values) values plain spelled in
-    (fields_line (written values) some each, rw (fields_again (written values) each) spelled)
+-- what the fields spell, their line spells
+pub plain_line : (fields : List (List ℕ)) (Spells : List (List ℕ) → Type 0) → 0 < length fields → EachField fields → Spells fields
+    → IsLine (line_of fields) × Spells (fields_of (line_of fields))
+plain_line fields Spells some each h = (fields_line fields some each, subst Spells (sym (fields_again fields each)) h)

@@ -1,7 +1,6 @@
 //! What holds of the texts of an instance and of reading, together: each contract is a law, and a call of it changes nothing.
 
 ghost use Rattle.std.specs.Prelude.{◌≡◌, ◌⊎◌, ℕ, ◌≤◌, ◌++◌, ◌∷◌, [], All, true, List, length, Err};
-ghost use Rattle.forms.specs.Words.{IsFirstFault};
 ghost use Rattle.mine_instance.specs.cpit.Cpit.{CpitParts};
 ghost use Rattle.mine_instance.specs.cpit.CpitKept.{IsCpit};
 ghost use Rattle.mine_instance.specs.OfModel.{instance};
@@ -11,11 +10,11 @@ ghost use Rattle.mine_instance.specs.Instance.{Instance as AnInstance};
 ghost use Rattle.minelib_reading.specs.Denotes.{Denotes, DenotesCpit};
 ghost use Rattle.mine_instance.specs.Kept.{IsKept, IsKeptCpit};
 ghost use Rattle.minelib_reading.specs.ModelDraft.{blank_model};
-ghost use Rattle.minelib_reading.specs.shapes.ModelLines.{model_grammar};
-ghost use Rattle.minelib_reading.specs.ModelText.{model_in};
+ghost use Rattle.minelib_reading.specs.ModelText.{line_stated, model_in};
 ghost use Rattle.minelib_text.specs.SameTexts.{HaveSameTexts};
 ghost use Rattle.minelib_lines.specs.Lines.{text_of};
 ghost use Rattle.minelib_reading.specs.spelled.SpelledModel.{EndsEarly, IsFirstSpoiled};
+ghost use Rattle.text_lines.specs.Reading.{IsFirstFault};
 ghost use Rattle.text_lines.specs.TextLines.{fields_of, is_ended, lines_in, lines_of};
 ghost use Rattle.text_lines.specs.TextParts.{AreBlanks, IsFieldText, IsLineText};
 ghost use Rattle.minelib_writing.specs.Written.{text_blocks, text_prec, text_pcpsp, text_cpit};
@@ -32,9 +31,7 @@ ghost use Rattle.pit_parts.specs.declared.ranges.TheConstants.{MAX_BLOCKS};
 pub fn written_is_read()
     ensures { (i : AnInstance) → IsValid i → IsKept i
         → Denotes (text_blocks i) (text_prec i) (text_pcpsp i) i }
-{
-    minelib_writing::laws::texts_go_by_forms();
-}
+{}
 
 /// The text of a CPIT denotes that CPIT. That its parts are in their ranges and orders (`IsCpit`), with a NAME and decimals
 /// (`IsKeptCpit`), `write_cpit` says of every CPIT that it wrote; the latter `read_cpit` says of what it answers, and `build_cpit`
@@ -42,9 +39,7 @@ pub fn written_is_read()
 pub fn written_cpit_is_read()
     ensures { (c : CpitParts) → IsCpit c → IsKeptCpit c
         → DenotesCpit (length c.values) (text_cpit c) c }
-{
-    minelib_writing::laws::texts_go_by_forms();
-}
+{}
 
 /// Where the cone of each zone has one slope on all sides, the texts of a model's instance are those of the instance with predecessors by the
 /// test with one slope.
@@ -65,7 +60,7 @@ pub fn even_zones()
 pub fn faulty_lines_begin_no_model()
     ensures { (problem : Problem) (n : ℕ) (text : List ℕ) (fault : LineFault) → n ≤ MAX_BLOCKS
         → model_in problem n text ≡ Err fault
-        → (IsFirstFault model_grammar 1 (blank_model problem n) (lines_in text) fault
+        → (IsFirstFault line_stated (blank_model problem n) (lines_in text) fault
         × IsFirstSpoiled problem n (lines_in text) fault.line) ⊎ EndsEarly problem n text fault }
 {}
 

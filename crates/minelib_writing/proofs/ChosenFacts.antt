@@ -6,14 +6,13 @@ use Rattle.mine_instance.specs.Greatest.{greatest}
 use Rattle.mine_instance.specs.Instance.{Instance}
 use Rattle.mine_instance.specs.cpit.OfCpit.{cpit, is_chosen, at_only_destination}
 use Rattle.mine_instance.specs.Valid.{IsValid}
-use Rattle.minelib_lines.specs.HeaderTable.{key_value}
+use Rattle.minelib_lines.specs.HeaderTable.{key_lines, key_text}
 use Rattle.minelib_lines.specs.HeaderKeys.{keys_of, type_text}
-use Rattle.minelib_lines.specs.LineValues.{header_of}
+use Rattle.minelib_lines.specs.StatedHeader.{header_of}
 use Rattle.minelib_lines.specs.Lines.{line_of, lines_from, text_of}
-use Rattle.minelib_lines.specs.WrittenLines.{key_lines}
 use Rattle.minelib_lines.specs.declared.problem.Problem.TheVariants.{Cpit}
 use Rattle.minelib_writing.specs.Written.{cpit_coef_line, greatest_line, limit_line, one_value_line, section_lines, text_cpit}
-use Rattle.minelib_writing.proofs.PlainFacts.{cpit_by_keys}
+use Rattle.minelib_writing.proofs.ByKeys.{cpit_by_keys}
 
 greatest_lines : (n : ℕ) (values : List (List ℤ)) → lines_from one_value_line n (map greatest values) ≡ lines_from greatest_line n values
 greatest_lines n [] = refl
@@ -22,7 +21,7 @@ greatest_lines n (of_block ∷ values) = ap (λ rest. line_of (greatest_line n o
 -- its keys, and its sections
 abbrev pub chosen_keys : Instance → List (List ℕ)
 chosen_keys i =
-    key_lines (key_value (type_text Cpit) (length i.blocks) (record (header_of i) { destinations = 1 })) (keys_of Cpit)
+    key_lines (key_text (type_text Cpit) (length i.blocks) (record (header_of i) { destinations = 1 })) (keys_of Cpit)
 
 abbrev pub chosen_sections : Instance → List (List ℕ)
 chosen_sections i =
@@ -34,5 +33,5 @@ chosen_text i v =
     let count : length (map greatest i.values) ≡ length i.blocks = length-map i.values greatest ∙ v.lengths.values in
     let coefs = lines_from cpit_coef_line 0 (map at_only_destination (filter (is_chosen i.values) i.coefs)) in
     cpit_by_keys (cpit i)
-    ∙ (λ j. text_of (key_lines (key_value (type_text Cpit) (count j) (record (header_of i) { destinations = 1 })) (keys_of Cpit)
+    ∙ (λ j. text_of (key_lines (key_text (type_text Cpit) (count j) (record (header_of i) { destinations = 1 })) (keys_of Cpit)
     ++ section_lines (greatest_lines 0 i.values j) coefs (lines_from limit_line 0 i.limits)))

@@ -1,11 +1,11 @@
 pub mod BestFacts
+pub mod ByKeys
 pub mod ChosenFacts
 pub mod CoefFacts
 pub mod FrontGroup
 pub mod KeptFacts
 pub mod LineFacts
 pub mod PartsWritten
-pub mod PlainFacts
 pub mod RunCounts
 pub mod SectionsWritten
 pub mod SpacedFacts

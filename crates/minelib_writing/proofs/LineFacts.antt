@@ -4,10 +4,9 @@ use Rattle.std.proofs.lemmas.List.{get_or-map, length-map}
 use Rattle.std.proofs.Math.Seq.{drop-cons}
 use Rattle.std.specs.List.{concat, flat_map}
 use Rattle.std.specs.Prelude.{codes}
-use Rattle.forms.specs.Words.{Value, written_value}
 use Rattle.minelib_lines.specs.HeaderKeys.{key_word}
+use Rattle.minelib_lines.specs.HeaderTable.{key_line, key_lines}
 use Rattle.minelib_lines.specs.Lines.{line_of, lines_from, text_of}
-use Rattle.minelib_lines.specs.WrittenLines.{key_line, key_lines}
 use Rattle.minelib_lines.specs.declared.header_key.HeaderKey.{HeaderKey}
 use Rattle.minelib_writing.specs.inner.Parts.{line_parts}
 
@@ -60,7 +59,6 @@ texts_of fields text each [] = refl
 texts_of fields text each (x ∷ xs) = rw (each x, texts_of fields text each xs) refl
 
 -- the lines of keys are the texts of each
-pub key_texts : (value : HeaderKey → Value) (keys : List HeaderKey)
-    → text_of (key_lines value keys) ≡ flat_map (λ k. key_line k (value k) ++ 10 ∷ []) keys
-key_texts value keys =
-    texts_of (λ k. (key_word k ++ codes ":") ∷ written_value (value k) ∷ []) (λ k. key_line k (value k) ++ 10 ∷ []) (λ k. refl) keys
+pub key_texts : (text : HeaderKey → List ℕ) (keys : List HeaderKey)
+    → text_of (key_lines text keys) ≡ flat_map (λ k. key_line k (text k) ++ 10 ∷ []) keys
+key_texts text keys = texts_of (λ k. (key_word k ++ codes ":") ∷ text k ∷ []) (λ k. key_line k (text k) ++ 10 ∷ []) (λ k. refl) keys

@@ -7,9 +7,9 @@ ghost use Rattle.mine_instance.specs.cpit.CpitKept.{IsCpit};
 ghost use Rattle.mine_instance.specs.cpit.OfCpit.{cpit as instance_cpit};
 ghost use Rattle.mine_instance.specs.Valid.{IsValid};
 ghost use Rattle.mine_instance.specs.Kept.{IsKept, IsKeptCpit};
-ghost use Rattle.minelib_lines.specs.KeyParts.{value_in};
+ghost use Rattle.minelib_lines.specs.KeyParts.{text_in};
+ghost use Rattle.minelib_lines.specs.HeaderTable.{key_lines};
 ghost use Rattle.minelib_lines.specs.Lines.{text_of};
-ghost use Rattle.minelib_lines.specs.WrittenLines.{key_lines};
 ghost use Rattle.minelib_writing.specs.Texts.{text_named};
 ghost use Rattle.minelib_writing.specs.TextsKept.{kept_named};
 ghost use Rattle.minelib_writing.specs.Written.{section_lines, text_blocks, text_prec, text_upit, text_pcpsp, text_cpit};
@@ -171,7 +171,7 @@ struct ModelFile<'a, V: Parted, C: Parted, L: Parted> {
 }
 
 impl<'a, V: Parted, C: Parted, L: Parted> Text for ModelFile<'a, V, C, L> {
-    ghost text = { λ t. text_of (key_lines (value_in t.header) t.keys.now
+    ghost text = { λ t. text_of (key_lines (text_in t.header) t.keys.now
         ++ section_lines (V.lines t.values) (C.lines t.coefs) (L.lines t.limits)) };
 
     ghost kept = { λ t. HoldsFrom (V.kept t.values) 0 (length (V.parts t.values))

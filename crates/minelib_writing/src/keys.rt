@@ -1,10 +1,9 @@
 //! The key lines of the model files.
 
 ghost use Rattle.std.specs.Prelude.{◌≡◌, ◌++◌, ◌∷◌, [], OnOk};
-ghost use Rattle.forms.specs.Words.{written_value};
-ghost use Rattle.minelib_lines.specs.KeyParts.{value_in};
+ghost use Rattle.minelib_lines.specs.KeyParts.{text_in};
+ghost use Rattle.minelib_lines.specs.HeaderTable.{key_line, key_lines};
 ghost use Rattle.minelib_lines.specs.Lines.{text_of};
-ghost use Rattle.minelib_lines.specs.WrittenLines.{key_line, key_lines};
 ghost use Rattle.devices.specs.sinks.Writes.{WritesOn};
 
 use crate::fields::{put_decimal_to, put_text, put_whole_to};
@@ -24,7 +23,7 @@ pub fn write_keys<S: Sink>(
     values: &KeyValues,
     keys: &[HeaderKey],
 ) -> Result<(), WriteFault>
-    ensures { WritesOn (text_of (key_lines (value_in values.now) keys.now))
+    ensures { WritesOn (text_of (key_lines (text_in values.now) keys.now))
         buffer.old.items buffer.new.items (S.state sink.old) (S.state sink.new) result }
 {
     put_keys(alloc, buffer, values, keys)?;
@@ -39,7 +38,7 @@ fn put_keys(
     keys: &[HeaderKey],
 ) -> Result<(), AllocError>
     ensures { OnOk result (out.new.items
-        ≡ out.old.items ++ text_of (key_lines (value_in values.now) keys.now)) }
+        ≡ out.old.items ++ text_of (key_lines (text_in values.now) keys.now)) }
 {
     for key in keys {
         put_key(alloc, out, values, *key)?;
@@ -54,7 +53,7 @@ fn put_key(
     key: HeaderKey,
 ) -> Result<(), AllocError>
     ensures { OnOk result (out.new.items
-        ≡ out.old.items ++ (key_line key (value_in values.now key) ++ 10 ∷ [])) }
+        ≡ out.old.items ++ (key_line key (text_in values.now key) ++ 10 ∷ [])) }
 {
     put_text(out, key.row().word, b':')?;
     out.push(b' ')?;
@@ -62,7 +61,6 @@ fn put_key(
 }
 
 // Appends the value of a key.
-#[tactic(auto, using(crate::proofs::PlainFacts::whole_written))]
 fn put_value(
     alloc: Global,
     out: &mut Vec<u8>,
@@ -70,7 +68,7 @@ fn put_value(
     key: HeaderKey,
 ) -> Result<(), AllocError>
     ensures { OnOk result (out.new.items
-        ≡ out.old.items ++ (written_value (value_in values.now key) ++ 10 ∷ [])) }
+        ≡ out.old.items ++ (text_in values.now key ++ 10 ∷ [])) }
 {
     match values.of(key) {
         KeyValue::Text(text) => put_text(out, text, b'\n'),

@@ -1,7 +1,7 @@
 -- Counting one file after the other counts the texts of all.
 use Rattle.std.specs.Prelude.{◌≡◌, ℕ, ◌≤◌, List, [], length, Option, None, Some, IfSome, Result, Ok, Err}
 use Rattle.std.proofs.Common.{refl, ap, arith}
-use Rattle.forms.specs.Words.{◌>>=◌}
+use Rattle.pit_units.specs.Steps.{◌>>=◌}
 use Rattle.minelib_reading.specs.BlockText.{blocks_in}
 use Rattle.minelib_reading.specs.Denotes.{cpit_denoted, denoted}
 use Rattle.minelib_reading.specs.FedCounts.{IsFedAnswer, arcs_counted, blocks_counted, model_counted}

@@ -1,7 +1,7 @@
 -- What is counted of the texts of an instance.
 use Rattle.std.specs.Prelude.{◌≡◌, ℕ, List, [], ◌∷◌, ◌++◌, length, sum_by, codes, Option, None, Some, Result, Ok}
 use Rattle.std.specs.Fmt.{decimal}
-use Rattle.forms.specs.Words.{◌>>=◌}
+use Rattle.pit_units.specs.Steps.{◌>>=◌}
 use Rattle.minelib_reading.specs.Denotes.{cpit_denoted, denoted}
 use Rattle.text_lines.specs.declared.text_fault.TextFault.{TextFault}
 use Rattle.mine_instance.specs.Instance.{Instance}

@@ -6,7 +6,7 @@ use Rattle.devices.specs.declared.feeds.slurp.SlurpFault.{SlurpFault}
 use Rattle.devices.proofs.Giving.{put_back-append}
 use Rattle.pit_units.specs.declared.or_memory.OrMemory.{OrMemory}
 use Rattle.pit_units.specs.declared.or_memory.OrMemory.TheVariants.{Fault, OutOfMemory}
-use Rattle.forms.specs.Words.{◌>>=◌}
+use Rattle.pit_units.specs.Steps.{◌>>=◌}
 use Rattle.text_lines.specs.Fed.{IsFedReading}
 use Rattle.text_lines.specs.Reading.{Leaves, read_lines}
 use Rattle.text_lines.specs.TextLines.{end_of, lines_in, lines_of, numbered_lines}

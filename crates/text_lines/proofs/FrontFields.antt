@@ -1,5 +1,5 @@
 -- A number that a line begins with is its first field, if a blank or nothing stands behind it.
-use Rattle.std.proofs.Common.{◌≡◌, ℕ, ◌*◌, ◌^◌, ◌<◌, ◌≤◌, ◌==◌, true, List, [], ◌∷◌, ◌++◌, length, ℤ, pos, negsuc, arith, refl, sym, ap, ◌∙◌}
+use Rattle.std.proofs.Common.{◌≡◌, ℕ, ◌*◌, ◌/◌, ◌^◌, ◌<◌, ◌≤◌, ◌==◌, true, List, [], ◌∷◌, ◌++◌, length, ℤ, pos, negsuc, arith, refl, sym, ap, ◌∙◌}
 use Rattle.std.specs.Prelude.{◌&&◌, false, ◌≤ℤ◌, ◌+ℤ◌, int_le, unsigned_abs, Ok, Err}
 use Rattle.std.specs.List.{list_all}
 use Rattle.std.proofs.lemmas.Bool.{ne_eqb}
@@ -8,7 +8,6 @@ use Rattle.std.proofs.lemmas.List.Sums.{list_all-from_AllPass}
 use Rattle.records.specs.Cells.{without_leading_blanks}
 use Rattle.pit_units.specs.Decimal.{decimal_within}
 use Rattle.pit_units.specs.Front.{BeginsWith}
-use Rattle.forms.proofs.NumberFields.{quotient}
 use Rattle.text_lines.specs.FieldValues.{first_by}
 use Rattle.text_lines.specs.StatedFields.{decimal_in, size_in, below_in}
 use Rattle.text_lines.specs.TextLines.{fields_of, is_ended}
@@ -39,7 +38,8 @@ unfolding below_in decimal_within
 whole_taken limit line n rest t low =
     let within : (int_le (pos 0) (pos (n * 10 ^ 6)) && int_le (pos (n * 10 ^ 6)) (pos (limit * 10 ^ 6) +ℤ negsuc 0)) ≡ true =
     grind (arith, ints, low) in
-    rw (t.cut, t.stated, within, quotient n) refl
+    let whole : n * 10 ^ 6 / 10 ^ 6 ≡ n = omega arith in
+    rw (t.cut, t.stated, within, whole) refl
 
 pub whole_refused : (limit : ℕ) (line : List ℕ) (n : ℕ) (rest : List ℕ) → TakesDecimal 0 line (pos (n * 10 ^ 6)) rest → (n < limit → ⊥)
     → first_by (below_in limit) (fields_of line) ≡ Err Range

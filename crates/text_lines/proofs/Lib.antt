@@ -1,10 +1,11 @@
 pub mod Cuts
 pub mod FedSteps
-pub mod FieldSteps
+pub mod FieldFacts
 pub mod FrontFields
-pub mod ItemGrammarFacts
+pub mod GivenFacts
+pub mod LaterFields
+pub mod LineEnds
+pub mod LinesRead
 pub mod PieceFacts
 pub mod PlainText
 pub mod ReadSteps
-pub mod GivenFacts
-pub mod LineEnds

@@ -1,7 +1,7 @@
 -- What a step of reading shows where it found no fault.
 use Rattle.std.specs.Prelude.{◌≡◌, ℕ, List, [], ◌∷◌, Bool, true, false, Result, Ok, Err, if◌then◌else◌}
 use Rattle.std.proofs.Common.{refl, ◌∙◌, ap}
-use Rattle.forms.specs.Words.{◌>>=◌}
+use Rattle.pit_units.specs.Steps.{◌>>=◌}
 use Rattle.text_lines.specs.Reading.{at_line, in_file, read_lines}
 use Rattle.text_lines.specs.TextLines.{Line}
 use Rattle.text_lines.specs.declared.text_fault.LineFault.{LineFault}

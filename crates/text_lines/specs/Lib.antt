@@ -1,8 +1,6 @@
 pub mod FaultText
 pub mod Fed
 pub mod FieldValues
-pub mod ItemGrammar
-pub mod LineKinds
 pub mod Reading
 pub mod StatedFields
 pub mod TextLines

@@ -1,6 +1,6 @@
 -- Reading the lines of a text one after the other, up to the first faulty one, and what a reader answers of it.
-use Rattle.std.specs.Prelude.{ℕ, List, [], ◌∷◌, Result, Ok, Err}
-use Rattle.forms.specs.Words.{◌>>=◌}
+use Rattle.std.specs.Prelude.{◌≡◌, ℕ, List, [], ◌∷◌, ◌++◌, Result, Ok, Err}
+use Rattle.pit_units.specs.Steps.{◌>>=◌}
 use Rattle.pit_units.specs.OrMemory.{Gives}
 use Rattle.pit_units.specs.declared.or_memory.OrMemory.{OrMemory}
 use Rattle.pit_units.specs.declared.or_memory.OrMemory.TheVariants.{Fault, OutOfMemory}
@@ -19,6 +19,18 @@ at_line n (Err kind) = Err (record { line = n; kind = kind })
 abbrev pub read_lines : {S : Type 0} → (S → List ℕ → Result S TextKind) → S → List Line → Result S LineFault
 read_lines admit so_far [] = Ok so_far
 read_lines admit so_far (line ∷ lines) = at_line line.number (admit so_far line.text) >>= λ next. read_lines admit next lines
+
+-- the fault is that of the first faulty line: those before it state something, and behind that the line has a fault of this kind
+pub record IsFirstFault {S : Type 0} (admit : S → List ℕ → Result S TextKind) (so_far : S) (lines : List Line)
+    (fault : LineFault) : Type 0 where
+  pub before : List Line
+  pub bad : Line
+  pub behind : List Line
+  pub cut : lines ≡ before ++ bad ∷ behind
+  pub place : fault.line ≡ bad.number
+  pub state : S
+  pub stated : read_lines admit so_far before ≡ Ok state
+  pub fails : admit state bad.text ≡ Err fault.kind
 
 -- a faulty line, in a file
 abbrev pub fault_in_file : TextFile → LineFault → TextFault

@@ -1,6 +1,6 @@
 -- What a field of a line states, or which fault it has.
 use Rattle.std.specs.Prelude.{ℕ, ◌*◌, ◌/◌, ◌^◌, List, [], ◌∷◌, slice_index_or, ℤ, pos, ◌-ℤ◌, unsigned_abs, Result, Ok, Err}
-use Rattle.forms.specs.Words.{◌>>=◌}
+use Rattle.pit_units.specs.Steps.{◌>>=◌}
 use Rattle.pit_units.specs.Decimal.{decimal_of, decimal_within}
 use Rattle.pit_units.specs.declared.fault.DecFault.{DecFault}
 use Rattle.pit_units.specs.declared.fault.DecFault.TheVariants as dec

@@ -4,10 +4,9 @@ ghost use Rattle.std.specs.Prelude.{◌≡◌, ◌<◌, ◌≤◌, ◌∷◌, �
 ghost use Rattle.std.specs.List.{position_or_len};
 ghost use Rattle.pit_units.specs.DecimalRange.{IsInDecimalRange};
 ghost use Rattle.records.specs.Cells.{is_blank};
-ghost use Rattle.text_lines.specs.FieldValues.{Takes, first_by};
+ghost use Rattle.text_lines.specs.FieldValues.{Takes, first_by, kind_by};
 ghost use Rattle.text_lines.specs.StatedFields.{decimal_in, size_in, below_in};
 ghost use Rattle.text_lines.specs.TextLines.{fields_of, is_ended};
-ghost use Rattle.text_lines.specs.LineKinds.{kind_by};
 ghost use Rattle.text_lines.specs.inner.Taken.{TakesDecimal};
 
 use crate::field_values::{below_in, decimal_in, size_in};

@@ -1,39 +1,37 @@
 -- What a reader that only counts answers of the text of a feed.
-use Rattle.std.specs.Prelude.{◌≡◌, ℕ, List, [], length, sum_by, Option, Ok, Err}
-use Rattle.std.proofs.Common.{sym, ◌∙◌, ap}
-use Rattle.forms.specs.Words.{◌>>=◌}
+use Rattle.std.specs.Prelude.{Err, List, Ok, Option, sum_by, ℕ}
+use Rattle.std.proofs.Common.{[], ap, length, sym, ◌∙◌, ◌≡◌}
+use Rattle.pit_units.specs.Steps.{◌>>=◌}
+use Rattle.pit_units.specs.declared.or_memory.OrMemory.TheVariants.{Fault}
 use Rattle.pit_parts.specs.declared.block.Block.{Block}
 use Rattle.text_lines.specs.Fed.{IsFedReading}
-use Rattle.text_lines.specs.Reading.{read_lines}
-use Rattle.text_lines.specs.TextLines.{end_of, lines_in}
+use Rattle.text_lines.specs.TextLines.{end_of}
 use Rattle.text_lines.specs.declared.text_fault.LineFault.{LineFault}
+use Rattle.minelib_lines.specs.declared.problem.Problem.{Problem}
+use Rattle.minelib_reading.proofs.spelled.SpelledRead.{preds_finished, preds_stopped}
+use Rattle.minelib_reading.specs.BlockText.{with_block}
 use Rattle.minelib_reading.specs.FedCounts.{IsFedAnswer, arcs_counted, blocks_counted, model_counted}
 use Rattle.minelib_reading.specs.ModelDraft.{ModelDraftView, blank_model}
-use Rattle.minelib_reading.specs.ModelText.{finish_model, model_in}
-use Rattle.minelib_reading.specs.inner.ModelParts.{admit_model}
-use Rattle.minelib_reading.proofs.plain.TextForms.{lines_admitted}
-use Rattle.minelib_lines.specs.declared.problem.Problem.{Problem}
+use Rattle.minelib_reading.specs.ModelText.{finish_model, line_stated, model_in}
 use Rattle.minelib_reading.specs.PrecText.{finish_preds, preds_in}
-use Rattle.minelib_reading.specs.inner.LinesTaken.{PrecDraftView, admit_block, admit_preds, no_lists}
-use Rattle.minelib_reading.proofs.spelled.SpelledRead.{blocks_read, preds_finished, preds_stopped}
-use Rattle.pit_units.specs.declared.or_memory.OrMemory.TheVariants.{Fault}
+use Rattle.minelib_reading.specs.inner.LinesTaken.{PrecDraftView, admit_preds, no_lists}
 
-pub blocks_told : (left : Option (List ℕ)) (limit end : ℕ) (after : List Block) → IsFedReading admit_block left limit [] after (Ok end)
+pub blocks_told : (left : Option (List ℕ)) (limit end : ℕ) (after : List Block) → IsFedReading with_block left limit [] after (Ok end)
     → IsFedAnswer blocks_counted left limit (Ok (length after))
 unfolding blocks_counted
 blocks_told left limit end after read = record {
   text = read.text;
   is_text = read.is_text;
-  answers = ap (λ r. r >>= λ blocks. Ok (length blocks)) (sym read.reads.0 ∙ blocks_read read.text);
+  answers = ap (λ r. r >>= λ blocks. Ok (length blocks)) (sym read.reads.0);
 }
 
 pub blocks_faulty : (left : Option (List ℕ)) (limit : ℕ) (after : List Block) (fault : LineFault)
-    → IsFedReading admit_block left limit [] after (Err fault) → IsFedAnswer blocks_counted left limit (Err fault)
+    → IsFedReading with_block left limit [] after (Err fault) → IsFedAnswer blocks_counted left limit (Err fault)
 unfolding blocks_counted
 blocks_faulty left limit after fault read = record {
   text = read.text;
   is_text = read.is_text;
-  answers = ap (λ r. r >>= λ blocks. Ok (length blocks)) (sym read.reads ∙ blocks_read read.text);
+  answers = ap (λ r. r >>= λ blocks. Ok (length blocks)) (sym read.reads);
 }
 
 pub arcs_told : (n : ℕ) (left : Option (List ℕ)) (limit end : ℕ) (after : PrecDraftView) (lists : List (List ℕ))
@@ -75,17 +73,13 @@ arcs_faulty n left limit after fault read =
       answers = sym (ap (λ r. r >>= λ all. Ok (sum_by length all)) stated);
     }
 
-model_all : (problem : Problem) (n : ℕ) (text : List ℕ)
-    → (read_lines admit_model (blank_model problem n) (lines_in text) >>= finish_model (end_of text)) ≡ model_in problem n text
-model_all problem n text = ap (λ r. r >>= finish_model (end_of text)) (lines_admitted (blank_model problem n) (lines_in text))
-
 pub model_told : (problem : Problem) (n : ℕ) (left : Option (List ℕ)) (limit end : ℕ) (after d : ModelDraftView)
-    → IsFedReading admit_model left limit (blank_model problem n) after (Ok end) → finish_model end after ≡ Ok d
+    → IsFedReading line_stated left limit (blank_model problem n) after (Ok end) → finish_model end after ≡ Ok d
     → IsFedAnswer (model_counted problem n) left limit (Ok (length d.coefs, length d.limits))
 unfolding model_counted
 model_told problem n left limit end after d read finished =
     let stated : model_in problem n read.text ≡ Ok d =
-    sym (model_all problem n read.text) ∙ ap (λ r. r >>= finish_model (end_of read.text)) read.reads.0
+    ap (λ r. r >>= finish_model (end_of read.text)) read.reads.0
     ∙ ap (λ e. finish_model e after) (sym read.reads.1) ∙ finished in
     record {
       text = read.text;
@@ -94,12 +88,12 @@ model_told problem n left limit end after d read finished =
     }
 
 pub model_lacking : (problem : Problem) (n : ℕ) (left : Option (List ℕ)) (limit end : ℕ) (after : ModelDraftView) (fault : LineFault)
-    → IsFedReading admit_model left limit (blank_model problem n) after (Ok end) → finish_model end after ≡ Err fault
+    → IsFedReading line_stated left limit (blank_model problem n) after (Ok end) → finish_model end after ≡ Err fault
     → IsFedAnswer (model_counted problem n) left limit (Err fault)
 unfolding model_counted
 model_lacking problem n left limit end after fault read finished =
     let stated : model_in problem n read.text ≡ Err fault =
-    sym (model_all problem n read.text) ∙ ap (λ r. r >>= finish_model (end_of read.text)) read.reads.0
+    ap (λ r. r >>= finish_model (end_of read.text)) read.reads.0
     ∙ ap (λ e. finish_model e after) (sym read.reads.1) ∙ finished in
     record {
       text = read.text;
@@ -108,12 +102,12 @@ model_lacking problem n left limit end after fault read finished =
     }
 
 pub model_faulty : (problem : Problem) (n : ℕ) (left : Option (List ℕ)) (limit : ℕ) (after : ModelDraftView) (fault : LineFault)
-    → IsFedReading admit_model left limit (blank_model problem n) after (Err fault)
+    → IsFedReading line_stated left limit (blank_model problem n) after (Err fault)
     → IsFedAnswer (model_counted problem n) left limit (Err fault)
 unfolding model_counted
 model_faulty problem n left limit after fault read =
     let stated : model_in problem n read.text ≡ Err fault =
-    sym (model_all problem n read.text) ∙ ap (λ r. r >>= finish_model (end_of read.text)) read.reads in
+    ap (λ r. r >>= finish_model (end_of read.text)) read.reads in
     record {
       text = read.text;
       is_text = read.is_text;

@@ -1,24 +1,24 @@
 -- The lines of a header, one for each key: what a line adds to those before it.
-use Rattle.std.specs.Prelude.{◌≡◌, ◌≢◌, ℕ, ◌⊎◌, true, false, not, List, [], ◌∷◌, ◌++◌, is_some, unwrap_or, All, AllPairs, pos}
-use Rattle.std.specs.List.{Contains}
-use Rattle.std.proofs.Common.{refl, sym, ◌∙◌, ap, subst, arith, inl, inr}
-use Rattle.std.proofs.lemmas.List.Elements.{All-nil, All-push, Contains-push, Contains-append_left}
+use Rattle.std.specs.Prelude.{AllPairs, List, is_some, not, pos, unwrap_or, ℕ, ◌≢◌, ◌⊎◌}
+use Rattle.std.proofs.Common.{All, [], ap, arith, false, inl, inr, refl, subst, sym, true, ◌++◌, ◌+◌, ◌∙◌, ◌∷◌, ◌≡◌}
+use Rattle.std.proofs.lemmas.List.Elements.{All-nil, All-push, Contains-append_left, Contains-push}
 use Rattle.std.proofs.lemmas.List.Quantifiers.{all_pairs_push}
-use Rattle.forms.specs.Words.{Millionths, Bytes, whole, Says}
-use Rattle.minelib_lines.specs.declared.problem.Problem.{Problem}
-use Rattle.minelib_reading.specs.HeaderNumbers.{count_in, is_given, is_complete, with_key}
-use Rattle.minelib_lines.specs.HeaderTable.{field_of, key_value}
-use Rattle.minelib_lines.specs.HeaderKeys.{has_key, type_text}
-use Rattle.minelib_reading.specs.ModelDraft.{blank_header, name_with}
-use Rattle.minelib_reading.specs.shapes.ModelStates.{header_stated}
-use Rattle.minelib_reading.specs.spelled.SpelledLines.{AreLines}
-use Rattle.minelib_reading.specs.spelled.SpelledModel.{AreHeaderLines, IsHeaderLine, IsSingle}
-use Rattle.minelib_reading.specs.declared.model.key.Header.{Header}
+use Rattle.std.specs.List.{Contains}
+use Rattle.pit_units.specs.SpelledNumbers.{SpellsBelow, SpellsNumber, SpellsWhole}
+use Rattle.pit_parts.specs.declared.ranges.TheConstants.{MAX_DESTINATIONS, MAX_PERIODS, MAX_RATE, MAX_RESOURCES}
+use Rattle.text_lines.specs.TextLines.{Line}
+use Rattle.minelib_lines.specs.HeaderKeys.{has_key}
 use Rattle.minelib_lines.specs.declared.header_key.HeaderKey.{HeaderKey}
 use Rattle.minelib_lines.specs.declared.header_key.HeaderKey.TheVariants as key
-use Rattle.text_lines.specs.TextLines.{Line}
+use Rattle.minelib_lines.specs.declared.problem.Problem.{Problem}
 use Rattle.minelib_reading.proofs.keys.HeaderFacts.{KeepsOwn, each_given, each_with, first_given, own_kept, own_single}
 use Rattle.minelib_reading.proofs.lines.ItemLines.{line_more, lines_weaker}
+use Rattle.minelib_reading.specs.HeaderNumbers.{count_in, is_complete, is_given, with_key}
+use Rattle.minelib_reading.specs.ModelDraft.{blank_header, name_with}
+use Rattle.minelib_reading.specs.StatedModel.{header_stated}
+use Rattle.minelib_reading.specs.declared.model.key.Header.{Header}
+use Rattle.minelib_reading.specs.spelled.SpelledLines.{AreLines}
+use Rattle.minelib_reading.specs.spelled.SpelledModel.{AreHeaderLines, IsHeaderLine, IsSingle, SpellsKey}
 
 -- the header's lines so far: one for each key that is given
 pub record Heads (problem : Problem) (n : ℕ) (name : List ℕ) (h : Header) (lines : List Line) : Type 0 where
@@ -38,14 +38,21 @@ name_kept : (k : HeaderKey) (value name : List ℕ) → k ≢ key.Name → name_
 name_kept key.Name value name differ = absurd (differ refl)
 name_kept k value name differ = refl
 
-value_kept : (problem : Problem) (n : ℕ) (k j : HeaderKey) (value name : List ℕ) (h : Header) (number : ℕ) → k ≢ j
-    → key_value (type_text problem) n (header_stated (name_with k value name) (with_key h k number)) j ≡ key_value (type_text problem) n (header_stated name h) j
-value_kept problem n k key.Name value name h number differ = ap Bytes (name_kept k value name differ)
-value_kept problem n k key.Periods value name h number differ = ap whole (count_kept h k key.Periods number differ)
-value_kept problem n k key.Destinations value name h number differ = ap whole (count_kept h k key.Destinations number differ)
-value_kept problem n k key.Resources value name h number differ = ap whole (count_kept h k key.Resources number differ)
-value_kept problem n k key.Rate value name h number differ = ap (λ m. Millionths (pos m)) (count_kept h k key.Rate number differ)
-value_kept problem n k j value name h number differ = refl
+-- and what its value spells
+spells_kept : (problem : Problem) (n : ℕ) (k j : HeaderKey) (value name : List ℕ) (h : Header) (number : ℕ) (text : List ℕ) → k ≢ j
+    → SpellsKey problem n (header_stated name h) j text → SpellsKey problem n (header_stated (name_with k value name) (with_key h k number)) j text
+spells_kept problem n k key.Name value name h number text differ s = (s.0 ∙ sym (name_kept k value name differ), s.1)
+spells_kept problem n k key.Type value name h number text differ s = s
+spells_kept problem n k key.Blocks value name h number text differ s = s
+spells_kept problem n k key.Periods value name h number text differ s =
+    subst (SpellsWhole 1 MAX_PERIODS text) (sym (count_kept h k key.Periods number differ)) s
+spells_kept problem n k key.Destinations value name h number text differ s =
+    subst (SpellsWhole 1 MAX_DESTINATIONS text) (sym (count_kept h k key.Destinations number differ)) s
+spells_kept problem n k key.Resources value name h number text differ s =
+    subst (SpellsBelow (MAX_RESOURCES + 1) text) (sym (count_kept h k key.Resources number differ)) s
+spells_kept problem n k key.General value name h number text differ s = s
+spells_kept problem n k key.Rate value name h number text differ s =
+    subst (λ m. SpellsNumber 6 (pos 0) MAX_RATE text (pos m)) (sym (count_kept h k key.Rate number differ)) s
 
 -- a key that is given is that of the line, or was given before it
 given_by : (h : Header) (k : HeaderKey) (n : ℕ) (j : HeaderKey) → is_given j (with_key h k n) ≡ true → (k ≡ j) ⊎ (is_given j h ≡ true)
@@ -99,7 +106,7 @@ heads_more problem n k value name h number lines line new here heads = record {
       value = l.value;
       is_key = l.is_key;
       of_problem = l.of_problem;
-      says = subst (Says (field_of problem j) l.value) (sym (value_kept problem n k j value name h number differ)) l.says;
+      says = spells_kept problem n k j value name h number l.value differ l.says;
     }
 
 -- the lines of a header that lacks no key

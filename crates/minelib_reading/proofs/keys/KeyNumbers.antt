@@ -1,42 +1,181 @@
--- A number that is read by a header key is below the limit of the key.
-use Rattle.std.specs.Prelude.{◌≡◌, ℕ, ◌/◌, ◌^◌, ◌<◌, ◌==◌, Bool, true, false, List, [], pos, negsuc, unsigned_abs, Result, Ok, Err, IfOk, if◌then◌else◌}
-use Rattle.std.proofs.Common.{refl, arith}
+-- What the value of a header key states, what it spells, and how the code takes it.
+use Rattle.std.specs.Prelude.{Bool, Err, IfOk, List, Ok, Result, if◌then◌else◌, negsuc, pos, unsigned_abs, ℕ, ℤ, ◌*◌, ◌-ℤ◌, ◌/◌, ◌==◌, ◌^◌, ◌≤ℤ◌}
+use Rattle.std.proofs.Common.{arith, false, refl, subst, sym, true, ◌+◌, ◌<◌, ◌≡◌}
+use Rattle.std.proofs.lemmas.Bool.{eq-eqb, eqb-true}
 use Rattle.std.proofs.lemmas.Int.{ints}
-use Rattle.forms.proofs.FormFacts.{parts, read_fits}
-use Rattle.forms.specs.Words.{Value, Millionths, Bytes, FitsField, millionths, read_field, ◌>>=◌}
-use Rattle.minelib_lines.specs.HeaderTable.{field_of}
+use Rattle.std.proofs.lemmas.Slice.Eq.{bytes_eq-Decides}
+use Rattle.std.specs.Str.{bytes_eq}
+use Rattle.pit_units.proofs.Exactly.{Exactly, as_, done, made, then_}
+use Rattle.pit_units.specs.SpelledNumbers.{SpellsBelow, SpellsNumber, SpellsWhole}
+use Rattle.pit_units.specs.Steps.{◌>>=◌}
+use Rattle.pit_parts.specs.Name.{is_name}
+use Rattle.pit_parts.specs.declared.ranges.TheConstants.{MAX_BLOCKS, MAX_DESTINATIONS, MAX_PERIODS, MAX_RATE, MAX_RESOURCES}
+use Rattle.text_lines.proofs.FieldFacts.{below, number, whole}
+use Rattle.text_lines.specs.StatedFields.{below_in, number_in}
+use Rattle.text_lines.specs.declared.text_fault.TextKind.{TextKind}
+use Rattle.text_lines.specs.declared.text_fault.TextKind.TheVariants.{Count, Name}
+use Rattle.minelib_lines.specs.HeaderKeys.{type_text}
+use Rattle.minelib_lines.specs.HeaderTable.{key_field}
+use Rattle.minelib_lines.specs.StatedHeader.{StatedHeader}
 use Rattle.minelib_lines.specs.declared.header_key.HeaderKey.{HeaderKey}
 use Rattle.minelib_lines.specs.declared.header_key.HeaderKey.TheVariants as key
 use Rattle.minelib_lines.specs.declared.problem.Problem.{Problem}
-use Rattle.minelib_reading.proofs.models.ModelShapes.{field_fine}
-use Rattle.minelib_reading.specs.inner.ModelParts.{number_in, number_limit, number_with}
-use Rattle.text_lines.specs.LineKinds.{text_kind}
-use Rattle.text_lines.specs.declared.text_fault.TextKind.{TextKind}
-use Rattle.text_lines.specs.declared.text_fault.TextKind.TheVariants.{Count}
+use Rattle.minelib_reading.proofs.keys.HeaderFacts.{count_there}
+use Rattle.minelib_reading.specs.HeaderNumbers.{with_key}
+use Rattle.minelib_reading.specs.ModelDraft.{name_with}
+use Rattle.minelib_reading.specs.ModelKeys.{number_stated}
+use Rattle.minelib_reading.specs.StatedModel.{header_stated}
+use Rattle.minelib_reading.specs.declared.model.key.Header.{Header}
+use Rattle.minelib_reading.specs.inner.ModelParts.{IsFineField, is_name_for, number_limit, number_with, stated_in}
+use Rattle.minelib_reading.specs.spelled.SpelledModel.{SpellsKey}
 
--- that of a value which fits
-fits_low : (problem : Problem) (n : ℕ) (k : HeaderKey) (value : Value) → FitsField (field_of problem k) value
-    → IfOk (number_with n k (unsigned_abs (millionths value))) (λ m. m < number_limit k)
-fits_low problem n key.Name (Bytes word) fits = omega arith
-fits_low problem n key.Name (Millionths m) fits = absurd fits
-fits_low problem n key.Type (Bytes word) fits = omega arith
-fits_low problem n key.Type (Millionths m) fits = absurd fits
-fits_low problem n key.Blocks value fits = by (unsigned_abs (millionths value) / 10 ^ 6 == n)
-  where
-    by : (t : Bool) → IfOk (if t then Ok 0 else Err Count) (λ m. m < 256)
-    by true = omega arith
-    by false = tt
-fits_low problem n k (Millionths (pos m)) fits = omega (arith, ints, fits.1)
-fits_low problem n k (Millionths (negsuc m)) fits = absurd (omega (arith, ints, fits.0))
-fits_low problem n k value fits = absurd fits
+-- the number that is kept of the value of a key: 0 where the value only has to be right
+abbrev Keeps : Problem → ℕ → HeaderKey → List ℕ → ℕ → Type 0
+Keeps problem n key.Name value number = (is_name value ≡ true) × (number ≡ 0)
+Keeps problem n key.Type value number = (value ≡ type_text problem) × (number ≡ 0)
+Keeps problem n key.Blocks value number = SpellsBelow (MAX_BLOCKS + 1) value n × (number ≡ 0)
+Keeps problem n key.Periods value number = SpellsWhole 1 MAX_PERIODS value number
+Keeps problem n key.Destinations value number = SpellsWhole 1 MAX_DESTINATIONS value number
+Keeps problem n key.Resources value number = SpellsBelow (MAX_RESOURCES + 1) value number
+Keeps problem n key.General value number = SpellsBelow 1 value number
+Keeps problem n key.Rate value number = SpellsNumber 6 (pos 0) MAX_RATE value (pos number)
 
-pub number_low : (problem : Problem) (n : ℕ) (k : HeaderKey) (text : List ℕ)
-    → IfOk (number_in problem n k text) (λ m. m < number_limit k)
-number_low problem n k text = by (read_field text_kind (field_of problem k) text) refl
+pub passes : {A : Type 0} {r : Result A TextKind} {P : A → Type 0} (fault : TextKind) (t : Bool) → Exactly r P
+    → Exactly (if t then r else Err fault) (λ y. (t ≡ true) × P y)
+passes {A} {r} {P} fault t all = record { told = λ y e. told t refl y e; back = λ y h. rw h.0 (all.back y h.1) }
   where
-    by : (r : Result Value TextKind) → read_field text_kind (field_of problem k) text ≡ r
-        → IfOk ((r >>= λ value. Ok (unsigned_abs (millionths value))) >>= number_with n k) (λ m. m < number_limit k)
-    by (Ok value) e =
-        fits_low problem n k value
-        (read_fits text_kind (field_of problem k) text value (parts (field_of problem k) [] (field_fine problem k)).0 e)
+    told : (b : Bool) → t ≡ b → (y : A) → (if b then r else Err fault) ≡ Ok y → (t ≡ true) × P y
+    told true is y e = (is, all.told y e)
+    told false is y e = absurd cc
+
+-- a number that is not negative is its size
+pub from_zero : (z : ℤ) → pos 0 ≤ℤ z → pos (unsigned_abs z) ≡ z
+from_zero (pos k) h = refl
+from_zero (negsuc k) h = absurd (omega (arith, ints))
+
+keeps : (p : Problem) (n : ℕ) (k : HeaderKey) (value : List ℕ) → Exactly (number_stated p n k value) (Keeps p n k value)
+unfolding number_stated
+keeps p n key.Name value = passes Name (is_name value) (done 0)
+keeps p n key.Type value =
+    let d = bytes_eq-Decides value (type_text p) in
+    as_ (passes Name (bytes_eq value (type_text p)) (done 0)) (λ y h. (d.0 h.0, h.1)) (λ y h. (d.1 h.0, h.1))
+keeps p n key.Blocks value =
+    as_ (then_ (below 64000001 value) (λ blocks. passes Count (blocks == n) (done 0)))
+    (λ y h. (subst (SpellsBelow 64000001 value) (eqb-true h.0 n h.2.0) h.1, h.2.1)) (λ y h. (n, h.0, (eq-eqb n n refl, h.1)))
+keeps p n key.Periods value = whole 1 MAX_PERIODS value
+keeps p n key.Destinations value = whole 1 MAX_DESTINATIONS value
+keeps p n key.Resources value = below 9 value
+keeps p n key.General value = below 1 value
+keeps p n key.Rate value =
+    made unsigned_abs (number 6 (pos 0) MAX_RATE value (omega arith)) (λ m h. subst (SpellsNumber 6 (pos 0) MAX_RATE value) (sym (from_zero m h.1)) h)
+    (λ k h. (pos k, h, refl))
+
+-- the value spells what the header then states
+pub number_told : (p : Problem) (n : ℕ) (k : HeaderKey) (value name : List ℕ) (h : Header) (number : ℕ) → number_stated p n k value ≡ Ok number
+    → SpellsKey p n (header_stated (name_with k value name) (with_key h k number)) k value
+number_told p n k value name h number e = by k ((keeps p n k value).told number e)
+  where
+    by : (k : HeaderKey) → Keeps p n k value number → SpellsKey p n (header_stated (name_with k value name) (with_key h k number)) k value
+    by key.Name s = (refl, s.0)
+    by key.Type s = s.0
+    by key.Blocks s = s.0
+    by key.Periods s = subst (SpellsWhole 1 MAX_PERIODS value) (sym (count_there h number key.Periods)) s
+    by key.Destinations s = subst (SpellsWhole 1 MAX_DESTINATIONS value) (sym (count_there h number key.Destinations)) s
+    by key.Resources s = subst (SpellsBelow (MAX_RESOURCES + 1) value) (sym (count_there h number key.Resources)) s
+    by key.General s = subst (SpellsBelow 1 value) (omega (arith, s.1)) s
+    by key.Rate s = subst (λ m. SpellsNumber 6 (pos 0) MAX_RATE value (pos m)) (sym (count_there h number key.Rate)) s
+
+-- the number that a header keeps of what it states by a key
+abbrev pub told : StatedHeader → HeaderKey → ℕ
+told m key.Periods = m.periods
+told m key.Destinations = m.destinations
+told m key.Resources = m.resources
+told m key.Rate = unsigned_abs m.rate
+told m k = 0
+
+pub number_back : (p : Problem) (n : ℕ) (m : StatedHeader) (k : HeaderKey) (value : List ℕ) → SpellsKey p n m k value
+    → number_stated p n k value ≡ Ok (told m k)
+number_back p n m k value s = (keeps p n k value).back (told m k) (by k s)
+  where
+    by : (k : HeaderKey) → SpellsKey p n m k value → Keeps p n k value (told m k)
+    by key.Name s = (s.1, refl)
+    by key.Type s = (s, refl)
+    by key.Blocks s = (s, refl)
+    by key.Periods s = s
+    by key.Destinations s = s
+    by key.Resources s = s
+    by key.General s = s
+    by key.Rate s = subst (SpellsNumber 6 (pos 0) MAX_RATE value) (sym (from_zero m.rate s.1)) s
+
+-- a number that is read is below the limit of its key
+pub number_low : (p : Problem) (n : ℕ) (k : HeaderKey) (value : List ℕ) → IfOk (number_stated p n k value) (λ m. m < number_limit k)
+number_low p n k value = by (number_stated p n k value) refl
+  where
+    low : (k : HeaderKey) (m : ℕ) → Keeps p n k value m → m < number_limit k
+    low key.Name m s = omega (arith, s.1)
+    low key.Type m s = omega (arith, s.1)
+    low key.Blocks m s = omega (arith, s.1)
+    low key.Periods m s = omega (arith, s.2)
+    low key.Destinations m s = omega (arith, s.2)
+    low key.Resources m s = omega (arith, s.1)
+    low key.General m s = omega (arith, s.1)
+    low key.Rate m s = omega (arith, ints, s.2)
+
+    by : (r : Result ℕ TextKind) → number_stated p n k value ≡ r → IfOk r (λ m. m < number_limit k)
+    by (Ok m) e = low k m ((keeps p n k value).told m e)
     by (Err kind) e = tt
+
+-- and its NAME is one
+pub name_read : (p : Problem) (n : ℕ) (k : HeaderKey) (value : List ℕ) → IfOk (number_stated p n k value) (λ _. is_name_for k value ≡ true)
+name_read p n k value = by (number_stated p n k value) refl
+  where
+    named : (k : HeaderKey) (m : ℕ) → Keeps p n k value m → is_name_for k value ≡ true
+    named key.Name m s = s.0
+    named k m s = refl
+
+    by : (r : Result ℕ TextKind) → number_stated p n k value ≡ r → IfOk r (λ _. is_name_for k value ≡ true)
+    by (Ok m) e = named k m ((keeps p n k value).told m e)
+    by (Err kind) e = tt
+
+-- as the code takes it, by the field of the key
+pub fine_field : (k : HeaderKey) → IsFineField (key_field k)
+fine_field key.Name = tt
+fine_field key.Type = tt
+fine_field k = omega arith
+
+whole_kept : (k : HeaderKey) (n : ℕ) (r : Result ℤ TextKind) → ((m : ℕ) → number_with n k m ≡ Ok (m / 10 ^ 6))
+    → (r >>= λ m. Ok (unsigned_abs m / 10 ^ 6)) ≡ ((r >>= λ m. Ok (unsigned_abs m)) >>= number_with n k)
+whole_kept k n (Ok m) is = sym (is (unsigned_abs m))
+whole_kept k n (Err kind) is = refl
+
+pub number_taken : (p : Problem) (n : ℕ) (k : HeaderKey) (value : List ℕ)
+    → number_stated p n k value ≡ (stated_in p (key_field k) value >>= number_with n k)
+unfolding number_stated below_in
+number_taken p n key.Name value = by (is_name value)
+  where
+    by : (t : Bool) → (if t then Ok 0 else Err Name) ≡ ((if t then Ok 0 else Err Name) >>= number_with n key.Name)
+    by true = refl
+    by false = refl
+number_taken p n key.Type value = by (bytes_eq value (type_text p))
+  where
+    by : (t : Bool) → (if t then Ok 0 else Err Name) ≡ ((if t then Ok 0 else Err Name) >>= number_with n key.Type)
+    by true = refl
+    by false = refl
+number_taken p n key.Blocks value = by (number_in 0 (pos 0) (pos ((MAX_BLOCKS + 1) * 10 ^ 6) -ℤ pos 1) value)
+  where
+    by : (r : Result ℤ TextKind)
+        → ((r >>= λ m. Ok (unsigned_abs m / 10 ^ 6)) >>= λ blocks. if blocks == n then Ok 0 else Err Count)
+        ≡ ((r >>= λ m. Ok (unsigned_abs m)) >>= number_with n key.Blocks)
+    by (Ok m) = refl
+    by (Err kind) = refl
+number_taken p n key.Rate value = by (number_in 6 (pos 0) MAX_RATE value)
+  where
+    by : (r : Result ℤ TextKind) → (r >>= λ m. Ok (unsigned_abs m)) ≡ ((r >>= λ m. Ok (unsigned_abs m)) >>= number_with n key.Rate)
+    by (Ok m) = refl
+    by (Err kind) = refl
+number_taken p n key.Periods value = whole_kept key.Periods n (number_in 0 (pos (1 * 10 ^ 6)) (pos (MAX_PERIODS * 10 ^ 6)) value) (λ m. refl)
+number_taken p n key.Destinations value =
+    whole_kept key.Destinations n (number_in 0 (pos (1 * 10 ^ 6)) (pos (MAX_DESTINATIONS * 10 ^ 6)) value) (λ m. refl)
+number_taken p n key.Resources value =
+    whole_kept key.Resources n (number_in 0 (pos 0) (pos ((MAX_RESOURCES + 1) * 10 ^ 6) -ℤ pos 1) value) (λ m. refl)
+number_taken p n key.General value = whole_kept key.General n (number_in 0 (pos 0) (pos (1 * 10 ^ 6) -ℤ pos 1) value) (λ m. refl)

@@ -1,12 +1,14 @@
 -- Lines that spell the items of a list, and those of a file of one line an item.
-use Rattle.std.specs.Prelude.{◌≡◌, ℕ, zero, suc, ◌+◌, ◌<◌, List, [], ◌∷◌, ◌++◌, length, slice_index_or, All}
-use Rattle.std.proofs.Common.{subst, arith, refl, sym, ◌∙◌, ap, append_assoc, append-nil, length-append}
+use Rattle.std.specs.Prelude.{List, Ok, Result, slice_index_or, ℕ}
+use Rattle.std.proofs.Common.{All, [], ap, append-nil, append_assoc, arith, length, length-append, refl, subst, suc, sym, zero, ◌++◌, ◌+◌, ◌<◌, ◌∙◌, ◌∷◌, ◌≡◌}
 use Rattle.std.proofs.lemmas.List.Elements.{All-head, All-tail}
+use Rattle.pit_units.proofs.Exactly.{Exactly, as_, done, then_}
+use Rattle.pit_units.specs.Steps.{◌>>=◌}
+use Rattle.text_lines.proofs.LinesRead.{at, line_then}
+use Rattle.text_lines.specs.Reading.{read_lines}
 use Rattle.text_lines.specs.TextLines.{Line}
-use Rattle.minelib_reading.specs.spelled.SpelledLines.{AreLines}
-use Rattle.forms.specs.Words.{AllState, Grammar, Shape, States}
-use Rattle.text_lines.specs.ItemGrammar.{items_grammar}
 use Rattle.text_lines.specs.declared.text_fault.TextKind.{TextKind}
+use Rattle.minelib_reading.specs.spelled.SpelledLines.{AreLines}
 
 -- one line and one item more
 pub line_more : {A : Type 0} (Spells : ℕ → List ℕ → A → Type 0) (n : ℕ) (lines : List Line) (items : List A) (line : Line) (item : A)
@@ -42,58 +44,60 @@ lines_weaker Spells Shows P less n (line ∷ lines) (item ∷ items) all are = (
 )
 lines_weaker Spells Shows P less n lines items all are = absurd are
 
-module _ {A : Type 0} (shape : ℕ → List ℕ → Shape TextKind A) (Spells : ℕ → List ℕ → A → Type 0) where
-  -- the items that lines state behind others
-  record Behind (items : List A) (lines : List Line) (all : List A) : Type 0 where
-    pub rest : List A
-    pub joined : all ≡ items ++ rest
-    pub spelled : AreLines Spells (length items) lines rest
+-- files of one line an item: what its lines spell, each by the number of items before it, is read
+module _ {A : Type 0} (item : ℕ → List ℕ → Result A TextKind) (Spells : ℕ → List ℕ → A → Type 0)
+    (exact : (n : ℕ) (line : List ℕ) → Exactly (item n line) (Spells n line)) where
+  abbrev with_item : List A → List ℕ → Result (List A) TextKind
+  with_item items line = item (length items) line >>= λ x. Ok (items ++ x ∷ [])
 
-  -- where each line that states an item spells it
-  behind : ((n : ℕ) (line : List ℕ) (x : A) → States (shape n line) x → Spells n line x)
-      → (number : ℕ) (items : List A) (lines : List Line) (all : List A) → AllState (items_grammar shape) number items lines all
-      → Behind items lines all
-  behind spells number items [] all is = record { rest = []; joined = is ∙ sym (append-nil items); spelled = tt }
-  behind spells number items (line ∷ lines) all (next, states, more) =
-      let own = shape (length items) line.text in
-      let x = own.next states.values in
-      let here : States own x =
-      record { first = states.first; values = states.values; spelled = states.spelled; last = states.last; is = refl } in
-      let later = behind spells (suc number) next lines all more in
-      let count : length next ≡ length items + 1 = omega (arith, ap length states.is, length-append items (x ∷ [])) in
-      record {
-        rest = x ∷ later.rest;
-        joined = later.joined ∙ ap (λ front. front ++ later.rest) states.is ∙ append_assoc items (x ∷ []) later.rest;
-        spelled = (spells (length items) line.text x here, subst (λ n. AreLines Spells n lines later.rest) count later.spelled);
-      }
+  abbrev Behind : List A → List Line → List A → Type 0
+  Behind items lines all = (rest : List A) × AreLines Spells (length items) lines rest × (all ≡ items ++ rest)
 
-  pub items_spelled : ((n : ℕ) (line : List ℕ) (x : A) → States (shape n line) x → Spells n line x)
-      → (number : ℕ) (lines : List Line) (all : List A) → AllState (items_grammar shape) number [] lines all → AreLines Spells 0 lines all
-  items_spelled spells number lines all states =
-      let b = behind spells number [] lines all states in
-      subst (AreLines Spells 0 lines) (sym b.joined) b.spelled
+  behind : (items : List A) (lines : List Line) → Exactly (read_lines with_item items lines) (Behind items lines)
+  behind items [] = as_ (done items) (λ all is. ([], tt, is ∙ sym (append-nil items))) none
+    where
+      none : (all : List A) → Behind items [] all → all ≡ items
+      none all ([], are, is) = is ∙ append-nil items
+      none all (x ∷ rest, are, is) = absurd are
+  behind items (line ∷ lines) =
+      as_ (then_ (at line.number (then_ (exact (length items) line.text) (λ x. done (items ++ x ∷ [])))) (λ next. behind next lines)) to from
+    where
+      Steps : List A → Type 0
+      Steps all =
+          (next : List A) × ((x : A) × Spells (length items) line.text x × (next ≡ items ++ x ∷ [])) × Behind next lines all
+
+      count : (x : A) → length (items ++ x ∷ []) ≡ length items + 1
+      count x = omega (arith, length-append items (x ∷ []))
+
+      to : (all : List A) → Steps all → Behind items (line ∷ lines) all
+      to all (next, (x, spells, is), (rest, are, joined)) = (
+        x ∷ rest,
+        (spells, subst (λ n. AreLines Spells n lines rest) (ap length is ∙ count x) are),
+        joined ∙ ap (λ front. front ++ rest) is ∙ append_assoc items (x ∷ []) rest,
+      )
+
+      from : (all : List A) → Behind items (line ∷ lines) all → Steps all
+      from all ([], are, is) = absurd are
+      from all (x ∷ rest, are, is) = (
+        items ++ x ∷ [],
+        (x, are.0, refl),
+        (rest, subst (λ n. AreLines Spells n lines rest) (sym (count x)) are.1, is ∙ sym (append_assoc items (x ∷ []) rest)),
+      )
+
+  pub items_exact : (lines : List Line) → Exactly (read_lines with_item [] lines) (AreLines Spells 0 lines)
+  items_exact lines =
+      as_ (behind [] lines) (λ all h. subst (AreLines Spells 0 lines) (sym h.2) h.1) (λ all are. (all, are, refl))
 
 -- lines that spell items, each of which is stated behind those before it
-pub items_state : {A S K F : Type 0} (grammar : Grammar Line S K F) (Spells : ℕ → List ℕ → A → Type 0) (state : List A → S) (all : List A)
-    → ((number : ℕ) (done : List A) (x : A) (rest : List A) (line : Line) → all ≡ done ++ x ∷ rest → Spells (length done) line.text x
-    → States (grammar.shape number (state done) line) (state (done ++ x ∷ [])))
+pub items_state : {A S : Type 0} (admit : S → List ℕ → Result S TextKind) (Spells : ℕ → List ℕ → A → Type 0) (state : List A → S) (all : List A)
+    → ((done : List A) (x : A) (rest : List A) (line : List ℕ) → all ≡ done ++ x ∷ rest → Spells (length done) line x
+    → admit (state done) line ≡ Ok (state (done ++ x ∷ [])))
     → (i : ℕ) (done rest : List A) (lines : List Line) → i ≡ length done → all ≡ done ++ rest → AreLines Spells i lines rest
-    → (number : ℕ) → AllState grammar number (state done) lines (state all)
-items_state grammar Spells state all each i done [] [] count cut are number = ap state (cut ∙ append-nil done)
-items_state grammar Spells state all each i done (x ∷ rest) (line ∷ lines) count cut are number = (
-  state (done ++ x ∷ []),
-  each number done x rest line cut (subst (λ k. Spells k line.text x) count are.0),
-  items_state grammar Spells state all each (i + 1) (done ++ x ∷ []) rest lines (omega (arith, length-append done (x ∷ []), count))
-      (cut ∙ sym (append_assoc done (x ∷ []) rest)) are.1 (suc number),
-)
-items_state grammar Spells state all each i done rest lines count cut are number = absurd are
-
--- so it is in files of one line an item
-pub spelled_items : {A : Type 0} (shape : ℕ → List ℕ → Shape TextKind A) (Spells : ℕ → List ℕ → A → Type 0)
-    → ((n : ℕ) (line : List ℕ) (x : A) → Spells n line x → States (shape n line) x)
-    → (lines : List Line) (all : List A) → AreLines Spells 0 lines all → AllState (items_grammar shape) 1 [] lines all
-spelled_items shape Spells states lines all are =
-    items_state (items_grammar shape) Spells (λ items. items) all (λ number done x rest line cut spelled.
-    let s = states (length done) line.text x spelled in
-    record { first = s.first; values = s.values; spelled = s.spelled; last = s.last; is = ap (λ x. done ++ x ∷ []) s.is })
-    0 [] all lines refl refl are 1
+    → read_lines admit (state done) lines ≡ Ok (state all)
+items_state admit Spells state all each i done [] [] count cut are = ap (λ xs. Ok (state xs)) (sym (cut ∙ append-nil done))
+items_state admit Spells state all each i done (x ∷ rest) (line ∷ lines) count cut are =
+    line_then admit (state done) (state (done ++ x ∷ [])) (state all) line lines
+    (each done x rest line.text cut (subst (λ k. Spells k line.text x) count are.0))
+    (items_state admit Spells state all each (i + 1) (done ++ x ∷ []) rest lines (omega (arith, length-append done (x ∷ []), count))
+    (cut ∙ sym (append_assoc done (x ∷ []) rest)) are.1)
+items_state admit Spells state all each i done rest lines count cut are = absurd are

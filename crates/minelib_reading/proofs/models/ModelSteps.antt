@@ -1,38 +1,28 @@
 -- What a line of a model file that states something spells, and what it makes of what stood before.
-use Rattle.std.specs.Prelude.{◌≡◌, ℕ, ◌==◌, ◌&&◌, not, true, false, List, [], ◌∷◌, ◌++◌, length, ℤ, None, pos, negsuc}
-use Rattle.std.proofs.Common.{refl, sym, ◌∙◌, ap, subst, arith, eq-eqb}
-use Rattle.std.proofs.lemmas.Bool.{and_parts, eqb-true, not-true}
-use Rattle.std.proofs.lemmas.Int.{ints}
-use Rattle.std.proofs.lemmas.Slice.Eq.{bytes_eq-Decides}
-use Rattle.forms.proofs.FormFacts.{spelled_fit}
-use Rattle.forms.proofs.NumberFields.{quotient}
-use Rattle.forms.specs.Words.{Value, Millionths, Bytes, whole, whole_at, whole_stated, word_of, FitsField, check, failing, States, Says, Spell}
-use Rattle.pit_parts.specs.declared.limit.Limit.{Limit}
+use Rattle.std.specs.Prelude.{Bool, Err, List, Ok, Result, if◌then◌else◌, not, ℕ, ℤ, ◌||◌}
+use Rattle.std.proofs.Common.{[], arith, false, length, refl, subst, sym, true, ◌++◌, ◌∷◌, ◌≡◌}
+use Rattle.std.proofs.lemmas.List.{nil_from_length}
+use Rattle.pit_units.proofs.Exactly.{Exactly, counted, done, tested, then_}
 use Rattle.pit_parts.specs.PlanKept.{is_turned, stands_before}
+use Rattle.pit_parts.specs.declared.limit.Limit.{Limit}
 use Rattle.mine_instance.specs.Order.{coef_before}
 use Rattle.mine_instance.specs.declared.coefs.coef.Coef.{Coef}
-use Rattle.text_lines.specs.declared.text_fault.TextKind.TheVariants.{Order, Count, Twice, Key, Missing}
-use Rattle.minelib_lines.specs.HeaderTable.{field_of, key_value}
-use Rattle.minelib_lines.specs.HeaderKeys.{type_text}
-use Rattle.minelib_lines.specs.LineValues.{coef_values, limit_values, values_values}
-use Rattle.minelib_lines.specs.declared.problem.Problem.{Problem}
-use Rattle.minelib_reading.specs.HeaderNumbers.{count_in, is_given, with_key}
-use Rattle.minelib_reading.specs.shapes.ModelLines.{number_said, coef_line, first_of, header_line, is_counted, limit_line, section_line, stray_line, values_line}
-use Rattle.minelib_reading.specs.shapes.ItemForms.{coef_form, coef_said, limit_form, limit_said, row_said, values_form}
-use Rattle.minelib_reading.specs.ModelDraft.{ModelDraftView, is_behind, is_heading, is_next, is_ready, last_of, name_with}
-use Rattle.minelib_reading.specs.shapes.ModelStates.{header_stated}
-use Rattle.minelib_reading.specs.spelled.SpelledModel.{SpellCoef, SpellLimit, SpellValues}
-use Rattle.minelib_reading.specs.declared.model.key.Header.{Header}
+use Rattle.text_lines.specs.StatedFields.{field_at}
+use Rattle.text_lines.specs.declared.text_fault.TextKind.{TextKind}
+use Rattle.text_lines.specs.declared.text_fault.TextKind.TheVariants.{Fields, Key, Missing, Order, Twice}
 use Rattle.minelib_lines.specs.declared.header_key.HeaderKey.{HeaderKey}
 use Rattle.minelib_lines.specs.declared.header_key.HeaderKey.TheVariants as key
+use Rattle.minelib_reading.proofs.keys.KeyNumbers.{number_told, passes}
+use Rattle.minelib_reading.proofs.lines.LineFacts.{coef_exact, limit_exact, values_exact}
+use Rattle.minelib_reading.specs.HeaderNumbers.{count_in, is_given, with_key}
+use Rattle.minelib_reading.specs.ModelDraft.{ModelDraftView, is_behind, is_heading, is_next, is_ready, last_of, name_with}
+use Rattle.minelib_reading.specs.ModelKeys.{number_stated}
+use Rattle.minelib_reading.specs.ModelText.{item_stated, key_stated, section_stated}
+use Rattle.minelib_reading.specs.StatedModel.{header_stated}
 use Rattle.minelib_reading.specs.declared.model.key.Section.{Section}
-use Rattle.minelib_reading.proofs.lines.CoefLineFacts.{coef_are, coef_fine, said_again as coef_said_again, said_destination}
-use Rattle.minelib_reading.proofs.lines.FormFields.{whole_itself}
-use Rattle.minelib_reading.proofs.keys.HeaderFacts.{count_there}
-use Rattle.minelib_reading.proofs.lines.LimitLineFacts.{limit_are, limit_fine, said_again as limit_said_again}
-use Rattle.minelib_reading.proofs.models.ModelShapes.{field_fine}
-use Rattle.minelib_reading.proofs.lines.ShapeSteps.{met, passed}
-use Rattle.minelib_reading.proofs.lines.ValuesLineFacts.{many_again, many_fine, values_are}
+use Rattle.minelib_reading.specs.declared.model.key.Section.TheVariants.{Coefs, Limits, Objective}
+use Rattle.minelib_reading.specs.spelled.SpelledItems.{SpellsCoef, SpellsLimit, SpellsValues}
+use Rattle.minelib_reading.specs.spelled.SpelledModel.{SpellsKey}
 
 -- a header key with these fields behind its colon
 pub record SetsKey (d : ModelDraftView) (k : HeaderKey) (fields : List (List ℕ)) (next : ModelDraftView) : Type 0 where
@@ -41,7 +31,7 @@ pub record SetsKey (d : ModelDraftView) (k : HeaderKey) (fields : List (List ℕ
   pub value : List ℕ
   pub one : fields ≡ value ∷ []
   pub number : ℕ
-  pub says : Says (field_of d.problem k) value (key_value (type_text d.problem) d.blocks (header_stated next.name next.header) k)
+  pub says : SpellsKey d.problem d.blocks (header_stated next.name next.header) k value
   pub is : next ≡ record d { header = with_key d.header k number; name = name_with k value d.name }
 
 -- a section's key with these fields behind its colon
@@ -51,198 +41,126 @@ pub record BeginsSection (d : ModelDraftView) (section : Section) (fields : List
   pub ready : is_ready d d.section ≡ true
   pub is : next ≡ record d { section = section }
 
--- what a value that fits states is what the header then states by its key
-said : (problem : Problem) (n : ℕ) (k : HeaderKey) (text : List ℕ) (value : Value) (name : List ℕ) (h : Header)
-    → Says (field_of problem k) text value → FitsField (field_of problem k) value → (k ≡ key.Blocks → (whole_stated value == n) ≡ true)
-    → value ≡ key_value (type_text problem) n (header_stated (name_with k text name) (with_key h k (number_said k value))) k
-said problem n key.Name text (Bytes word) name h says fits counted = ap Bytes (sym says.0)
-said problem n key.Name text (Millionths m) name h says fits counted = absurd fits
-said problem n key.Type text (Bytes word) name h says fits counted = ap Bytes ((bytes_eq-Decides word (type_text problem)).0 fits)
-said problem n key.Type text (Millionths m) name h says fits counted = absurd fits
-said problem n key.Blocks text value name h says fits counted =
-    whole_itself 0 _ value fits ∙ ap whole (eqb-true (whole_stated value) n (counted refl))
-said problem n key.Periods text value name h says fits counted =
-    whole_itself _ _ value fits ∙ ap whole (sym (count_there h (whole_stated value) key.Periods))
-said problem n key.Destinations text value name h says fits counted =
-    whole_itself _ _ value fits ∙ ap whole (sym (count_there h (whole_stated value) key.Destinations))
-said problem n key.Resources text value name h says fits counted =
-    whole_itself 0 _ value fits ∙ ap whole (sym (count_there h (whole_stated value) key.Resources))
-said problem n key.Rate text (Millionths (pos m)) name h says fits counted =
-    ap (λ m. Millionths (pos m)) (sym (count_there h m key.Rate))
-said problem n key.Rate text (Millionths (negsuc m)) name h says fits counted = absurd (omega (arith, ints, fits.0))
-said problem n key.Rate text (Bytes word) name h says fits counted = absurd fits
-said problem n k text (Millionths (pos m)) name h says fits counted =
-    ap (λ m. Millionths (pos m)) (omega (arith, ints, fits.0, fits.1, fits.3))
-said problem n k text (Millionths (negsuc m)) name h says fits counted = absurd (omega (arith, ints, fits.0))
-said problem n k text (Bytes word) name h says fits counted = absurd fits
-
--- the NAME that a value states is its text
-name_said : (problem : Problem) (k : HeaderKey) (text : List ℕ) (value : Value) (name : List ℕ) → Says (field_of problem k) text value
-    → name_with k (word_of value) name ≡ name_with k text name
-name_said problem key.Name text (Bytes word) name says = sym says.0
-name_said problem key.Name text (Millionths m) name says = absurd says
-name_said problem k text value name says = refl
-
-counted_in : (n : ℕ) (value : Value) (k : HeaderKey) → failing (is_counted k n value) ≡ None → k ≡ key.Blocks
-    → (whole_stated value == n) ≡ true
-counted_in n value key.Blocks none is = (passed Count (whole_stated value == n) [] none).0
-counted_in n value k none is = absurd cc
-
-pub key_step : (d next : ModelDraftView) (k : HeaderKey) (fields : List (List ℕ)) → States (header_line d k fields) next
-    → SetsKey d k fields next
-unfolding header_line
-key_step d next k fields s = by fields s.values s.spelled s.last s.is
+-- a test that has to hold
+holds : {A : Type 0} {r : Result A TextKind} {P : A → Type 0} (fault : TextKind) (t : Bool) → Exactly r P
+    → Exactly (if not t then Err fault else r) (λ y. (t ≡ true) × P y)
+holds fault t all = tested fault (told t) (λ e. rw e refl) all
   where
-    tests : (is_heading d.section ≡ true) × (is_given k d.header ≡ false)
-    tests =
-        let heading = passed Key (is_heading d.section) (check Twice (not (is_given k d.header))) s.first in
-        (heading.0, not-true (is_given k d.header) (passed Twice (not (is_given k d.header)) [] heading.1).0)
+    told : (t : Bool) → not t ≡ false → t ≡ true
+    told true e = refl
+    told false e = absurd cc
 
-    by : (fields : List (List ℕ)) (values : List Value) → Spell (field_of d.problem k ∷ []) fields values
-        → failing (is_counted k d.blocks (first_of values)) ≡ None
-        → next ≡ record d {
-          header = with_key d.header k (number_said k (first_of values));
-          name = name_with k (word_of (first_of values)) d.name;
-        }
-        → SetsKey d k fields next
-    by (text ∷ []) (value ∷ []) spelled none is =
-        let fit = spelled_fit (field_of d.problem k ∷ []) (text ∷ []) (value ∷ []) (field_fine d.problem k) spelled in
-        let number = number_said k value in
-        let after : ModelDraftView = record d { header = with_key d.header k number; name = name_with k text d.name } in
-        let same : next ≡ after = is ∙ ap (λ name. record d { header = with_key d.header k number; name = name })
-        (name_said d.problem k text value d.name spelled.0) in
-        let stated = said d.problem d.blocks k text value d.name d.header spelled.0 fit.0 (counted_in d.blocks value k none) in
-        record {
-          heading = tests.0;
-          new = tests.1;
-          value = text;
-          one = refl;
-          number = number;
-          says = subst (λ e. Says (field_of d.problem k) text (key_value (type_text d.problem) d.blocks (header_stated e.name e.header) k)) (sym same)
-              (subst (Says (field_of d.problem k) text) stated spelled.0);
-          is = same;
-        }
-    by (text ∷ []) (value ∷ other ∷ more) spelled none is = absurd spelled.1
-    by (text ∷ other ∷ more) (value ∷ values) spelled none is = absurd spelled.1
-    by fields values spelled none is = absurd spelled
+itself : {A : Type 0} (r : Result A TextKind) → Exactly r (λ y. r ≡ Ok y)
+itself r = record { told = λ y e. e; back = λ y e. e }
+
+module _ (d : ModelDraftView) (k : HeaderKey) (fields : List (List ℕ)) where
+  abbrev with_value : ℕ → ModelDraftView
+  with_value number = record d { header = with_key d.header k number; name = name_with k (field_at fields 0) d.name }
+
+  abbrev Sets : ModelDraftView → Type 0
+  Sets next =
+      (is_heading d.section ≡ true)
+      × ((is_given k d.header ≡ false)
+      × ((length fields ≡ 1)
+      × ((number : ℕ) × (number_stated d.problem d.blocks k (field_at fields 0) ≡ Ok number) × (next ≡ with_value number))))
+
+  pub key_exact : Exactly (key_stated d k fields) Sets
+  unfolding key_stated
+  key_exact =
+      holds Key (is_heading d.section) (tested Twice (λ e. e) (λ e. e) (counted Fields (length fields) 1 (
+      then_ (itself (number_stated d.problem d.blocks k (field_at fields 0))) (λ number. done (with_value number)))))
+
+pub key_step : (d next : ModelDraftView) (k : HeaderKey) (fields : List (List ℕ)) → key_stated d k fields ≡ Ok next → SetsKey d k fields next
+key_step d next k fields e = by fields ((key_exact d k fields).told next e)
+  where
+    by : (fields : List (List ℕ)) → Sets d k fields next → SetsKey d k fields next
+    by (value ∷ []) (heading, (new, (one, (number, stated, is)))) = record {
+      heading = heading;
+      new = new;
+      value = value;
+      one = refl;
+      number = number;
+      says = subst (λ (e : ModelDraftView). SpellsKey d.problem d.blocks (header_stated e.name e.header) k value) (sym is)
+          (number_told d.problem d.blocks k value d.name d.header number stated);
+      is = is;
+    }
+    by [] (heading, (new, (one, h))) = absurd (omega (arith, one))
+    by (value ∷ other ∷ more) (heading, (new, (one, h))) = absurd (omega (arith, one))
 
 -- the value spells what is then stated by its key
-pub key_spelled : (d next : ModelDraftView) (k : HeaderKey) (fields : List (List ℕ)) → States (header_line d k fields) next
-    → Spell (field_of d.problem k ∷ []) fields (key_value (type_text d.problem) d.blocks (header_stated next.name next.header) k ∷ [])
-key_spelled d next k fields states =
-    let s = key_step d next k fields states in
-    subst (λ fields. Spell (field_of d.problem k ∷ []) fields (key_value (type_text d.problem) d.blocks (header_stated next.name next.header) k ∷ []))
-    (sym s.one) (s.says, tt)
+pub key_spelled : (d next : ModelDraftView) (k : HeaderKey) (fields : List (List ℕ)) → key_stated d k fields ≡ Ok next
+    → (value : List ℕ) × (fields ≡ value ∷ []) × SpellsKey d.problem d.blocks (header_stated next.name next.header) k value
+key_spelled d next k fields e = let s = key_step d next k fields e in (s.value, s.one, s.says)
 
-pub section_step : (d next : ModelDraftView) (section : Section) (fields : List (List ℕ)) → States (section_line d section fields) next
+pub section_step : (d next : ModelDraftView) (section : Section) (fields : List (List ℕ)) → section_stated d section fields ≡ Ok next
     → BeginsSection d section fields next
-unfolding section_line
-section_step d next section fields s = record {
-  follows = (passed Key (is_next d.section section) [] s.first).0;
-  none = empty fields s.values s.spelled;
-  ready = (passed Missing (is_ready d d.section) [] s.last).0;
-  is = s.is;
-}
-  where
-    empty : (fields : List (List ℕ)) (values : List Value) → Spell [] fields values → fields ≡ []
-    empty [] values spelled = refl
-    empty (field ∷ fields) values spelled = absurd spelled
+unfolding section_stated
+section_step d next section fields e =
+    let s = (holds Key (is_next d.section section) (counted Fields (length fields) 0 (
+    holds Missing (is_ready d d.section) (done (record d { section = section }))))).told next e in
+    record { follows = s.0; none = nil_from_length fields s.1.0; ready = s.1.1.0; is = s.1.1.1 }
 
 -- a line adds the values of a block, a coefficient or a limit just where its fields spell it, and where it comes behind the last one
-pub values_step : (d next : ModelDraftView) (fields : List (List ℕ)) → States (values_line d fields) next
-    → (vs : List ℤ) × (next ≡ record d { values = d.values ++ vs ∷ [] })
-    × SpellValues d.blocks (header_stated d.name d.header) (length d.values) fields vs
-unfolding values_line
-values_step d next fields s =
-    let destinations = count_in d.header key.Destinations in
-    let form = values_form d.blocks destinations in
-    let fit = spelled_fit form fields s.values (many_fine destinations) s.spelled in
-    let place = eqb-true (whole_at s.values 0) (length d.values) (passed Order (whole_at s.values 0 == length d.values) [] s.last).0 in
-    (row_said s.values, s.is, subst (Spell form fields) (values_are d.blocks destinations (length d.values) s.values fit place) s.spelled)
+module _ (d : ModelDraftView) (fields : List (List ℕ)) where
+  values_added : Exactly (item_stated d Objective fields)
+      (λ next. (vs : List ℤ) × SpellsValues d.blocks (count_in d.header key.Destinations) (length d.values) fields vs
+      × (next ≡ record d { values = d.values ++ vs ∷ [] }))
+  values_added =
+      then_ (values_exact d.blocks (count_in d.header key.Destinations) (length d.values) fields) (λ vs. done (record d { values = d.values ++ vs ∷ [] }))
 
-pub values_back : (d next : ModelDraftView) (fields : List (List ℕ))
-    → (vs : List ℤ) × (next ≡ record d { values = d.values ++ vs ∷ [] })
-    × SpellValues d.blocks (header_stated d.name d.header) (length d.values) fields vs
-    → States (values_line d fields) next
-unfolding values_line
-values_back d next fields (vs, is, spelled) = record {
-  first = refl;
-  values = values_values (length d.values) vs;
-  spelled = spelled;
-  last = met Order (whole_at (values_values (length d.values) vs) 0 == length d.values) []
-      (rw (quotient (length d.values)) (eq-eqb (length d.values) (length d.values) refl)) refl;
-  is = is ∙ ap (λ row. record d { values = d.values ++ row ∷ [] }) (sym (many_again vs));
-}
+  coef_added : Exactly (item_stated d Coefs fields)
+      (λ next. (c : Coef) × SpellsCoef d.problem d.blocks (count_in d.header key.Destinations) (count_in d.header key.Resources) fields c
+      × ((is_behind coef_before (last_of d.coefs) c ≡ true) × (next ≡ record d { coefs = d.coefs ++ c ∷ [] })))
+  coef_added =
+      then_ (coef_exact d.problem d.blocks (count_in d.header key.Destinations) (count_in d.header key.Resources) fields) (λ c.
+      passes Order (is_behind coef_before (last_of d.coefs) c) (done (record d { coefs = d.coefs ++ c ∷ [] })))
 
-pub coef_step : (d next : ModelDraftView) (fields : List (List ℕ)) → States (coef_line d fields) next
-    → (c : Coef) × (next ≡ record d { coefs = d.coefs ++ c ∷ [] })
-    × SpellCoef d.problem d.blocks (header_stated d.name d.header) fields c × (is_behind coef_before (last_of d.coefs) c ≡ true)
-unfolding coef_line
-coef_step d next fields s =
-    let destinations = count_in d.header key.Destinations in
-    let resources = count_in d.header key.Resources in
-    let form = coef_form d.problem d.blocks destinations resources in
-    let fit = spelled_fit form fields s.values (coef_fine d.problem d.blocks destinations resources) s.spelled in (
-      coef_said d.problem s.values,
-      s.is,
-      (
-        subst (Spell form fields) (coef_are d.problem d.blocks destinations resources s.values fit) s.spelled,
-        said_destination d.problem s.values,
-      ),
-      (passed Order (is_behind coef_before (last_of d.coefs) (coef_said d.problem s.values)) [] s.last).0,
-    )
+  limit_added : Exactly (item_stated d Limits fields)
+      (λ next. (l : Limit) × SpellsLimit (count_in d.header key.Resources) (count_in d.header key.Periods) fields l
+      × (((is_turned l.bound ≡ false) × (is_behind stands_before (last_of d.limits) l ≡ true)) × (next ≡ record d { limits = d.limits ++ l ∷ [] })))
+  limit_added =
+      then_ (limit_exact (count_in d.header key.Resources) (count_in d.header key.Periods) fields) (λ l.
+      tested Order (neither (is_turned l.bound) (is_behind stands_before (last_of d.limits) l)) (λ h. rw (h.0, h.1) refl)
+      (done (record d { limits = d.limits ++ l ∷ [] })))
+    where
+      neither : (s t : Bool) → (s || not t) ≡ false → (s ≡ false) × (t ≡ true)
+      neither false true e = (refl, refl)
+      neither false false e = absurd cc
+      neither true t e = absurd cc
 
-pub coef_back : (d next : ModelDraftView) (fields : List (List ℕ))
-    → (c : Coef) × (next ≡ record d { coefs = d.coefs ++ c ∷ [] })
-    × SpellCoef d.problem d.blocks (header_stated d.name d.header) fields c × (is_behind coef_before (last_of d.coefs) c ≡ true)
-    → States (coef_line d fields) next
-unfolding coef_line
-coef_back d next fields (c, is, spelled, behind) =
-    let same = coef_said_again d.problem c spelled.1 in
-    record {
-      first = refl;
-      values = coef_values d.problem c;
-      spelled = spelled.0;
-      last = met Order (is_behind coef_before (last_of d.coefs) (coef_said d.problem (coef_values d.problem c))) []
-          (ap (is_behind coef_before (last_of d.coefs)) same ∙ behind) refl;
-      is = is ∙ ap (λ c. record d { coefs = d.coefs ++ c ∷ [] }) (sym same);
-    }
+  pub values_step : (next : ModelDraftView) → item_stated d Objective fields ≡ Ok next
+      → (vs : List ℤ) × (next ≡ record d { values = d.values ++ vs ∷ [] })
+      × SpellsValues d.blocks (count_in d.header key.Destinations) (length d.values) fields vs
+  values_step next e = let s = values_added.told next e in (s.0, s.2, s.1)
 
-pub limit_step : (d next : ModelDraftView) (fields : List (List ℕ)) → States (limit_line d fields) next
-    → (l : Limit) × (next ≡ record d { limits = d.limits ++ l ∷ [] })
-    × SpellLimit (header_stated d.name d.header) fields l × (is_behind stands_before (last_of d.limits) l ≡ true)
-unfolding limit_line
-limit_step d next fields s =
-    let resources = count_in d.header key.Resources in
-    let periods = count_in d.header key.Periods in
-    let form = limit_form resources periods fields in
-    let fit = spelled_fit form fields s.values (limit_fine resources periods fields) s.spelled in
-    let limit = limit_said s.values in
-    let in_order = and_parts (not (is_turned limit.bound)) (is_behind stands_before (last_of d.limits) limit)
-    (passed Order (not (is_turned limit.bound) && is_behind stands_before (last_of d.limits) limit) [] s.last).0 in (
-      limit,
-      s.is,
-      (subst (Spell form fields) (limit_are resources periods fields s.values fit) s.spelled, not-true (is_turned limit.bound) in_order.0),
-      in_order.1,
-    )
+  pub values_back : (next : ModelDraftView)
+      → (vs : List ℤ) × (next ≡ record d { values = d.values ++ vs ∷ [] })
+      × SpellsValues d.blocks (count_in d.header key.Destinations) (length d.values) fields vs
+      → item_stated d Objective fields ≡ Ok next
+  values_back next h = values_added.back next (h.0, h.2, h.1)
 
-pub limit_back : (d next : ModelDraftView) (fields : List (List ℕ))
-    → (l : Limit) × (next ≡ record d { limits = d.limits ++ l ∷ [] })
-    × SpellLimit (header_stated d.name d.header) fields l × (is_behind stands_before (last_of d.limits) l ≡ true)
-    → States (limit_line d fields) next
-unfolding limit_line
-limit_back d next fields (l, is, spelled, behind) =
-    let same : limit_said (limit_values l) ≡ l = limit_said_again l.resource l.period l.bound in
-    record {
-      first = refl;
-      values = limit_values l;
-      spelled = spelled.0;
-      last = met Order (not (is_turned (limit_said (limit_values l)).bound)
-          && is_behind stands_before (last_of d.limits) (limit_said (limit_values l))) []
-          (ap (λ l. not (is_turned l.bound) && is_behind stands_before (last_of d.limits) l) same ∙ rw (spelled.1, behind) refl) refl;
-      is = is ∙ ap (λ l. record d { limits = d.limits ++ l ∷ [] }) (sym same);
-    }
+  pub coef_step : (next : ModelDraftView) → item_stated d Coefs fields ≡ Ok next
+      → (c : Coef) × (next ≡ record d { coefs = d.coefs ++ c ∷ [] })
+      × SpellsCoef d.problem d.blocks (count_in d.header key.Destinations) (count_in d.header key.Resources) fields c
+      × (is_behind coef_before (last_of d.coefs) c ≡ true)
+  coef_step next e = let s = coef_added.told next e in (s.0, s.2.1, s.1, s.2.0)
 
-pub no_stray : (d next : ModelDraftView) → States (stray_line d) next → ⊥
-unfolding stray_line
-no_stray d next s = let never = (passed Key false [] s.first).0 in cc
+  pub coef_back : (next : ModelDraftView)
+      → (c : Coef) × (next ≡ record d { coefs = d.coefs ++ c ∷ [] })
+      × SpellsCoef d.problem d.blocks (count_in d.header key.Destinations) (count_in d.header key.Resources) fields c
+      × (is_behind coef_before (last_of d.coefs) c ≡ true)
+      → item_stated d Coefs fields ≡ Ok next
+  coef_back next h = coef_added.back next (h.0, h.2, (h.3, h.1))
+
+  pub limit_step : (next : ModelDraftView) → item_stated d Limits fields ≡ Ok next
+      → (l : Limit) × (next ≡ record d { limits = d.limits ++ l ∷ [] })
+      × SpellsLimit (count_in d.header key.Resources) (count_in d.header key.Periods) fields l × (is_turned l.bound ≡ false)
+      × (is_behind stands_before (last_of d.limits) l ≡ true)
+  limit_step next e = let s = limit_added.told next e in (s.0, s.2.1, s.1, s.2.0.0, s.2.0.1)
+
+  pub limit_back : (next : ModelDraftView)
+      → (l : Limit) × (next ≡ record d { limits = d.limits ++ l ∷ [] })
+      × SpellsLimit (count_in d.header key.Resources) (count_in d.header key.Periods) fields l × (is_turned l.bound ≡ false)
+      × (is_behind stands_before (last_of d.limits) l ≡ true)
+      → item_stated d Limits fields ≡ Ok next
+  limit_back next h = limit_added.back next (h.0, h.2, ((h.3, h.4), h.1))

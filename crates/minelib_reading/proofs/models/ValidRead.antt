@@ -1,32 +1,26 @@
 -- What is read is valid.
-use Rattle.std.specs.Prelude.{◌≡◌, ℕ, ◌+◌, slice_index_or, ◌<◌, ◌≤◌, List, [], ◌∷◌, length, Ok}
-use Rattle.std.proofs.Common.{refl, sym, ◌∙◌, subst, arith}
+use Rattle.std.specs.Prelude.{List, Ok, slice_index_or, ℕ}
+use Rattle.std.proofs.Common.{[], arith, length, refl, subst, sym, ◌+◌, ◌<◌, ◌∙◌, ◌∷◌, ◌≡◌, ◌≤◌}
 use Rattle.std.proofs.lemmas.List.{length-map}
+use Rattle.pit_parts.specs.declared.block.Block.{Block}
+use Rattle.mine_instance.specs.Instance.{Instance}
+use Rattle.mine_instance.specs.Valid.{AreCoefs, ArePredsOf, IsValid}
 use Rattle.mine_instance.specs.cpit.Cpit.{CpitParts}
 use Rattle.mine_instance.specs.cpit.CpitKept.{IsCpit}
-use Rattle.mine_instance.specs.Valid.{AreCoefs, ArePredsOf, IsValid}
-use Rattle.mine_instance.specs.Instance.{Instance}
-use Rattle.minelib_reading.specs.shapes.BlockLines.{block_form}
-use Rattle.minelib_reading.specs.BlockText.{blocks_in}
-use Rattle.minelib_reading.specs.Denotes.{Denotes, cpit_read, cpit_denoted, DenotesCpit}
-use Rattle.minelib_reading.specs.ModelDraft.{ModelDraftView}
-use Rattle.minelib_reading.specs.ModelText.{model_in}
-use Rattle.minelib_reading.specs.shapes.PrecLines.{preds_form}
-use Rattle.minelib_reading.specs.shapes.ModelStates.{stated_by}
-use Rattle.minelib_reading.specs.spelled.SpelledTexts.{SpellBlocks, SpellCpit}
-use Rattle.minelib_reading.specs.StatedModel.{alone, model_of, model_of_cpit}
-use Rattle.minelib_lines.specs.LineValues.{block_values, preds_values}
-use Rattle.pit_parts.specs.declared.block.Block.{Block}
-use Rattle.forms.proofs.FormFacts.{spelled_fit}
-use Rattle.forms.specs.Words.{Spell}
 use Rattle.text_lines.specs.TextLines.{fields_of, lines_in}
 use Rattle.minelib_lines.specs.declared.problem.Problem.{Problem}
 use Rattle.minelib_lines.specs.declared.problem.Problem.TheVariants as problem
-use Rattle.minelib_reading.proofs.lines.FormFields.{whole_low}
 use Rattle.minelib_reading.proofs.lines.ItemLines.{each_item}
-use Rattle.minelib_reading.proofs.spelled.SpelledDenotes.{blocks_lines, cpit_spelled, denoted_spelled, model_spelled}
 use Rattle.minelib_reading.proofs.models.ValidModel.{IsModel, spelled_model}
-use Rattle.minelib_reading.proofs.spelled.SpelledRead.{blocks_spelled}
+use Rattle.minelib_reading.proofs.spelled.SpelledDenotes.{cpit_spelled, denoted_spelled, model_spelled}
+use Rattle.minelib_reading.proofs.spelled.SpelledRead.{blocks_exact}
+use Rattle.minelib_reading.specs.BlockText.{blocks_in}
+use Rattle.minelib_reading.specs.Denotes.{Denotes, DenotesCpit, cpit_denoted, cpit_read}
+use Rattle.minelib_reading.specs.ModelDraft.{ModelDraftView}
+use Rattle.minelib_reading.specs.ModelText.{model_in}
+use Rattle.minelib_reading.specs.StatedModel.{alone, model_of, model_of_cpit, stated_by}
+use Rattle.minelib_reading.specs.spelled.SpelledItems.{SpellsBlock, SpellsPreds}
+use Rattle.minelib_reading.specs.spelled.SpelledTexts.{SpellBlocks, SpellCpit}
 
 pub model_is_valid : (problem : Problem) (n : ℕ) (text : List ℕ) (d : ModelDraftView) → model_in problem n text ≡ Ok d
     → IsModel problem n (stated_by d)
@@ -36,13 +30,12 @@ model_is_valid problem n text d e = spelled_model problem n (lines_in text) (sta
 few_spelled : (text : List ℕ) (blocks : List Block) → SpellBlocks text blocks → length blocks ≤ 64000000
 few_spelled text [] are = omega arith
 few_spelled text (b ∷ blocks) are =
-    let last = each_item (λ id line b. Spell block_form (fields_of line) (block_values id b)) (λ id _. id < 64000000)
-    (λ id line b s. whole_low 64000000 id (spelled_fit block_form (fields_of line) (block_values id b) refl s).0)
+    let last = each_item (λ id line b. SpellsBlock id (fields_of line) b) (λ id _. id < 64000000) (λ id line b s. s.id.1)
     0 (lines_in text) (b ∷ blocks) are (length blocks) b (omega arith) in
     omega (arith, last)
 
 pub few_blocks : (text : List ℕ) (blocks : List Block) → blocks_in text ≡ Ok blocks → length blocks ≤ 64000000
-few_blocks text blocks e = few_spelled text blocks (blocks_lines text blocks (blocks_spelled text blocks e))
+few_blocks text blocks e = few_spelled text blocks ((blocks_exact text).told blocks e)
 
 -- the instance that three texts denote is valid
 pub read_valid : (blocks prec pcpsp : List ℕ) (i : Instance) → Denotes blocks prec pcpsp i → IsValid i
@@ -54,9 +47,8 @@ read_valid blocks prec pcpsp i e =
       lengths = record { few = few_spelled blocks i.blocks are.of_blocks; preds = are.of_preds.0; values = model.count };
       preds = λ id within.
           let place : 0 + id ≡ id = omega arith in
-          subst (λ own. ArePredsOf own n (slice_index_or i.preds id [])) place (each_item
-          (λ own line ids. Spell (preds_form n (fields_of line)) (fields_of line) (preds_values own ids) × ArePredsOf own n ids)
-          (λ own ids. ArePredsOf own n ids) (λ own line ids s. s.1) 0 (lines_in prec) i.preds are.of_preds.1 id [] within);
+          subst (λ own. ArePredsOf own n (slice_index_or i.preds id [])) place (each_item (λ own line ids. SpellsPreds n own (fields_of line) ids)
+          (λ own ids. ArePredsOf own n ids) (λ own line ids s. s.are) 0 (lines_in prec) i.preds are.of_preds.1 id [] within);
       horizon = model.horizon;
       destinations = model.destinations;
       coefs = model.coefs;

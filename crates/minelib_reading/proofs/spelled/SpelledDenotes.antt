@@ -1,55 +1,44 @@
 -- Texts denote an instance exactly where their lines spell it, and a text a CPIT.
-use Rattle.std.specs.Prelude.{◌≡◌, ℕ, List, [], ◌∷◌, length, map, pos, ℤ, All, Ok}
-use Rattle.std.specs.List.{flat_map}
-use Rattle.std.proofs.Common.{refl, sym, ◌∙◌, ap, subst, arith}
+use Rattle.std.specs.Prelude.{List, Ok, pos, ℕ, ℤ}
+use Rattle.std.proofs.Common.{All, [], ap, arith, length, map, refl, subst, sym, ◌∙◌, ◌∷◌, ◌≡◌}
 use Rattle.std.proofs.lemmas.List.Elements.{All-head, All-tail}
-use Rattle.minelib_reading.proofs.models.Finished.{finished_states, states_finished}
-use Rattle.forms.specs.Words.{AllState, Spell}
+use Rattle.std.specs.List.{flat_map}
+use Rattle.pit_parts.specs.declared.block.Block.{Block}
+use Rattle.mine_instance.specs.Instance.{Instance}
 use Rattle.mine_instance.specs.cpit.Cpit.{CpitParts}
 use Rattle.mine_instance.specs.cpit.CpitKept.{cpit_of}
-use Rattle.mine_instance.specs.Valid.{ArePredsOf}
-use Rattle.pit_parts.specs.declared.block.Block.{Block}
-use Rattle.minelib_lines.specs.LineValues.{block_values, preds_values}
-use Rattle.mine_instance.specs.Instance.{Instance}
-use Rattle.minelib_reading.specs.shapes.BlockLines.{block_form, block_grammar, block_shape}
-use Rattle.minelib_reading.specs.BlockText.{blocks_in}
-use Rattle.minelib_reading.specs.Denotes.{instance_read, denoted, Denotes, cpit_read, cpit_denoted, DenotesCpit}
-use Rattle.minelib_reading.specs.ModelDraft.{ModelDraftView, blank_model, is_whole}
-use Rattle.minelib_reading.specs.shapes.ModelLines.{model_grammar}
-use Rattle.minelib_reading.specs.ModelText.{model_in}
-use Rattle.minelib_reading.specs.shapes.ModelStates.{StateModel, stated_by}
-use Rattle.minelib_reading.specs.shapes.PrecLines.{prec_grammar, preds_form, preds_shape}
-use Rattle.minelib_reading.specs.PrecText.{preds_in}
-use Rattle.text_lines.specs.Reading.{in_file}
-use Rattle.minelib_reading.specs.HeaderNumbers.{count_in}
-use Rattle.minelib_reading.specs.spelled.SpelledModel.{AreModelLines}
-use Rattle.minelib_reading.specs.StatedModel.{StatedModel, alone, model_of, model_of_cpit}
+use Rattle.text_lines.proofs.ReadSteps.{bind_then, in_file_ok, same_ok, then_ok}
+use Rattle.text_lines.specs.Reading.{in_file, read_lines}
+use Rattle.text_lines.specs.TextLines.{lines_in}
+use Rattle.text_lines.specs.declared.text_fault.TextFile.TheVariants.{Blocks, Cpit, Pcpsp, Prec}
 use Rattle.minelib_lines.specs.declared.header_key.HeaderKey.TheVariants as key
-use Rattle.minelib_reading.specs.spelled.SpelledTexts.{SpellBlocks, SpellCpit, SpellInstance, SpellPreds}
-use Rattle.text_lines.specs.TextLines.{fields_of, lines_in}
 use Rattle.minelib_lines.specs.declared.problem.Problem.{Problem}
 use Rattle.minelib_lines.specs.declared.problem.Problem.TheVariants as problem
-use Rattle.text_lines.specs.declared.text_fault.TextFile.TheVariants.{Blocks, Prec, Pcpsp, Cpit}
-use Rattle.minelib_reading.proofs.lines.BlockLineFacts.{block_back, block_line}
-use Rattle.minelib_reading.proofs.models.ModelShapes.{all_fine}
-use Rattle.minelib_reading.proofs.lines.PrecLineFacts.{preds_back, preds_line}
-use Rattle.minelib_reading.proofs.lines.ItemLines.{items_spelled, spelled_items}
-use Rattle.text_lines.proofs.ReadSteps.{bind_then, same_ok, in_file_ok}
-use Rattle.minelib_reading.proofs.plain.TextForms.{models_are}
+use Rattle.minelib_reading.proofs.models.ValidModel.{spelled_model}
 use Rattle.minelib_reading.proofs.spelled.SpelledModelBack.{spelled_stated}
 use Rattle.minelib_reading.proofs.spelled.SpelledModelRead.{stated_spelled}
-use Rattle.minelib_reading.proofs.models.ValidModel.{spelled_model}
-use Rattle.minelib_reading.proofs.spelled.SpelledRead.{blocks_back, blocks_spelled, lists_back, preds_spelled}
+use Rattle.minelib_reading.proofs.spelled.SpelledRead.{blocks_exact, lists_exact}
+use Rattle.minelib_reading.specs.BlockText.{blocks_in}
+use Rattle.minelib_reading.specs.Denotes.{Denotes, DenotesCpit, cpit_denoted, cpit_read, denoted, instance_read}
+use Rattle.minelib_reading.specs.HeaderNumbers.{count_in}
+use Rattle.minelib_reading.specs.ModelDraft.{ModelDraftView, blank_model, is_whole}
+use Rattle.minelib_reading.specs.ModelText.{line_stated, model_in}
+use Rattle.minelib_reading.specs.PrecText.{preds_in}
+use Rattle.minelib_reading.specs.StatedModel.{StatedModel, alone, model_of, model_of_cpit, stated_by}
+use Rattle.minelib_reading.specs.spelled.SpelledModel.{AreModelLines, StateModel}
+use Rattle.minelib_reading.specs.spelled.SpelledTexts.{SpellCpit, SpellInstance}
 
--- what is read the lines state by the grammar, and what they state is read
+-- what is read the lines state one behind the other, and what they state is read
 pub model_states : (problem : Problem) (n : ℕ) (text : List ℕ) (d : ModelDraftView) → model_in problem n text ≡ Ok d
     → StateModel problem n (lines_in text) d
-model_states problem n text d e = finished_states model_grammar all_fine (blank_model problem n) (lines_in text) is_whole _ d (sym (models_are problem n text) ∙ e)
+model_states problem n text d e =
+    bind_then (read_lines line_stated (blank_model problem n) (lines_in text)) _ d e (λ found read rest.
+    let t = then_ok (is_whole found) _ (Ok found) d rest in
+    subst (StateModel problem n (lines_in text)) (same_ok found d t.1) (read, t.0))
 
 pub states_back : (problem : Problem) (n : ℕ) (text : List ℕ) (d : ModelDraftView) → StateModel problem n (lines_in text) d
     → model_in problem n text ≡ Ok d
-states_back problem n text d are =
-    models_are problem n text ∙ states_finished model_grammar all_fine (blank_model problem n) (lines_in text) is_whole _ d are.0 are.1
+states_back problem n text d are = rw (are.0, are.1) refl
 
 -- so they spell what is read, and what they spell is read
 pub model_spelled : (problem : Problem) (n : ℕ) (text : List ℕ) (d : ModelDraftView) → model_in problem n text ≡ Ok d
@@ -62,33 +51,6 @@ model_back problem n text m are =
     let b = spelled_stated problem n (lines_in text) m are in
     (b.0, states_back problem n text b.0 b.1, b.2)
 
--- the lines of blocks and of predecessors, in the format's words and by the grammar
-pub blocks_lines : (text : List ℕ) (blocks : List Block) → AllState block_grammar 1 [] (lines_in text) blocks → SpellBlocks text blocks
-blocks_lines text blocks all =
-    items_spelled block_shape (λ id line b. Spell block_form (fields_of line) (block_values id b))
-    block_line 1 (lines_in text) blocks all
-
-lines_blocks : (text : List ℕ) (blocks : List Block) → SpellBlocks text blocks → AllState block_grammar 1 [] (lines_in text) blocks
-lines_blocks text blocks are =
-    spelled_items block_shape (λ id line b. Spell block_form (fields_of line) (block_values id b))
-    (λ id line b spelled. block_back id b line spelled) (lines_in text) blocks are
-
-preds_lines : (n : ℕ) (text : List ℕ) (lists : List (List ℕ))
-    → (length lists ≡ n) × AllState (prec_grammar n) 1 [] (lines_in text) lists → SpellPreds n text lists
-preds_lines n text lists (count, all) = (
-  count,
-  items_spelled (preds_shape n)
-      (λ own line ids. Spell (preds_form n (fields_of line)) (fields_of line) (preds_values own ids) × ArePredsOf own n ids)
-      (preds_line n) 1 (lines_in text) lists all,
-)
-
-lines_preds : (n : ℕ) (text : List ℕ) (lists : List (List ℕ)) → SpellPreds n text lists
-    → AllState (prec_grammar n) 1 [] (lines_in text) lists
-lines_preds n text lists are =
-    spelled_items (preds_shape n)
-    (λ own line ids. Spell (preds_form n (fields_of line)) (fields_of line) (preds_values own ids) × ArePredsOf own n ids)
-    (λ own line ids h. preds_back n own line ids h.0 h.1) (lines_in text) lists are.1
-
 pub denoted_spelled : (blocks prec pcpsp : List ℕ) (i : Instance) → Denotes blocks prec pcpsp i → SpellInstance blocks prec pcpsp i
 unfolding denoted
 denoted_spelled blocks prec pcpsp i e =
@@ -96,8 +58,8 @@ denoted_spelled blocks prec pcpsp i e =
     bind_then (in_file Prec (preds_in (length all) prec)) _ i rest1 (λ lists e2 rest2.
     bind_then (in_file Pcpsp (model_in problem.Pcpsp (length all) pcpsp)) _ i rest2 (λ d e3 rest3.
     subst (SpellInstance blocks prec pcpsp) (same_ok (instance_read all lists d) i rest3) (record {
-      of_blocks = blocks_lines blocks all (blocks_spelled blocks all (in_file_ok Blocks _ all e1));
-      of_preds = preds_lines (length all) prec lists (preds_spelled (length all) prec lists (in_file_ok Prec _ lists e2));
+      of_blocks = (blocks_exact blocks).told all (in_file_ok Blocks _ all e1);
+      of_preds = (lists_exact (length all) prec).told lists (in_file_ok Prec _ lists e2);
       of_model = model_spelled problem.Pcpsp (length all) pcpsp d (in_file_ok Pcpsp _ d e3);
     }))))
 
@@ -121,8 +83,8 @@ unfolding denoted
 spelled_denoted blocks prec pcpsp i h =
     let m = model_back problem.Pcpsp (length i.blocks) pcpsp (model_of i) h.of_model in
     rw (
-      blocks_back blocks i.blocks (lines_blocks blocks i.blocks h.of_blocks),
-      lists_back (length i.blocks) prec i.preds h.of_preds.0 (lines_preds (length i.blocks) prec i.preds h.of_preds),
+      (blocks_exact blocks).back i.blocks h.of_blocks,
+      (lists_exact (length i.blocks) prec).back i.preds h.of_preds,
       m.1,
     ) (ap (λ m. Ok (instance_stated i.blocks i.preds m)) m.2)
 

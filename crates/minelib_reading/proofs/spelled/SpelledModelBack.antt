@@ -1,135 +1,99 @@
 -- Lines that spell a model state it.
-use Rattle.std.specs.Prelude.{◌≡◌, ◌≢◌, ℕ, suc, ◌+◌, ◌==◌, true, false, not, List, [], ◌∷◌, ◌++◌, length, ℤ, pos, Some, None, is_some, unwrap_or, AllPairs, codes, slice_index_or}
+use Rattle.std.specs.Prelude.{AllPairs, List, Ok, is_some, not, pos, unwrap_or, ℕ, ℤ, ◌≢◌}
+use Rattle.std.proofs.Common.{Some, [], ap, arith, false, inl, inr, length, refl, subst, suc, sym, true, ◌++◌, ◌+◌, ◌∙◌, ◌∷◌, ◌≡◌}
+use Rattle.std.proofs.lemmas.Bool.{cases_Bool, eq-eqb}
 use Rattle.std.specs.List.{Contains}
-use Rattle.std.specs.Str.{bytes_eq}
-use Rattle.std.proofs.Common.{refl, sym, ◌∙◌, ap, subst, arith, inl, inr, eq-eqb}
-use Rattle.std.proofs.lemmas.Bool.{cases_Bool}
-use Rattle.forms.proofs.NumberFields.{quotient}
-use Rattle.forms.specs.Words.{Field, Value, whole, whole_stated, word_of, AllState, check, failing, States, Spell}
-use Rattle.pit_parts.specs.PlanKept.{stands_before}
+use Rattle.pit_parts.specs.PlanKept.{is_turned, stands_before}
 use Rattle.pit_parts.specs.declared.limit.Limit.{Limit}
 use Rattle.mine_instance.specs.Order.{coef_before}
 use Rattle.mine_instance.specs.declared.coefs.coef.Coef.{Coef}
+use Rattle.text_lines.proofs.LinesRead.{line_then, lines_then}
+use Rattle.text_lines.proofs.PlainText.{EachField}
+use Rattle.text_lines.specs.Reading.{read_lines}
 use Rattle.text_lines.specs.TextLines.{Line, fields_of}
-use Rattle.text_lines.specs.declared.text_fault.TextKind.TheVariants.{Count, Twice, Key, Missing}
-use Rattle.minelib_lines.specs.HeaderKeys.{has_key, key_word, type_text}
-use Rattle.minelib_lines.specs.HeaderTable.{key_value}
-use Rattle.minelib_lines.specs.LineValues.{StatedHeader, coef_values, limit_values, values_values}
-use Rattle.minelib_lines.specs.declared.problem.Problem.{Problem}
-use Rattle.minelib_lines.specs.declared.problem.Problem.TheVariants.{Pcpsp, Cpit}
-use Rattle.minelib_reading.specs.HeaderNumbers.{count_in, is_complete, is_given, number_of, with_key}
-use Rattle.minelib_reading.specs.shapes.ModelLines.{number_said, header_line, is_counted, item_line, model_grammar, model_line, section_line}
-use Rattle.minelib_reading.specs.shapes.ItemForms.{coef_form, limit_form, values_form}
-use Rattle.minelib_reading.specs.ModelDraft.{ModelDraftView, blank_header, blank_model, is_behind, is_heading, is_next, is_ready, last_of, name_with}
-use Rattle.minelib_reading.specs.shapes.ModelStates.{StateModel, header_stated, stated_by}
-use Rattle.minelib_reading.specs.spelled.SpelledKeys.{IsKeyLine}
-use Rattle.minelib_reading.specs.ModelKeys.{section_text}
-use Rattle.minelib_reading.specs.spelled.SpelledLines.{AreLines}
-use Rattle.minelib_reading.specs.spelled.SpelledModel.{AreHeaderLines, AreModelLines, IsHeaderLine, IsSingle, SpellCoef, SpellLimit, SpellValues}
-use Rattle.minelib_reading.specs.StatedModel.{StatedModel}
-use Rattle.minelib_reading.specs.declared.model.key.Header.{Header}
+use Rattle.minelib_lines.specs.HeaderKeys.{has_key, key_word}
+use Rattle.minelib_lines.specs.StatedHeader.{StatedHeader}
 use Rattle.minelib_lines.specs.declared.header_key.HeaderKey.{HeaderKey}
 use Rattle.minelib_lines.specs.declared.header_key.HeaderKey.TheVariants as key
-use Rattle.minelib_reading.specs.declared.model.key.Section.{Section}
-use Rattle.minelib_reading.specs.declared.model.key.Section.TheVariants.{Heading, Objective, Coefs, Limits}
-use Rattle.minelib_reading.proofs.lines.CoefLineFacts.{coef_plain}
-use Rattle.minelib_reading.proofs.lines.FormFields.{ArePlain, from_zero, spelled_keyless}
+use Rattle.minelib_lines.specs.declared.problem.Problem.{Problem}
+use Rattle.minelib_lines.specs.declared.problem.Problem.TheVariants.{Cpit, Pcpsp}
 use Rattle.minelib_reading.proofs.keys.HeaderFacts.{all_given, contains_cases, each_with, first_given, with_same}
-use Rattle.minelib_reading.proofs.lines.ItemLines.{items_state}
-use Rattle.minelib_reading.proofs.models.ValidModel.{in_both, key_fits}
 use Rattle.minelib_reading.proofs.keys.KeyLines.{cut_line, header_found, header_plain, section_found, section_plain}
-use Rattle.minelib_reading.proofs.lines.LimitLineFacts.{bound_plain}
+use Rattle.minelib_reading.proofs.keys.KeyNumbers.{from_zero, number_back, told}
+use Rattle.minelib_reading.proofs.lines.ItemLines.{items_state}
+use Rattle.minelib_reading.proofs.lines.LineFields.{coef_fields, limit_fields, line_keyless, values_fields}
+use Rattle.minelib_reading.proofs.models.Drafts.{draft, heading}
 use Rattle.minelib_reading.proofs.models.ModelSteps.{coef_back, limit_back, values_back}
-use Rattle.minelib_reading.proofs.lines.LinesThen.{StateAny, draft, heading, line_then, lines_then}
 use Rattle.minelib_reading.proofs.models.Places.{behind_last}
-use Rattle.minelib_reading.proofs.lines.ShapeSteps.{met}
-use Rattle.minelib_reading.proofs.lines.ValuesLineFacts.{many_plain}
-
--- the number that a header keeps of what it states by a key
-abbrev pub told : Problem → ℕ → StatedHeader → HeaderKey → ℕ
-told problem n m k = number_said k (key_value (type_text problem) n m k)
-
-pub name_told : (problem : Problem) (n : ℕ) (m : StatedHeader) (k : HeaderKey) (name : List ℕ)
-    → name_with k (word_of (key_value (type_text problem) n m k)) name ≡ name_with k m.name name
-name_told problem n m key.Name name = refl
-name_told problem n m k name = refl
-
-pub counted : (problem : Problem) (n : ℕ) (m : StatedHeader) (k : HeaderKey) → failing (is_counted k n (key_value (type_text problem) n m k)) ≡ None
-counted problem n m key.Blocks = met Count (whole_stated (whole n) == n) [] (rw (quotient n) (eq-eqb n n refl)) refl
-counted problem n m k = refl
+use Rattle.minelib_reading.proofs.models.ValidModel.{in_both, key_spelled}
+use Rattle.minelib_reading.specs.HeaderNumbers.{count_in, is_complete, is_given, number_of, with_key}
+use Rattle.minelib_reading.specs.ModelDraft.{ModelDraftView, blank_header, blank_model, is_behind, is_heading, is_next, is_ready, last_of, name_with}
+use Rattle.minelib_reading.specs.ModelKeys.{section_text}
+use Rattle.minelib_reading.specs.ModelText.{item_stated, key_stated, line_stated, section_stated}
+use Rattle.minelib_reading.specs.StatedModel.{StatedModel, header_stated, stated_by}
+use Rattle.minelib_reading.specs.declared.model.key.Header.{Header}
+use Rattle.minelib_reading.specs.declared.model.key.Section.{Section}
+use Rattle.minelib_reading.specs.declared.model.key.Section.TheVariants.{Coefs, Heading, Limits, Objective}
+use Rattle.minelib_reading.specs.spelled.SpelledItems.{SpellsCoef, SpellsLimit, SpellsValues}
+use Rattle.minelib_reading.specs.spelled.SpelledKeys.{IsKeyLine}
+use Rattle.minelib_reading.specs.spelled.SpelledLines.{AreLines}
+use Rattle.minelib_reading.specs.spelled.SpelledModel.{AreHeaderLines, AreModelLines, IsHeaderLine, IsSingle, SpellsKey, StateModel}
 
 -- a key's line adds what the header states by it
+name_same : (p : Problem) (n : ℕ) (m : StatedHeader) (k : HeaderKey) (value name : List ℕ) → SpellsKey p n m k value
+    → name_with k value name ≡ name_with k m.name name
+name_same p n m key.Name value name s = s.0
+name_same p n m k value name s = refl
+
 pub key_states : (d : ModelDraftView) (m : StatedHeader) (k : HeaderKey) (line : List ℕ) → is_heading d.section ≡ true
     → is_given k d.header ≡ false → IsHeaderLine d.problem d.blocks m line k
-    → States (model_line d line) (record d { header = with_key d.header k (told d.problem d.blocks m k); name = name_with k m.name d.name })
-unfolding header_line
+    → line_stated d line ≡ Ok (record d { header = with_key d.header k (told m k); name = name_with k m.name d.name })
+unfolding line_stated key_stated
 key_states d m k line in_heading new l =
     let c = cut_line (key_word k) line (l.value ∷ []) (header_plain k) l.is_key in
-    let here : model_line d line ≡ header_line d k (l.value ∷ []) =
-    rw (c.colon, c.key_is, header_found d.problem k l.of_problem, c.fields_are) refl in
-    let name = sym (name_told d.problem d.blocks m k d.name) in
-    subst (λ shape. States shape (record d { header = with_key d.header k (told d.problem d.blocks m k); name = name_with k m.name d.name })) (sym here)
-    (record {
-      first = met Key (is_heading d.section) (check Twice (not (is_given k d.header))) in_heading
-          (met Twice (not (is_given k d.header)) [] (ap not new) refl);
-      values = key_value (type_text d.problem) d.blocks m k ∷ [];
-      spelled = (l.says, tt);
-      last = counted d.problem d.blocks m k;
-      is = λ i. record d { header = with_key d.header k (told d.problem d.blocks m k); name = name i };
-    })
+    let name = name_same d.problem d.blocks m k l.value d.name l.says in
+    rw (c.colon, c.key_is, header_found d.problem k l.of_problem, c.fields_are, in_heading, new, number_back d.problem d.blocks m k l.value l.says)
+    (λ i. Ok (record d { header = with_key d.header k (told m k); name = name i }))
 
 -- the line that begins a section
 pub section_states : (d : ModelDraftView) (section : Section) (line : List ℕ) → IsKeyLine (section_text section) line []
-    → is_next d.section section ≡ true → is_ready d d.section ≡ true → States (model_line d line) (record d { section = section })
-unfolding section_line
+    → is_next d.section section ≡ true → is_ready d d.section ≡ true → line_stated d line ≡ Ok (record d { section = section })
+unfolding line_stated section_stated
 section_states d section line l follows ready =
     let c = cut_line (section_text section) line [] (section_plain section) l in
-    let here : model_line d line ≡ section_line d section [] =
-    rw (c.colon, c.key_is, section_found d.problem d.section section follows, c.fields_are) refl in
-    subst (λ shape. States shape (record d { section = section })) (sym here) (record {
-      first = met Key (is_next d.section section) [] follows refl;
-      values = [];
-      spelled = tt;
-      last = met Missing (is_ready d d.section) [] ready refl;
-      is = refl;
-    })
+    rw (c.colon, c.key_is, section_found d.problem d.section section follows, c.fields_are, follows, ready) refl
 
--- the line of an item, whose fields spell a form without a colon
-item_states : (d next : ModelDraftView) (line : List ℕ) (form : List Field) (values : List Value) → ArePlain form
-    → Spell form (fields_of line) values → States (item_line d d.section (fields_of line)) next → States (model_line d line) next
-item_states d next line form values plain spelled states =
-    let none = spelled_keyless form line values plain spelled in
-    let here : model_line d line ≡ item_line d d.section (fields_of line) = rw none refl in
-    subst (λ shape. States shape next) (sym here) states
+-- the line of an item, which has no colon
+item_states : (d next : ModelDraftView) (line : List ℕ) → EachField (fields_of line) → item_stated d d.section (fields_of line) ≡ Ok next
+    → line_stated d line ≡ Ok next
+unfolding line_stated
+item_states d next line each states = rw (line_keyless line each) states
 
 pub values_states : (d : ModelDraftView) (vs : List ℤ) (line : List ℕ)
-    → SpellValues d.blocks (header_stated d.name d.header) (length d.values) (fields_of line) vs
-    → States (model_line (record d { section = Objective }) line) (record d { section = Objective; values = d.values ++ vs ∷ [] })
+    → SpellsValues d.blocks (count_in d.header key.Destinations) (length d.values) (fields_of line) vs
+    → line_stated (record d { section = Objective }) line ≡ Ok (record d { section = Objective; values = d.values ++ vs ∷ [] })
 values_states d vs line spelled =
-    let destinations = count_in d.header key.Destinations in
     let at : ModelDraftView = record d { section = Objective } in
-    item_states at _ line (values_form d.blocks destinations) (values_values (length d.values) vs) (many_plain destinations) spelled
-    (values_back at _ (fields_of line) (vs, refl, spelled))
+    item_states at _ line (values_fields d.blocks (count_in d.header key.Destinations) (length d.values) (fields_of line) vs spelled)
+    (values_back at (fields_of line) _ (vs, refl, spelled))
 
 coef_states : (d : ModelDraftView) (c : Coef) (line : List ℕ)
-    → SpellCoef d.problem d.blocks (header_stated d.name d.header) (fields_of line) c
+    → SpellsCoef d.problem d.blocks (count_in d.header key.Destinations) (count_in d.header key.Resources) (fields_of line) c
     → is_behind coef_before (last_of d.coefs) c ≡ true
-    → States (model_line (record d { section = Coefs }) line) (record d { section = Coefs; coefs = d.coefs ++ c ∷ [] })
+    → line_stated (record d { section = Coefs }) line ≡ Ok (record d { section = Coefs; coefs = d.coefs ++ c ∷ [] })
 coef_states d c line spelled behind =
-    let destinations = count_in d.header key.Destinations in
-    let resources = count_in d.header key.Resources in
     let at : ModelDraftView = record d { section = Coefs } in
-    item_states at _ line (coef_form d.problem d.blocks destinations resources) (coef_values d.problem c)
-    (coef_plain d.problem d.blocks destinations resources) spelled.0 (coef_back at _ (fields_of line) (c, refl, spelled, behind))
+    item_states at _ line (coef_fields d.problem d.blocks (count_in d.header key.Destinations) (count_in d.header key.Resources) (fields_of line) c spelled)
+    (coef_back at (fields_of line) _ (c, refl, spelled, behind))
 
-limit_states : (d : ModelDraftView) (l : Limit) (line : List ℕ) → SpellLimit (header_stated d.name d.header) (fields_of line) l
+limit_states : (d : ModelDraftView) (l : Limit) (line : List ℕ)
+    → SpellsLimit (count_in d.header key.Resources) (count_in d.header key.Periods) (fields_of line) l × (is_turned l.bound ≡ false)
     → is_behind stands_before (last_of d.limits) l ≡ true
-    → States (model_line (record d { section = Limits }) line) (record d { section = Limits; limits = d.limits ++ l ∷ [] })
+    → line_stated (record d { section = Limits }) line ≡ Ok (record d { section = Limits; limits = d.limits ++ l ∷ [] })
 limit_states d l line spelled behind =
     let at : ModelDraftView = record d { section = Limits } in
-    item_states at _ line (limit_form (count_in d.header key.Resources) (count_in d.header key.Periods) (fields_of line)) (limit_values l)
-    (bound_plain (bytes_eq (slice_index_or (fields_of line) 2 []) (codes "I"))) spelled.0
-    (limit_back at _ (fields_of line) (l, refl, spelled, behind))
+    item_states at _ line (limit_fields (count_in d.header key.Resources) (count_in d.header key.Periods) (fields_of line) l spelled.0)
+    (limit_back at (fields_of line) _ (l, refl, spelled.0, spelled.1, behind))
 
 -- the NAME is the value of its key
 abbrev IsNameOf : HeaderKey → List ℕ → List ℕ → Type 0
@@ -146,25 +110,25 @@ name_kept key.Name j value name was = was
 name_kept k j value name was = was
 
 -- a NAME and a header have what the model states by a key
-abbrev Has : Problem → ℕ → StatedHeader → HeaderKey → List ℕ → Header → Type 0
-Has problem n m k name h = (number_of h k ≡ Some (told problem n m k)) × IsNameOf k m.name name
+abbrev Has : StatedHeader → HeaderKey → List ℕ → Header → Type 0
+Has m k name h = (number_of h k ≡ Some (told m k)) × IsNameOf k m.name name
 
 -- behind the lines of these keys
 record Walked (problem : Problem) (n : ℕ) (m : StatedHeader) (keys : List HeaderKey) (lines : List Line) (name : List ℕ)
     (h : Header) : Type 0 where
   pub last_name : List ℕ
   pub last : Header
-  pub states : StateAny (heading problem n name h) lines (heading problem n last_name last)
-  pub kept : (k : HeaderKey) → Has problem n m k name h → Has problem n m k last_name last
-  pub all : (k : HeaderKey) → Contains keys k → Has problem n m k last_name last
+  pub states : read_lines line_stated (heading problem n name h) lines ≡ Ok (heading problem n last_name last)
+  pub kept : (k : HeaderKey) → Has m k name h → Has m k last_name last
+  pub all : (k : HeaderKey) → Contains keys k → Has m k last_name last
 
 walk : (problem : Problem) (n : ℕ) (m : StatedHeader) (i : ℕ) (lines : List Line) (keys : List HeaderKey) (name : List ℕ) (h : Header)
     → AreLines (λ _ line k. IsHeaderLine problem n m line k) i lines keys → AllPairs (λ k j. k ≢ j) keys
     → ((k : HeaderKey) → Contains keys k → has_key problem k ≡ true → is_given k h ≡ false) → Walked problem n m keys lines name h
 walk problem n m i [] [] name h are once fresh =
-    record { last_name = name; last = h; states = λ number. refl; kept = λ k was. was; all = λ k c. absurd (omega (arith, c.1)) }
+    record { last_name = name; last = h; states = refl; kept = λ k was. was; all = λ k c. absurd (omega (arith, c.1)) }
 walk problem n m i (line ∷ lines) (k ∷ keys) name h are once fresh =
-    let number = told problem n m k in
+    let number = told m k in
     let next_name = name_with k m.name name in
     let next = with_key h k number in
     let new = fresh k (0, omega arith, refl) are.0.of_problem in
@@ -177,33 +141,33 @@ walk problem n m i (line ∷ lines) (k ∷ keys) name h are once fresh =
     record {
       last_name = more.last_name;
       last = more.last;
-      states = line_then (heading problem n name h) (heading problem n next_name next) (heading problem n more.last_name more.last) line lines
+      states = line_then line_stated (heading problem n name h) (heading problem n next_name next) (heading problem n more.last_name more.last) line lines
           (key_states (heading problem n name h) m k line.text refl new are.0) more.states;
       kept = λ j was. more.kept j (
-        each_with (λ j found. number_of h j ≡ Some (told problem n m j) → found ≡ Some (told problem n m j)) h k number (λ _. refl) (λ j _ same. same) j was.0,
+        each_with (λ j found. number_of h j ≡ Some (told m j) → found ≡ Some (told m j)) h k number (λ _. refl) (λ j _ same. same) j was.0,
         name_kept k j m.name name was.1,
       );
       all = λ j c. elim (contains_cases k keys j c.0 c.1 c.2) [
-        | inl same ↦ subst (λ j. Has problem n m j more.last_name more.last) same (more.kept k (with_same h k number, name_stands k m.name name))
+        | inl same ↦ subst (λ j. Has m j more.last_name more.last) same (more.kept k (with_same h k number, name_stands k m.name name))
         | inr there ↦ more.all j there
       ];
     }
 walk problem n m i lines keys name h are once fresh = absurd are
 
 -- what has no key stands before the first
-without : (problem : Problem) (n : ℕ) (m : StatedHeader) (k : HeaderKey) → has_key problem k ≡ false → IsSingle problem m.destinations
-    → Has problem n m k [] (blank_header problem)
+without : (problem : Problem) (m : StatedHeader) (k : HeaderKey) → has_key problem k ≡ false → IsSingle problem m.destinations
+    → Has m k [] (blank_header problem)
 unfolding with_key
-without Pcpsp n m k e single = absurd cc
-without Cpit n m key.Destinations e single = (ap Some (sym (quotient m.destinations ∙ single)), tt)
-without Cpit n m key.General e single = (refl, tt)
-without Cpit n m k e single = absurd cc
+without Pcpsp m k e single = absurd cc
+without Cpit m key.Destinations e single = (ap Some (sym single), tt)
+without Cpit m key.General e single = (refl, tt)
+without Cpit m k e single = absurd cc
 
 -- behind the header's lines it stands whole
 record HasHeader (problem : Problem) (n : ℕ) (m : StatedHeader) (lines : List Line) : Type 0 where
   pub name : List ℕ
   pub h : Header
-  pub states : StateAny (blank_model problem n) lines (heading problem n name h)
+  pub states : read_lines line_stated (blank_model problem n) lines ≡ Ok (heading problem n name h)
   pub complete : is_complete h ≡ true
   pub stated : header_stated name h ≡ m
 
@@ -212,13 +176,13 @@ header_back : (problem : Problem) (n : ℕ) (m : StatedHeader) (lines : List Lin
 header_back problem n m lines single are =
     let w = walk problem n m 0 lines are.keys [] (blank_header problem) are.spelled are.once
     (λ k _ has. first_given problem k ∙ ap not has) in
-    let each : (k : HeaderKey) → Has problem n m k w.last_name w.last =
+    let each : (k : HeaderKey) → Has m k w.last_name w.last =
     λ k. elim (cases_Bool (has_key problem k)) [
       | inl has ↦ w.all k (are.all k has)
-      | inr none ↦ w.kept k (without problem n m k none single)
+      | inr none ↦ w.kept k (without problem m k none single)
     ] in
-    let count : (k : HeaderKey) → count_in w.last k ≡ told problem n m k = λ k. ap (λ number. unwrap_or number 0) (each k).0 in
-    let rate = from_zero m.rate (key_fits problem n lines m are key.Rate (in_both problem key.Rate refl)).0 in
+    let count : (k : HeaderKey) → count_in w.last k ≡ told m k = λ k. ap (λ number. unwrap_or number 0) (each k).0 in
+    let rate = from_zero m.rate (key_spelled problem n lines m are key.Rate (in_both problem key.Rate refl)).1.1 in
     record {
       name = w.last_name;
       h = w.last;
@@ -226,9 +190,9 @@ header_back problem n m lines single are =
       complete = all_given w.last (λ k. ap is_some (each k).0);
       stated = λ i. record {
         name = (each key.Name).1 i;
-        periods = (count key.Periods ∙ quotient m.periods) i;
-        destinations = (count key.Destinations ∙ quotient m.destinations) i;
-        resources = (count key.Resources ∙ quotient m.resources) i;
+        periods = count key.Periods i;
+        destinations = count key.Destinations i;
+        resources = count key.Resources i;
         rate = (ap pos (count key.Rate) ∙ rate) i;
       };
     }
@@ -243,33 +207,34 @@ StatedAs problem n lines m = (d : ModelDraftView) × StateModel problem n lines 
 
 sections_back : (problem : Problem) (n : ℕ) (m : StatedModel) (lines : List Line) (name : List ℕ) (h : Header) → is_complete h ≡ true
     → (are : AreModelLines problem n lines (with_header m (header_stated name h)))
-    → StateAny (blank_model problem n) are.heading (heading problem n name h)
+    → read_lines line_stated (blank_model problem n) are.heading ≡ Ok (heading problem n name h)
     → StatedAs problem n lines (with_header m (header_stated name h))
 sections_back problem n m lines name h complete are header =
     let at = draft problem n name h in
-    let values = items_state model_grammar (λ block line vs. SpellValues n (header_stated name h) block (fields_of line) vs)
+    let values = items_state line_stated (λ block line vs. SpellsValues n (count_in h key.Destinations) block (fields_of line) vs)
     (λ done. at Objective done [] []) m.values
-    (λ _ done x rest line cut s. values_states (at Objective done [] []) x line.text s) 0 [] m.values are.values refl refl are.spell_values in
-    let coefs = items_state model_grammar (λ _ line c. SpellCoef problem n (header_stated name h) (fields_of line) c)
+    (λ done x rest line cut s. values_states (at Objective done [] []) x line s) 0 [] m.values are.values refl refl are.spell_values in
+    let coefs = items_state line_stated (λ _ line c. SpellsCoef problem n (count_in h key.Destinations) (count_in h key.Resources) (fields_of line) c)
     (λ done. at Coefs m.values done []) m.coefs
-    (λ _ done x rest line cut s. coef_states (at Coefs m.values done []) x line.text s
-    (behind_last coef_before m.coefs done x rest cut are.rising_coefs)) 0 [] m.coefs are.coefs refl refl are.spell_coefs in
-    let limits = items_state model_grammar (λ _ line l. SpellLimit (header_stated name h) (fields_of line) l)
+    (λ done x rest line cut s. coef_states (at Coefs m.values done []) x line s (behind_last coef_before m.coefs done x rest cut are.rising_coefs))
+    0 [] m.coefs are.coefs refl refl are.spell_coefs in
+    let limits = items_state line_stated
+    (λ _ line l. SpellsLimit (count_in h key.Resources) (count_in h key.Periods) (fields_of line) l × (is_turned l.bound ≡ false))
     (λ done. at Limits m.values m.coefs done) m.limits
-    (λ _ done x rest line cut s. limit_states (at Limits m.values m.coefs done) x line.text s
+    (λ done x rest line cut s. limit_states (at Limits m.values m.coefs done) x line s
     (behind_last stands_before m.limits done x rest cut are.rising_limits)) 0 [] m.limits are.limits refl refl are.spell_limits in
     let objective = section_states (at Heading [] [] []) Objective are.objective.text are.begin_values refl complete in
     let coefficients = section_states (at Objective m.values [] []) Coefs are.coefficients.text are.begin_coefs refl
     (eq-eqb (length m.values) n are.all_values) in
     let resource_limits = section_states (at Coefs m.values m.coefs []) Limits are.resource_limits.text are.begin_limits refl refl in
     let last = at Limits m.values m.coefs m.limits in
-    let behind_coefs = line_then _ _ last are.resource_limits are.limits resource_limits limits in
-    let behind_values = line_then _ _ last are.coefficients _ coefficients (lines_then _ _ last are.coefs _ coefs behind_coefs) in
-    let behind_header = line_then _ _ last are.objective _ objective (lines_then _ _ last are.values _ values behind_values) in
-    let all = lines_then _ _ last are.heading _ header behind_header 1 in (
+    let behind_coefs = line_then line_stated _ _ last are.resource_limits are.limits resource_limits limits in
+    let behind_values = line_then line_stated _ _ last are.coefficients _ coefficients (lines_then line_stated _ _ last are.coefs _ coefs behind_coefs) in
+    let behind_header = line_then line_stated _ _ last are.objective _ objective (lines_then line_stated _ _ last are.values _ values behind_values) in
+    let all = lines_then line_stated _ _ last are.heading _ header behind_header in (
       last,
       (
-        subst (λ lines. AllState model_grammar 1 (blank_model problem n) lines last) (sym are.cut) all,
+        subst (λ lines. read_lines line_stated (blank_model problem n) lines ≡ Ok last) (sym are.cut) all,
         rw (complete, eq-eqb (length m.values) n are.all_values) refl,
       ),
       refl,
@@ -280,5 +245,5 @@ pub spelled_stated : (problem : Problem) (n : ℕ) (lines : List Line) (m : Stat
 spelled_stated problem n lines m are =
     let h = header_back problem n m.header are.heading are.destinations are.spell_header in
     subst (λ header. (are : AreModelLines problem n lines (with_header m header))
-    → StateAny (blank_model problem n) are.heading (heading problem n h.name h.h) → StatedAs problem n lines (with_header m header))
+    → read_lines line_stated (blank_model problem n) are.heading ≡ Ok (heading problem n h.name h.h) → StatedAs problem n lines (with_header m header))
     h.stated (sections_back problem n m lines h.name h.h h.complete) are h.states

@@ -1,40 +1,38 @@
 -- The lines that state a model spell what it states.
-use Rattle.std.specs.Prelude.{◌≡◌, ℕ, suc, ◌+◌, ◌≤◌, ◌==◌, ◌&&◌, true, List, [], ◌∷◌, ◌++◌, length, ℤ, AllPairs, IsTrue}
-use Rattle.std.proofs.Common.{refl, sym, ◌∙◌, ap, subst, arith, append_assoc, append-nil, length-append}
+use Rattle.std.specs.Prelude.{AllPairs, Err, IsTrue, List, Ok, Result, ℕ, ℤ, ◌&&◌, ◌==◌}
+use Rattle.std.proofs.Common.{[], ap, append-nil, append_assoc, arith, false, length, length-append, refl, subst, sym, true, ◌++◌, ◌+◌, ◌∙◌, ◌∷◌, ◌≡◌, ◌≤◌}
 use Rattle.std.proofs.lemmas.Bool.{and_parts, eqb-true}
-use Rattle.forms.proofs.FormFacts.{spelled_fit}
-use Rattle.forms.specs.Words.{AllState, Says, States}
-use Rattle.pit_parts.specs.PlanKept.{RiseStrictly, stands_before}
-use Rattle.mine_instance.specs.Order.{coef_before}
-use Rattle.mine_instance.proofs.OrderLaws.{coef_before_is_transitive, stands_before_is_transitive}
+use Rattle.pit_units.specs.Steps.{◌>>=◌}
+use Rattle.pit_parts.specs.PlanKept.{RiseStrictly, is_turned, stands_before}
 use Rattle.pit_parts.specs.declared.limit.Limit.{Limit}
+use Rattle.mine_instance.proofs.OrderLaws.{coef_before_is_transitive, stands_before_is_transitive}
+use Rattle.mine_instance.specs.Order.{coef_before}
 use Rattle.mine_instance.specs.declared.coefs.coef.Coef.{Coef}
+use Rattle.text_lines.proofs.ReadSteps.{same_ok}
+use Rattle.text_lines.specs.Reading.{at_line, read_lines}
 use Rattle.text_lines.specs.TextLines.{Line, fields_of}
-use Rattle.minelib_lines.specs.declared.problem.Problem.{Problem}
-use Rattle.minelib_reading.specs.HeaderNumbers.{count_in, is_complete}
-use Rattle.minelib_reading.specs.ModelDraft.{ModelDraftView, blank_model, is_heading, is_limits, is_ready}
-use Rattle.minelib_reading.specs.shapes.ModelLines.{coef_line, header_line, limit_line, model_grammar, model_line, section_line, values_line}
-use Rattle.minelib_reading.specs.shapes.ModelStates.{StateModel, header_stated, stated_by}
-use Rattle.minelib_lines.specs.HeaderTable.{field_of, key_value}
-use Rattle.minelib_lines.specs.HeaderKeys.{has_key, key_word, type_text}
-use Rattle.minelib_lines.specs.LineValues.{values_values}
-use Rattle.minelib_reading.specs.shapes.ItemForms.{values_form}
-use Rattle.minelib_reading.specs.spelled.SpelledKeys.{IsKeyLine}
-use Rattle.minelib_reading.specs.ModelKeys.{section_text}
-use Rattle.minelib_reading.specs.spelled.SpelledLines.{AreLines}
-use Rattle.minelib_reading.specs.spelled.SpelledModel.{AreModelLines, SpellCoef, SpellLimit, SpellValues}
+use Rattle.text_lines.specs.declared.text_fault.TextKind.{TextKind}
+use Rattle.minelib_lines.specs.HeaderKeys.{has_key, key_word}
 use Rattle.minelib_lines.specs.declared.header_key.HeaderKey.{HeaderKey}
 use Rattle.minelib_lines.specs.declared.header_key.HeaderKey.TheVariants as key
-use Rattle.minelib_reading.specs.declared.model.key.Section.{Section}
-use Rattle.minelib_reading.specs.declared.model.key.Section.TheVariants.{Heading, Objective, Coefs, Limits}
+use Rattle.minelib_lines.specs.declared.problem.Problem.{Problem}
 use Rattle.minelib_reading.proofs.keys.HeaderLines.{Heads, WholeHeader, heads_more, heads_none, heads_whole}
-use Rattle.minelib_reading.proofs.lines.ItemLines.{line_more}
 use Rattle.minelib_reading.proofs.keys.KeyLines.{next_by}
-use Rattle.minelib_reading.proofs.models.ModelShapes.{each_line}
-use Rattle.minelib_reading.proofs.models.ModelSteps.{coef_step, key_step, limit_step, no_stray, section_step, values_step}
+use Rattle.minelib_reading.proofs.lines.ItemLines.{line_more}
+use Rattle.minelib_reading.proofs.models.LineCases.{each_line}
+use Rattle.minelib_reading.proofs.models.ModelSteps.{coef_step, key_step, limit_step, section_step, values_step}
 use Rattle.minelib_reading.proofs.models.Places.{rises_behind}
-use Rattle.minelib_reading.proofs.lines.ValuesLineFacts.{many_fine}
-use Rattle.minelib_reading.proofs.lines.FormFields.{whole_low}
+use Rattle.minelib_reading.specs.HeaderNumbers.{count_in, is_complete}
+use Rattle.minelib_reading.specs.ModelDraft.{ModelDraftView, blank_model, is_heading, is_limits, is_ready}
+use Rattle.minelib_reading.specs.ModelKeys.{section_text}
+use Rattle.minelib_reading.specs.ModelText.{item_stated, key_stated, line_stated, section_stated}
+use Rattle.minelib_reading.specs.StatedModel.{header_stated, stated_by}
+use Rattle.minelib_reading.specs.declared.model.key.Section.{Section}
+use Rattle.minelib_reading.specs.declared.model.key.Section.TheVariants.{Coefs, Heading, Limits, Objective}
+use Rattle.minelib_reading.specs.spelled.SpelledItems.{SpellsCoef, SpellsLimit, SpellsValues}
+use Rattle.minelib_reading.specs.spelled.SpelledKeys.{IsKeyLine}
+use Rattle.minelib_reading.specs.spelled.SpelledLines.{AreLines}
+use Rattle.minelib_reading.specs.spelled.SpelledModel.{AreModelLines, SpellsKey, StateModel}
 
 -- the lines of a section so far: those before it, the line that begins it, and one for each item, which keep something together
 pub record Part {A : Type 0} (Before : List Line → Type 0) (section : Section) (Spells : ℕ → List ℕ → A → Type 0)
@@ -49,14 +47,16 @@ pub record Part {A : Type 0} (Before : List Line → Type 0) (section : Section)
   pub kept : Keeps items
 
 -- how a line spells a block's values, a coefficient and a limit
-abbrev SpellsValues : ModelDraftView → ℕ → List ℕ → List ℤ → Type 0
-SpellsValues d block line vs = SpellValues d.blocks (header_stated d.name d.header) block (fields_of line) vs
+abbrev Values : ModelDraftView → ℕ → List ℕ → List ℤ → Type 0
+Values d block line vs = SpellsValues d.blocks (count_in d.header key.Destinations) block (fields_of line) vs
 
-abbrev SpellsCoef : ModelDraftView → ℕ → List ℕ → Coef → Type 0
-SpellsCoef d n line c = SpellCoef d.problem d.blocks (header_stated d.name d.header) (fields_of line) c
+abbrev Coefficient : ModelDraftView → ℕ → List ℕ → Coef → Type 0
+Coefficient d n line c =
+    SpellsCoef d.problem d.blocks (count_in d.header key.Destinations) (count_in d.header key.Resources) (fields_of line) c
 
-abbrev SpellsLimit : ModelDraftView → ℕ → List ℕ → Limit → Type 0
-SpellsLimit d n line l = SpellLimit (header_stated d.name d.header) (fields_of line) l
+abbrev ALimit : ModelDraftView → ℕ → List ℕ → Limit → Type 0
+ALimit d n line l =
+    SpellsLimit (count_in d.header key.Resources) (count_in d.header key.Periods) (fields_of line) l × (is_turned l.bound ≡ false)
 
 -- there are no more values than blocks; coefficients rise
 abbrev AreFew : ModelDraftView → List (List ℤ) → Type 0
@@ -70,13 +70,13 @@ abbrev InHeading : ModelDraftView → List Line → Type 0
 InHeading d done = Heads d.problem d.blocks d.name d.header done
 
 abbrev InValues : ModelDraftView → List Line → Type 0
-InValues d done = Part (WholeHeader d.problem d.blocks d.name d.header) Objective (SpellsValues d) (AreFew d) d.values done
+InValues d done = Part (WholeHeader d.problem d.blocks d.name d.header) Objective (Values d) (AreFew d) d.values done
 
 abbrev InCoefs : ModelDraftView → List Line → Type 0
-InCoefs d done = Part (InValues d) Coefs (SpellsCoef d) CoefsRise d.coefs done
+InCoefs d done = Part (InValues d) Coefs (Coefficient d) CoefsRise d.coefs done
 
 abbrev InLimits : ModelDraftView → List Line → Type 0
-InLimits d done = Part (InCoefs d) Limits (SpellsLimit d) RiseStrictly d.limits done
+InLimits d done = Part (InCoefs d) Limits (ALimit d) RiseStrictly d.limits done
 
 -- and no item of a later section
 abbrev pub At : Section → ModelDraftView → List Line → Type 0
@@ -130,11 +130,11 @@ in_limits Limits e = refl
 in_limits section e = absurd cc
 
 -- a line that states something
-stepped : (problem : Problem) (n : ℕ) (done : List Line) (d next : ModelDraftView) (line : Line) → States (model_line d line.text) next
+stepped : (problem : Problem) (n : ℕ) (done : List Line) (d next : ModelDraftView) (line : Line) → line_stated d line.text ≡ Ok next
     → Now problem n d done → Now problem n next (done ++ line ∷ [])
 stepped problem n done d next line states was =
-    each_line (λ shape. States shape next → Now problem n next (done ++ line ∷ [])) d line.text
-    (λ s. absurd (no_stray d next s)) keyed begun valued spent limited states
+    each_line (λ answer. answer ≡ Ok next → Now problem n next (done ++ line ∷ [])) d line.text
+    (λ e. absurd cc) keyed begun valued spent limited states
   where
     -- it leaves the section as it is
     within : (after : ModelDraftView) (section : Section) → next ≡ after → d.section ≡ section → after.section ≡ section
@@ -147,12 +147,11 @@ stepped problem n done d next line states was =
     })
 
     keyed : (k : HeaderKey) (fields : List (List ℕ)) → IsKeyLine (key_word k) line.text fields → has_key d.problem k ≡ true
-        → States (header_line d k fields) next → Now problem n next (done ++ line ∷ [])
+        → key_stated d k fields ≡ Ok next → Now problem n next (done ++ line ∷ [])
     keyed k fields is_key has states =
         let s = key_step d next k fields states in
         let here = in_heading d.section s.heading in
-        let says = subst (λ (e : ModelDraftView). Says (field_of d.problem k) s.value
-        (key_value (type_text d.problem) d.blocks (header_stated e.name e.header) k)) s.is s.says in
+        let says = subst (λ (e : ModelDraftView). SpellsKey d.problem d.blocks (header_stated e.name e.header) k s.value) s.is s.says in
         within _ Heading s.is here here refl refl (λ heading. (
           heads_more d.problem d.blocks k s.value d.name d.header s.number done line s.new (record {
             value = s.value;
@@ -166,7 +165,7 @@ stepped problem n done d next line states was =
         ))
 
     begun : (section : Section) (fields : List (List ℕ)) → IsKeyLine (section_text section) line.text fields
-        → States (section_line d section fields) next → Now problem n next (done ++ line ∷ [])
+        → section_stated d section fields ≡ Ok next → Now problem n next (done ++ line ∷ [])
     begun section fields is_key states =
         let s = section_step d next section fields states in
         subst (λ d. Now problem n d (done ++ line ∷ [])) (sym s.is) (record {
@@ -175,71 +174,75 @@ stepped problem n done d next line states was =
           at = next_by (λ now later. IsKeyLine (section_text later) line.text [] → is_ready d now ≡ true → At now d done
               → At later (record d { section = later }) (done ++ line ∷ []))
               (λ begins ready was. (
-                part_first (WholeHeader d.problem d.blocks d.name d.header) Objective (SpellsValues d) (AreFew d) d.values done line was.1
+                part_first (WholeHeader d.problem d.blocks d.name d.header) Objective (Values d) (AreFew d) d.values done line was.1
                     (heads_whole d.problem d.blocks d.name d.header done ready was.0) begins (omega arith),
                 was.2,
                 was.3,
               ))
               (λ begins ready was. (
-                part_first (InValues d) Coefs (SpellsCoef d) CoefsRise d.coefs done line was.1 was.0 begins
+                part_first (InValues d) Coefs (Coefficient d) CoefsRise d.coefs done line was.1 was.0 begins
                     (λ i j c less high. absurd (omega arith)),
                 eqb-true (length d.values) d.blocks ready,
                 was.2,
               ))
               (λ begins ready was. (
-                part_first (InCoefs d) Limits (SpellsLimit d) RiseStrictly d.limits done line was.2 was.0 begins
+                part_first (InCoefs d) Limits (ALimit d) RiseStrictly d.limits done line was.2 was.0 begins
                     (λ i j l less high. absurd (omega arith)),
                 was.1,
               ))
               d.section section s.follows (subst (IsKeyLine (section_text section) line.text) s.none is_key) s.ready was.at;
         })
 
-    valued : d.section ≡ Objective → States (values_line d (fields_of line.text)) next → Now problem n next (done ++ line ∷ [])
+    valued : d.section ≡ Objective → item_stated d Objective (fields_of line.text) ≡ Ok next → Now problem n next (done ++ line ∷ [])
     valued here states =
-        let s = values_step d next (fields_of line.text) states in
-        let destinations = count_in d.header key.Destinations in
-        let fit = spelled_fit (values_form d.blocks destinations) (fields_of line.text) (values_values (length d.values) s.0)
-        (many_fine destinations) s.2 in
-        let place = whole_low d.blocks (length d.values) fit.0 in
+        let s = values_step d (fields_of line.text) next states in
+        let place = s.2.id.1 in
         within _ Objective s.1 here here refl refl (λ before. (
-          part_more (WholeHeader d.problem d.blocks d.name d.header) Objective (SpellsValues d) (AreFew d) d.values done line s.0 s.2
+          part_more (WholeHeader d.problem d.blocks d.name d.header) Objective (Values d) (AreFew d) d.values done line s.0 s.2
               (omega (arith, place, length-append d.values (s.0 ∷ []))) before.0,
           before.1,
           before.2,
         ))
 
-    spent : d.section ≡ Coefs → States (coef_line d (fields_of line.text)) next → Now problem n next (done ++ line ∷ [])
+    spent : d.section ≡ Coefs → item_stated d Coefs (fields_of line.text) ≡ Ok next → Now problem n next (done ++ line ∷ [])
     spent here states =
-        let s = coef_step d next (fields_of line.text) states in
+        let s = coef_step d (fields_of line.text) next states in
         within _ Coefs s.1 here here refl refl (λ before. (
-          part_more (InValues d) Coefs (SpellsCoef d) CoefsRise d.coefs done line s.0 s.2
+          part_more (InValues d) Coefs (Coefficient d) CoefsRise d.coefs done line s.0 s.2
               (rises_behind coef_before coef_before_is_transitive d.coefs s.0 before.0.kept s.3) before.0,
           before.1,
           before.2,
         ))
 
-    limited : d.section ≡ Limits → States (limit_line d (fields_of line.text)) next → Now problem n next (done ++ line ∷ [])
+    limited : d.section ≡ Limits → item_stated d Limits (fields_of line.text) ≡ Ok next → Now problem n next (done ++ line ∷ [])
     limited here states =
-        let s = limit_step d next (fields_of line.text) states in
+        let s = limit_step d (fields_of line.text) next states in
         within _ Limits s.1 here here refl refl (λ before. (
-          part_more (InCoefs d) Limits (SpellsLimit d) RiseStrictly d.limits done line s.0 s.2
-              (rises_behind stands_before stands_before_is_transitive d.limits s.0 before.0.kept s.3) before.0,
+          part_more (InCoefs d) Limits (ALimit d) RiseStrictly d.limits done line s.0 (s.2, s.3)
+              (rises_behind stands_before stands_before_is_transitive d.limits s.0 before.0.kept s.4) before.0,
           before.1,
         ))
 
 -- lines behind others
-all_now : (problem : Problem) (n number : ℕ) (done : List Line) (d : ModelDraftView) (lines : List Line) (last : ModelDraftView)
-    → Now problem n d done → AllState model_grammar number d lines last → Now problem n last (done ++ lines)
-all_now problem n number done d [] last was all =
-    subst (λ d. Now problem n d (done ++ [])) (sym all) (subst (Now problem n d) (sym (append-nil done)) was)
-all_now problem n number done d (line ∷ lines) last was (next, states, more) =
-    subst (Now problem n last) (append_assoc done (line ∷ []) lines)
-    (all_now problem n (suc number) (done ++ line ∷ []) next lines last (stepped problem n done d next line states was) more)
+all_now : (problem : Problem) (n : ℕ) (done : List Line) (d : ModelDraftView) (lines : List Line) (last : ModelDraftView)
+    → Now problem n d done → read_lines line_stated d lines ≡ Ok last → Now problem n last (done ++ lines)
+all_now problem n done d [] last was all =
+    subst (λ d. Now problem n d (done ++ [])) (same_ok d last all) (subst (Now problem n d) (sym (append-nil done)) was)
+all_now problem n done d (line ∷ lines) last was all =
+    by (λ next now more. all_now problem n (done ++ line ∷ []) next lines last now more) (line_stated d line.text) refl all
+  where
+    by : ((next : ModelDraftView) → Now problem n next (done ++ line ∷ []) → read_lines line_stated next lines ≡ Ok last
+        → Now problem n last ((done ++ line ∷ []) ++ lines))
+        → (r : Result ModelDraftView TextKind) → line_stated d line.text ≡ r
+        → (at_line line.number r >>= λ next. read_lines line_stated next lines) ≡ Ok last → Now problem n last (done ++ line ∷ lines)
+    by deeper (Ok next) states more =
+        subst (Now problem n last) (append_assoc done (line ∷ []) lines) (deeper next (stepped problem n done d next line states was) more)
+    by deeper (Err kind) states more = absurd cc
 
-pub lines_now : (problem : Problem) (n number : ℕ) (lines : List Line) (d : ModelDraftView)
-    → AllState model_grammar number (blank_model problem n) lines d → Now problem n d lines
-lines_now problem n number lines d all =
-    all_now problem n number [] (blank_model problem n) lines d
+pub lines_now : (problem : Problem) (n : ℕ) (lines : List Line) (d : ModelDraftView)
+    → read_lines line_stated (blank_model problem n) lines ≡ Ok d → Now problem n d lines
+lines_now problem n lines d all =
+    all_now problem n [] (blank_model problem n) lines d
     (record { of_problem = refl; of_blocks = refl; at = (heads_none problem n, refl, refl, refl) }) all
 
 -- all lines, cut into the header and the three sections
@@ -279,7 +282,7 @@ pub stated_spelled : (problem : Problem) (n : ℕ) (lines : List Line) (d : Mode
     → AreModelLines problem n lines (stated_by d)
 stated_spelled problem n lines d (all, is) =
     let ends = (and_parts (is_complete d.header && (length d.values == d.blocks)) (is_limits d.section) is).1 in
-    let now = lines_now problem n 1 lines d all in
+    let now = lines_now problem n lines d all in
     let limits = subst (λ section. At section d lines) (in_limits d.section ends) now.at in
     subst (λ k. AreModelLines problem k lines (stated_by d)) now.of_blocks
     (subst (λ p. AreModelLines p d.blocks lines (stated_by d)) now.of_problem (whole d lines limits.0 limits.1))

@@ -1,47 +1,31 @@
--- Blocks and predecessors are read line by line, as the code reads them, and as what their lines state.
-use Rattle.std.specs.Prelude.{◌≡◌, ℕ, ◌==◌, List, [], length, Result, Ok, Err, ◌⊎◌}
-use Rattle.std.proofs.Common.{refl, sym, ◌∙◌, ap, inl, inr, eq-eqb}
-use Rattle.std.proofs.lemmas.Bool.{eqb-true}
-use Rattle.forms.proofs.GrammarFacts.{all_read, read_all_states, read_first_fault}
-use Rattle.forms.specs.Words.{HasFineForms, read_all, AllState, IsFirstFault, ◌>>=◌}
+-- Blocks and predecessors are read line by line, and exactly where their lines spell them.
+use Rattle.std.specs.Prelude.{Bool, Err, List, Ok, Result, if◌then◌else◌, ℕ, ◌==◌, ◌⊎◌}
+use Rattle.std.proofs.Common.{[], ap, false, inl, inr, length, refl, subst, sym, true, ◌++◌, ◌∙◌, ◌∷◌, ◌≡◌}
+use Rattle.std.proofs.lemmas.Bool.{eq-eqb, eqb-true}
+use Rattle.pit_units.proofs.Exactly.{Exactly, as_, done, then_}
 use Rattle.pit_units.specs.OrMemory.{Gives}
+use Rattle.pit_units.specs.Steps.{◌>>=◌}
 use Rattle.pit_units.specs.declared.or_memory.OrMemory.{OrMemory}
 use Rattle.pit_units.specs.declared.or_memory.OrMemory.TheVariants.{Fault, OutOfMemory}
-use Rattle.pit_parts.specs.declared.block.Block.{Block}
-use Rattle.minelib_reading.specs.shapes.BlockLines.{block_grammar, block_shape}
-use Rattle.minelib_reading.specs.BlockText.{blocks_in}
-use Rattle.minelib_reading.specs.inner.LinesTaken.{PrecDraftView, admit_block, admit_preds, block_said, no_lists, preds_said}
-use Rattle.minelib_reading.specs.shapes.PrecLines.{LacksLines, prec_grammar, preds_shape}
-use Rattle.minelib_reading.specs.PrecText.{finish_preds, preds_in}
-use Rattle.text_lines.specs.Reading.{Leaves, read_lines}
-use Rattle.text_lines.specs.TextLines.{end_of, fields_of, lines_in}
+use Rattle.text_lines.proofs.LinesRead.{first_fault, kept_beside}
+use Rattle.text_lines.proofs.ReadSteps.{err_same, then_err}
+use Rattle.text_lines.specs.Reading.{IsFirstFault, Leaves, read_lines}
+use Rattle.text_lines.specs.TextLines.{Line, end_of, fields_of, lines_in}
 use Rattle.text_lines.specs.declared.text_fault.LineFault.{LineFault}
-use Rattle.minelib_reading.proofs.models.Finished.{finished_fails, finished_states, states_finished}
-use Rattle.text_lines.proofs.ItemGrammarFacts.{lines_read}
-use Rattle.minelib_reading.proofs.lines.PrecLineFacts.{fine}
-use Rattle.minelib_reading.proofs.plain.TextForms.{blocks_are, lists_are, same_again}
-use Rattle.minelib_reading.specs.shapes.BlockLines.{blocks_by_shapes}
+use Rattle.text_lines.specs.declared.text_fault.TextKind.{TextKind}
+use Rattle.minelib_reading.proofs.lines.ItemLines.{items_exact}
+use Rattle.minelib_reading.proofs.lines.LineFacts.{block_exact, preds_exact}
+use Rattle.minelib_reading.specs.BlockText.{block_stated, blocks_in, with_block}
+use Rattle.minelib_reading.specs.PrecText.{LacksLines, finish_preds, lines_missing, preds_in, preds_stated, with_preds}
+use Rattle.minelib_reading.specs.inner.LinesTaken.{PrecDraftView, admit_preds, no_lists}
+use Rattle.minelib_reading.specs.spelled.SpelledItems.{SpellsBlock, SpellsPreds}
+use Rattle.minelib_reading.specs.spelled.SpelledLines.{AreLines}
+use Rattle.minelib_reading.specs.spelled.SpelledTexts.{SpellBlocks, SpellPreds}
 
-fine_blocks : HasFineForms block_grammar
-fine_blocks number blocks line = refl
-
-pub blocks_read : (text : List ℕ) → read_lines admit_block [] (lines_in text) ≡ blocks_in text
-unfolding block_said
-blocks_read text =
-    lines_read block_shape (λ blocks. blocks) admit_block (λ blocks line. refl) 1 [] (lines_in text)
-    ∙ same_again (blocks_by_shapes text) ∙ sym (blocks_are text)
-
-pub blocks_spelled : (text : List ℕ) (blocks : List Block) → blocks_in text ≡ Ok blocks → AllState block_grammar 1 [] (lines_in text) blocks
-blocks_spelled text blocks e = read_all_states block_grammar 1 [] (lines_in text) blocks fine_blocks (sym (blocks_are text) ∙ e)
-
-pub blocks_back : (text : List ℕ) (blocks : List Block) → AllState block_grammar 1 [] (lines_in text) blocks → blocks_in text ≡ Ok blocks
-blocks_back text blocks all = blocks_are text ∙ all_read block_grammar 1 [] (lines_in text) blocks fine_blocks all
-
-pub bad_block : (text : List ℕ) (fault : LineFault) → blocks_in text ≡ Err fault → IsFirstFault block_grammar 1 [] (lines_in text) fault
-bad_block text fault e = read_first_fault block_grammar 1 [] (lines_in text) fault fine_blocks (sym (blocks_are text) ∙ e)
-
-fine_preds : (n : ℕ) → HasFineForms (prec_grammar n)
-fine_preds n number lists line = fine n (fields_of line.text)
+pub blocks_exact : (text : List ℕ) → Exactly (blocks_in text) (SpellBlocks text)
+blocks_exact text =
+    items_exact (λ n line. block_stated n (fields_of line)) (λ id line b. SpellsBlock id (fields_of line) b) (λ n line. block_exact n (fields_of line))
+    (lines_in text)
 
 -- a precedence file of n blocks, of which these lists were read
 abbrev pub draft_of : ℕ → List (List ℕ) → PrecDraftView
@@ -49,12 +33,16 @@ draft_of n lists = record { blocks = n; lists = lists }
 
 pub preds_read : (n : ℕ) (text : List ℕ)
     → (read_lines admit_preds (no_lists n) (lines_in text) >>= λ d. finish_preds d.blocks (end_of text) d.lists) ≡ preds_in n text
-unfolding preds_said
 preds_read n text =
     ap (λ r. r >>= λ d. finish_preds d.blocks (end_of text) d.lists)
-    (lines_read (preds_shape n) (draft_of n) admit_preds (λ lists line. refl) 1 [] (lines_in text))
-    ∙ by (read_all (prec_grammar n) 1 [] (lines_in text)) ∙ sym (lists_are n text)
+    (kept_beside (draft_of n) (with_preds n) admit_preds (λ lists line. same (preds_stated n (length lists) (fields_of line)) lists) [] (lines_in text))
+    ∙ by (read_lines (with_preds n) [] (lines_in text))
   where
+    same : (r : Result (List ℕ) TextKind) (lists : List (List ℕ))
+        → (r >>= λ ids. Ok (draft_of n (lists ++ ids ∷ []))) ≡ ((r >>= λ ids. Ok (lists ++ ids ∷ [])) >>= λ next. Ok (draft_of n next))
+    same (Ok ids) lists = refl
+    same (Err kind) lists = refl
+
     by : (r : Result (List (List ℕ)) LineFault)
         → ((r >>= λ lists. Ok (draft_of n lists)) >>= λ d. finish_preds d.blocks (end_of text) d.lists)
         ≡ (r >>= finish_preds n (end_of text))
@@ -74,21 +62,45 @@ preds_stopped n text after (Fault fault) read =
     sym (preds_read n text) ∙ ap (λ r. r >>= λ d. finish_preds d.blocks (end_of text) d.lists) read
 preds_stopped n text after OutOfMemory read = tt
 
-pub preds_spelled : (n : ℕ) (text : List ℕ) (lists : List (List ℕ)) → preds_in n text ≡ Ok lists
-    → (length lists ≡ n) × AllState (prec_grammar n) 1 [] (lines_in text) lists
-preds_spelled n text lists e =
-    let f = finished_states (prec_grammar n) (fine_preds n) [] (lines_in text) (λ lists. length lists == n) _ lists (sym (lists_are n text) ∙ e) in
-    (eqb-true (length lists) n f.1, f.0)
+ends : {S : Type 0} (t : Bool) (s : S) (fault : LineFault) → Exactly (if t then Ok s else Err fault) (λ y. (t ≡ true) × (y ≡ s))
+ends true s fault = as_ (done s) (λ y e. (refl, e)) (λ y h. h.1)
+ends false s fault = record { told = λ y e. absurd cc; back = λ y h. absurd (cc (h.0)) }
 
-pub lists_back : (n : ℕ) (text : List ℕ) (lists : List (List ℕ)) → length lists ≡ n → AllState (prec_grammar n) 1 [] (lines_in text) lists
-    → preds_in n text ≡ Ok lists
-lists_back n text lists count all =
-    lists_are n text ∙ states_finished (prec_grammar n) (fine_preds n) [] (lines_in text) (λ lists. length lists == n) _ lists all (eq-eqb (length lists) n count)
+pub lists_exact : (n : ℕ) (text : List ℕ) → Exactly (preds_in n text) (SpellPreds n text)
+lists_exact n text =
+    as_ (then_ (items_exact (λ own line. preds_stated n own (fields_of line)) (λ own line ids. SpellsPreds n own (fields_of line) ids)
+    (λ own line. preds_exact n own (fields_of line)) (lines_in text)) (λ lists. ends (length lists == n) lists (lines_missing (end_of text)))) to from
+  where
+    Lines : List (List ℕ) → Type 0
+    Lines lists = AreLines (λ own line ids. SpellsPreds n own (fields_of line) ids) 0 (lines_in text) lists
+
+    Ended : List (List ℕ) → Type 0
+    Ended all = (lists : List (List ℕ)) × Lines lists × (((length lists == n) ≡ true) × (all ≡ lists))
+
+    to : (all : List (List ℕ)) → Ended all → SpellPreds n text all
+    to all h = (ap length h.2.1 ∙ eqb-true (length h.0) n h.2.0, subst Lines (sym h.2.1) h.1)
+
+    from : (all : List (List ℕ)) → SpellPreds n text all → Ended all
+    from all h = (all, h.1, (eq-eqb (length all) n h.0, refl))
+
+pub bad_block : (text : List ℕ) (fault : LineFault) → blocks_in text ≡ Err fault → IsFirstFault with_block [] (lines_in text) fault
+bad_block text fault e = first_fault with_block (lines_in text) [] fault e
+
+-- the fault of a file that a test ends: a faulty line, or something is lacking behind the last
+pub ended_fails : {S : Type 0} (admit : S → List ℕ → Result S TextKind) (s : S) (lines : List Line) (ended : S → Bool) (lacks fault : LineFault)
+    → (read_lines admit s lines >>= λ last. if ended last then Ok last else Err lacks) ≡ Err fault
+    → IsFirstFault admit s lines fault ⊎ ((last : S) × (read_lines admit s lines ≡ Ok last) × (ended last ≡ false) × (lacks ≡ fault))
+ended_fails {S} admit s lines ended lacks fault e = by (read_lines admit s lines) refl e
+  where
+    by : (r : Result S LineFault) → read_lines admit s lines ≡ r → (r >>= λ last. if ended last then Ok last else Err lacks) ≡ Err fault
+        → IsFirstFault admit s lines fault ⊎ ((last : S) × (read_lines admit s lines ≡ Ok last) × (ended last ≡ false) × (lacks ≡ fault))
+    by (Ok last) read e = let t = then_err (ended last) lacks fault last e in inr (last, read, t.0, t.1)
+    by (Err found) read e = inl (first_fault admit lines s fault (read ∙ ap Err (err_same {B = S} found fault e)))
 
 pub bad_preds : (n : ℕ) (text : List ℕ) (fault : LineFault) → preds_in n text ≡ Err fault
-    → IsFirstFault (prec_grammar n) 1 [] (lines_in text) fault ⊎ LacksLines n text fault
+    → IsFirstFault (with_preds n) [] (lines_in text) fault ⊎ LacksLines n text fault
 bad_preds n text fault e =
-    elim (finished_fails (prec_grammar n) (fine_preds n) [] (lines_in text) (λ lists. length lists == n) _ fault (sym (lists_are n text) ∙ e)) [
+    elim (ended_fails (with_preds n) [] (lines_in text) (λ lists. length lists == n) (lines_missing (end_of text)) fault e) [
       | inl first ↦ inl first
       | inr lacks ↦ inr (record {
         lists = lacks.0;

@@ -1,33 +1,45 @@
--- Lines of blocks and of predecessors as the code takes them.
-use Rattle.std.specs.Prelude.{ℕ, List, [], ◌∷◌, ◌++◌, length, Result, Ok}
-use Rattle.forms.specs.Words.{read_fields, Shape, failing, said, unless, ◌>>=◌}
+-- Lines of blocks and of predecessors as the code takes them: field by field, and counted later.
+use Rattle.std.specs.Prelude.{ℕ, ◌*◌, ◌/◌, ◌==◌, ◌||◌, not, List, [], ◌∷◌, ◌++◌, length, Result, Ok, Err, if◌then◌else◌}
+use Rattle.pit_units.specs.Steps.{◌>>=◌}
+use Rattle.pit_parts.specs.Block.{block_with}
 use Rattle.pit_parts.specs.declared.block.Block.{Block}
-use Rattle.minelib_reading.specs.shapes.BlockLines.{block_shape}
-use Rattle.minelib_reading.specs.shapes.PrecLines.{preds_shape}
+use Rattle.pit_parts.specs.declared.ranges.TheConstants.{GRID_CELLS, MAX_BLOCKS, MAX_GRADE, MAX_KG, MAX_ZONES}
+use Rattle.minelib_reading.specs.PrecText.{all_differ, preds_stated, stands_in}
+use Rattle.text_lines.specs.FieldValues.{all_by, first_by}
+use Rattle.text_lines.specs.StatedFields.{below_in, size_in}
+use Rattle.text_lines.specs.TextLines.{fields_of}
 use Rattle.text_lines.specs.declared.text_fault.TextKind.{TextKind}
-
--- what a shape states, its texts read before they are counted
-abbrev pub uncounted : {S : Type 0} → Shape TextKind S → Result S TextKind
-uncounted shape =
-    read_fields shape.kinds shape.form shape.texts >>= λ values.
-    unless (failing (shape.last values)) (Ok (shape.next values))
+use Rattle.text_lines.specs.declared.text_fault.TextKind.TheVariants.{Count, Fields, Order, Twice}
 
 -- the block of a line
-unfoldable pub block_said : ℕ → List ℕ → Result Block TextKind
-block_said before line = said (block_shape before line)
+abbrev pub block_steps : ℕ → List (List ℕ) → Result Block TextKind
+block_steps before fields = do
+  id ← first_by (below_in MAX_BLOCKS) fields
+  x ← first_by (below_in GRID_CELLS) id.1
+  y ← first_by (below_in GRID_CELLS) x.1
+  z ← first_by (below_in GRID_CELLS) y.1
+  tonnes ← first_by (size_in 3 (MAX_KG * 1000)) z.1
+  grade ← first_by (size_in 6 MAX_GRADE) tonnes.1
+  zone ← first_by (below_in MAX_ZONES) grade.1
+  if not (length zone.1 == 0) then Err Fields else (
+      if not (id.0 == before) then Err Order
+      else Ok (block_with x.0 y.0 z.0 (tonnes.0 / 1000) grade.0 zone.0))
 
-unfoldable pub uncounted_block : ℕ → List ℕ → Result Block TextKind
-uncounted_block before line = uncounted (block_shape before line)
-
-abbrev pub admit_block : List Block → List ℕ → Result (List Block) TextKind
-admit_block blocks line = block_said (length blocks) line >>= λ b. Ok (blocks ++ b ∷ [])
+unfoldable pub uncounted_block : ℕ → List (List ℕ) → Result Block TextKind
+uncounted_block before fields = block_steps before fields
 
 -- the predecessors of a line
-unfoldable pub preds_said : ℕ → ℕ → List ℕ → Result (List ℕ) TextKind
-preds_said n own line = said (preds_shape n own line)
+abbrev pub preds_steps : ℕ → ℕ → List (List ℕ) → Result (List ℕ) TextKind
+preds_steps n own fields = do
+  id ← first_by (below_in n) fields
+  stated ← first_by (below_in n) id.1
+  ids ← all_by (below_in n) [] stated.1
+  if not (id.0 == own) then Err Order else (
+      if not (stated.0 == length ids) then Err Count else (
+      if stands_in ids own || not (all_differ ids) then Err Twice else Ok ids))
 
-unfoldable pub uncounted_preds : ℕ → ℕ → List ℕ → Result (List ℕ) TextKind
-uncounted_preds n own line = uncounted (preds_shape n own line)
+unfoldable pub uncounted_preds : ℕ → ℕ → List (List ℕ) → Result (List ℕ) TextKind
+uncounted_preds n own fields = preds_steps n own fields
 
 -- what the lines so far state, of so many blocks
 pub record PrecDraftView : Type 0 where
@@ -40,5 +52,5 @@ no_lists n = record { blocks = n; lists = [] }
 
 abbrev pub admit_preds : PrecDraftView → List ℕ → Result PrecDraftView TextKind
 admit_preds d line =
-    preds_said d.blocks (length d.lists) line >>= λ ids.
+    preds_stated d.blocks (length d.lists) (fields_of line) >>= λ ids.
     Ok (record d { lists = d.lists ++ ids ∷ [] })

@@ -1,45 +1,54 @@
 -- How the lines of a model file spell what it states: those of the header, and then the sections, each behind the line of its key.
 -- And the first line with which they can no longer become a model.
-use Rattle.std.specs.Prelude.{◌≡◌, ◌≢◌, ℕ, false, List, [], ◌∷◌, ◌++◌, length, AllPairs, IsTrue, ℤ}
+use Rattle.std.specs.Prelude.{◌≡◌, ◌≢◌, ℕ, ◌+◌, true, false, List, [], ◌∷◌, ◌++◌, length, AllPairs, IsTrue, pos, Ok}
 use Rattle.std.specs.List.{Contains}
-use Rattle.forms.specs.Words.{Says, Spell}
+use Rattle.pit_units.specs.SpelledNumbers.{SpellsBelow, SpellsNumber, SpellsWhole}
+use Rattle.pit_parts.specs.Name.{is_name}
 use Rattle.pit_parts.specs.PlanKept.{RiseStrictly, is_turned}
-use Rattle.pit_parts.specs.declared.limit.Limit.{Limit}
+use Rattle.pit_parts.specs.declared.ranges.TheConstants.{MAX_BLOCKS, MAX_DESTINATIONS, MAX_PERIODS, MAX_RATE, MAX_RESOURCES}
 use Rattle.mine_instance.specs.Order.{coef_before}
-use Rattle.mine_instance.specs.declared.coefs.coef.Coef.{Coef}
+use Rattle.text_lines.specs.Reading.{read_lines}
 use Rattle.text_lines.specs.TextLines.{Line, fields_of, lines_in, end_of}
 use Rattle.text_lines.specs.declared.text_fault.LineFault.{LineFault}
 use Rattle.text_lines.specs.declared.text_fault.TextKind.TheVariants.{Missing}
-use Rattle.minelib_lines.specs.HeaderTable.{field_of, key_value}
 use Rattle.minelib_lines.specs.HeaderKeys.{has_key, key_word, type_text}
-use Rattle.minelib_lines.specs.LineValues.{StatedHeader, coef_values, limit_values, values_values}
+use Rattle.minelib_lines.specs.StatedHeader.{StatedHeader}
+use Rattle.minelib_lines.specs.declared.header_key.HeaderKey.{HeaderKey}
+use Rattle.minelib_lines.specs.declared.header_key.HeaderKey.TheVariants as key
 use Rattle.minelib_lines.specs.declared.problem.Problem.{Problem}
 use Rattle.minelib_lines.specs.declared.problem.Problem.TheVariants.{Pcpsp, Cpit}
-use Rattle.minelib_reading.specs.shapes.ItemForms.{coef_form, limit_form, values_form}
-use Rattle.minelib_reading.specs.spelled.SpelledKeys.{IsKeyLine}
+use Rattle.minelib_reading.specs.ModelDraft.{ModelDraftView, blank_model, is_whole}
 use Rattle.minelib_reading.specs.ModelKeys.{section_text}
-use Rattle.minelib_reading.specs.spelled.SpelledLines.{AreLines}
+use Rattle.minelib_reading.specs.ModelText.{line_stated}
 use Rattle.minelib_reading.specs.StatedModel.{StatedModel}
-use Rattle.minelib_lines.specs.declared.header_key.HeaderKey.{HeaderKey}
 use Rattle.minelib_reading.specs.declared.model.key.Section.TheVariants.{Objective, Coefs, Limits}
+use Rattle.minelib_reading.specs.spelled.SpelledItems.{SpellsCoef, SpellsLimit, SpellsValues}
+use Rattle.minelib_reading.specs.spelled.SpelledKeys.{IsKeyLine}
+use Rattle.minelib_reading.specs.spelled.SpelledLines.{AreLines}
 
 -- a CPIT has one destination
 abbrev pub IsSingle : Problem → ℕ → Type 0
 IsSingle Pcpsp destinations = Unit {0}
 IsSingle Cpit destinations = destinations ≡ 1
 
--- and no field for it: a coefficient is of the first
-abbrev pub HasDestination : Problem → Coef → Type 0
-HasDestination Pcpsp c = Unit {0}
-HasDestination Cpit c = c.d ≡ 0
+-- the value of a header key spells what the header states by it, in a file of n blocks
+abbrev pub SpellsKey : Problem → ℕ → StatedHeader → HeaderKey → List ℕ → Type 0
+SpellsKey problem n h key.Name value = (value ≡ h.name) × (is_name value ≡ true)
+SpellsKey problem n h key.Type value = value ≡ type_text problem
+SpellsKey problem n h key.Blocks value = SpellsBelow (MAX_BLOCKS + 1) value n
+SpellsKey problem n h key.Periods value = SpellsWhole 1 MAX_PERIODS value h.periods
+SpellsKey problem n h key.Destinations value = SpellsWhole 1 MAX_DESTINATIONS value h.destinations
+SpellsKey problem n h key.Resources value = SpellsBelow (MAX_RESOURCES + 1) value h.resources
+SpellsKey problem n h key.General value = SpellsBelow 1 value 0
+SpellsKey problem n h key.Rate value = SpellsNumber 6 (pos 0) MAX_RATE value h.rate
 
--- `KEY: value` of a header key: the value spells what the header states by it
+-- `KEY: value` of a header key
 pub record IsHeaderLine (problem : Problem) (n : ℕ) (h : StatedHeader) (line : List ℕ)
     (k : HeaderKey) : Type 0 where
   pub value : List ℕ
   pub is_key : IsKeyLine (key_word k) line (value ∷ [])
   pub of_problem : IsTrue (has_key problem k)
-  pub says : Says (field_of problem k) value (key_value (type_text problem) n h k)
+  pub says : SpellsKey problem n h k value
 
 -- one line for each header key of the problem, in any order
 pub record AreHeaderLines (problem : Problem) (n : ℕ) (lines : List Line)
@@ -49,24 +58,13 @@ pub record AreHeaderLines (problem : Problem) (n : ℕ) (lines : List Line)
   pub once : AllPairs (λ k j. k ≢ j) keys
   pub all : (k : HeaderKey) → IsTrue (has_key problem k) → Contains keys k
 
--- how the fields of a line spell a block's values, a coefficient and a limit, whose interval is not turned, in a file of n blocks with
--- this header
-abbrev pub SpellValues : ℕ → StatedHeader → ℕ → List (List ℕ) → List ℤ → Type 0
-SpellValues n h block fields values =
-    Spell (values_form n h.destinations) fields (values_values block values)
-
-abbrev pub SpellCoef : Problem → ℕ → StatedHeader → List (List ℕ) → Coef → Type 0
-SpellCoef problem n h fields c =
-    Spell (coef_form problem n h.destinations h.resources) fields (coef_values problem c)
-    × HasDestination problem c
-
-abbrev pub SpellLimit : StatedHeader → List (List ℕ) → Limit → Type 0
-SpellLimit h fields l =
-    Spell (limit_form h.resources h.periods fields) fields (limit_values l)
-    × (is_turned l.bound ≡ false)
+-- all lines of a model file, of n blocks, one behind the other: they state this, and nothing of it is lacking
+abbrev pub StateModel : Problem → ℕ → List Line → ModelDraftView → Type 0
+StateModel problem n lines d =
+    (read_lines line_stated (blank_model problem n) lines ≡ Ok d) × (is_whole d ≡ true)
 
 -- all lines of a model file, of n blocks: those of the header, and then three sections, each behind the line of its key. A line of values
--- for each block, in order of identifier; the coefficients, which rise; the limits, which rise
+-- for each block, in order of identifier; the coefficients, which rise; the limits, which rise and of which no interval is turned
 pub record AreModelLines (problem : Problem) (n : ℕ) (lines : List Line)
     (m : StatedModel) : Type 0 where
   pub heading : List Line
@@ -82,14 +80,15 @@ pub record AreModelLines (problem : Problem) (n : ℕ) (lines : List Line)
   pub spell_header : AreHeaderLines problem n heading m.header
   pub begin_values : IsKeyLine (section_text Objective) objective.text []
   pub spell_values :
-      AreLines (λ block line vs. SpellValues n m.header block (fields_of line) vs) 0 values m.values
+      AreLines (λ block line vs. SpellsValues n m.header.destinations block (fields_of line) vs) 0 values m.values
   pub all_values : length m.values ≡ n
   pub begin_coefs : IsKeyLine (section_text Coefs) coefficients.text []
   pub spell_coefs :
-      AreLines (λ _ line c. SpellCoef problem n m.header (fields_of line) c) 0 coefs m.coefs
+      AreLines (λ _ line c. SpellsCoef problem n m.header.destinations m.header.resources (fields_of line) c) 0 coefs m.coefs
   pub rising_coefs : AllPairs (λ c e. IsTrue (coef_before c e)) m.coefs
   pub begin_limits : IsKeyLine (section_text Limits) resource_limits.text []
-  pub spell_limits : AreLines (λ _ line l. SpellLimit m.header (fields_of line) l) 0 limits m.limits
+  pub spell_limits :
+      AreLines (λ _ line l. SpellsLimit m.header.resources m.header.periods (fields_of line) l × (is_turned l.bound ≡ false)) 0 limits m.limits
   pub rising_limits : RiseStrictly m.limits
 
 -- the lines begin a model of n blocks: with some lines behind them they spell one

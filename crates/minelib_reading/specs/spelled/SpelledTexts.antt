@@ -1,14 +1,10 @@
 -- Three texts spell an instance, and one spells a constrained pit limit problem: by their lines, in
 -- order.
 use Rattle.std.specs.Prelude.{◌≡◌, ℕ, List, length}
-use Rattle.forms.specs.Words.{Spell}
 use Rattle.pit_parts.specs.declared.block.Block.{Block}
 use Rattle.mine_instance.specs.cpit.Cpit.{CpitParts}
-use Rattle.mine_instance.specs.Valid.{ArePredsOf}
 use Rattle.mine_instance.specs.Instance.{Instance}
-use Rattle.minelib_lines.specs.LineValues.{block_values, preds_values}
-use Rattle.minelib_reading.specs.shapes.BlockLines.{block_form}
-use Rattle.minelib_reading.specs.shapes.PrecLines.{preds_form}
+use Rattle.minelib_reading.specs.spelled.SpelledItems.{SpellsBlock, SpellsPreds}
 use Rattle.minelib_reading.specs.spelled.SpelledLines.{AreLines}
 use Rattle.minelib_reading.specs.spelled.SpelledModel.{AreModelLines}
 use Rattle.minelib_reading.specs.StatedModel.{model_of, model_of_cpit}
@@ -18,16 +14,12 @@ use Rattle.minelib_lines.specs.declared.problem.Problem.TheVariants.{Pcpsp, Cpit
 -- one line for each block, in order of identifier
 abbrev pub SpellBlocks : List ℕ → List Block → Type 0
 SpellBlocks text blocks =
-    AreLines (λ id line b. Spell block_form (fields_of line) (block_values id b)) 0 (lines_in text) blocks
+    AreLines (λ id line b. SpellsBlock id (fields_of line) b) 0 (lines_in text) blocks
 
 -- one line for the predecessors of each of n blocks, in order of identifier
 abbrev pub SpellPreds : ℕ → List ℕ → List (List ℕ) → Type 0
 SpellPreds n text lists =
-    (length lists ≡ n)
-    × AreLines
-    (λ own line ids. Spell (preds_form n (fields_of line)) (fields_of line) (preds_values own ids)
-    × ArePredsOf own n ids)
-    0 (lines_in text) lists
+    (length lists ≡ n) × AreLines (λ own line ids. SpellsPreds n own (fields_of line) ids) 0 (lines_in text) lists
 
 -- the lines of the three files spell the blocks, their predecessors and the model of the instance
 pub record SpellInstance (blocks prec pcpsp : List ℕ) (i : Instance) : Type 0 where

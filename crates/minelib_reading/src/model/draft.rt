@@ -6,10 +6,9 @@ ghost use Rattle.mine_instance.specs.cpit.CpitKept.{IsCpit};
 ghost use Rattle.minelib_reading.specs.Denotes.{cpit_read, instance_read};
 ghost use Rattle.minelib_reading.specs.HeaderNumbers.{count_in};
 ghost use Rattle.minelib_reading.specs.ModelDraft.{blank_model, is_ready, is_whole, name_with};
-ghost use Rattle.minelib_reading.specs.ModelText.{finish_model};
-ghost use Rattle.minelib_reading.specs.shapes.ModelLines.{header_line, item_line, keyed_line, section_line};
+ghost use Rattle.minelib_reading.specs.ModelText.{finish_model, item_stated, key_stated, keyed_stated, line_stated, section_stated};
 ghost use Rattle.minelib_reading.specs.ModelKeys.{is_colon};
-ghost use Rattle.minelib_reading.specs.inner.ModelParts.{admit_model, is_name_for, takes};
+ghost use Rattle.minelib_reading.specs.inner.ModelParts.{is_name_for};
 ghost use Rattle.minelib_lines.specs.declared.header_key.HeaderKey.TheVariants as key;
 ghost use Rattle.minelib_reading.specs.declared.model.key.Section.TheVariants as Section;
 ghost use Rattle.pit_units.specs.OrMemory.{Gives};
@@ -79,10 +78,9 @@ impl<T: TakeItems> Model for ModelDraft<T> {
 }
 
 impl<T: TakeItems> Admit for ModelDraft<T> {
-    ghost admit_line = { admit_model };
+    ghost admit_line = { line_stated };
 
     // A line that is read as an item of its section has no colon, so it is not searched for one.
-    #[tactic(auto, using(crate::proofs::models::ModelShapes::stray_takes))]
     fn admit(&mut self, line: &[u8]) -> Result<(), OrMemory<TextKind>> {
         match self.section {
             Section::Heading => self.admit_key_or(line, TextKind::Key),
@@ -156,10 +154,10 @@ impl<T: TakeItems> ModelDraft<T> {
             && is_limits(self.section)
     }
 
-    #[tactic(auto, unfolding(crate::specs::inner::ModelParts::admit_model), using(crate::proofs::models::ModelShapes::values_keyless, crate::proofs::models::ModelShapes::values_takes))]
+    #[tactic(auto, unfolding(crate::specs::ModelText::line_stated), using(crate::proofs::lines::LineFields::values_keyless))]
     fn admit_values(&mut self, line: &[u8]) -> Result<(), OrMemory<TextKind>>
         requires { self.old.section ≡ Section.Objective }
-        ensures { Leaves self.new result (admit_model self.old line.now) }
+        ensures { Leaves self.new result (line_stated self.old line.now) }
     {
         let destinations = self.destinations();
         let before = self.items.values_len();
@@ -173,10 +171,10 @@ impl<T: TakeItems> ModelDraft<T> {
         }
     }
 
-    #[tactic(auto, unfolding(crate::specs::inner::ModelParts::admit_model), using(crate::proofs::models::ModelShapes::coef_keyless, crate::proofs::models::ModelShapes::coef_takes))]
+    #[tactic(auto, unfolding(crate::specs::ModelText::line_stated), using(crate::proofs::lines::LineFields::coef_keyless))]
     fn admit_coef(&mut self, line: &[u8]) -> Result<(), OrMemory<TextKind>>
         requires { self.old.section ≡ Section.Coefs }
-        ensures { Leaves self.new result (admit_model self.old line.now) }
+        ensures { Leaves self.new result (line_stated self.old line.now) }
     {
         let destinations = self.destinations();
         let resources = self.resources();
@@ -192,10 +190,10 @@ impl<T: TakeItems> ModelDraft<T> {
         }
     }
 
-    #[tactic(auto, unfolding(crate::specs::inner::ModelParts::admit_model), using(crate::proofs::models::ModelShapes::limit_keyless, crate::proofs::models::ModelShapes::limit_takes))]
+    #[tactic(auto, unfolding(crate::specs::ModelText::line_stated), using(crate::proofs::lines::LineFields::limit_keyless))]
     fn admit_limit(&mut self, line: &[u8]) -> Result<(), OrMemory<TextKind>>
         requires { self.old.section ≡ Section.Limits }
-        ensures { Leaves self.new result (admit_model self.old line.now) }
+        ensures { Leaves self.new result (line_stated self.old line.now) }
     {
         let resources = self.resources();
         let periods = self.periods();
@@ -213,11 +211,11 @@ impl<T: TakeItems> ModelDraft<T> {
 
     // A line that states no item of its section: that of a key, or a faulty one of this kind.
     #[inline(never)]
-    #[tactic(auto, unfolding(crate::specs::inner::ModelParts::admit_model))]
+    #[tactic(auto, unfolding(crate::specs::ModelText::line_stated))]
     fn admit_key_or(&mut self, line: &[u8], kind: TextKind) -> Result<(), OrMemory<TextKind>>
         requires { list_any is_colon line.now ≡ false
-            → takes (item_line self.old self.old.section (fields_of line.now)) ≡ Err kind }
-        ensures { Leaves self.new result (admit_model self.old line.now) }
+            → item_stated self.old self.old.section (fields_of line.now) ≡ Err kind }
+        ensures { Leaves self.new result (line_stated self.old line.now) }
     {
         match cut_at_colon(line) {
             Some((word, values)) => self.admit_key(key_of(self.problem, word), values),
@@ -225,9 +223,8 @@ impl<T: TakeItems> ModelDraft<T> {
         }
     }
 
-    #[tactic(auto, using(crate::proofs::models::ModelShapes::stray_takes))]
     fn admit_key(&mut self, key: Option<ModelKey>, values: &[u8]) -> Result<(), OrMemory<TextKind>>
-        ensures { Leaves self.new result (takes (keyed_line self.old key (fields_of values.now))) }
+        ensures { Leaves self.new result (keyed_stated self.old key (fields_of values.now)) }
     {
         match key {
             None => Err(OrMemory::Fault(TextKind::Key)),
@@ -236,9 +233,9 @@ impl<T: TakeItems> ModelDraft<T> {
         }
     }
 
-    #[tactic(auto, using(crate::proofs::models::ModelShapes::header_takes))]
+    #[tactic(auto, using(crate::proofs::models::LineCases::key_taken))]
     fn admit_header(&mut self, key: HeaderKey, values: &[u8]) -> Result<(), OrMemory<TextKind>>
-        ensures { Leaves self.new result (takes (header_line self.old key (fields_of values.now))) }
+        ensures { Leaves self.new result (key_stated self.old key (fields_of values.now)) }
     {
         if !is_heading(self.section) {
             return Err(OrMemory::Fault(TextKind::Key));
@@ -253,10 +250,10 @@ impl<T: TakeItems> ModelDraft<T> {
         Ok(())
     }
 
-    #[tactic(auto, using(crate::proofs::models::ModelShapes::section_takes))]
+    #[tactic(auto, using(crate::proofs::models::LineCases::section_taken))]
     fn admit_section(&mut self, section: Section, values: &[u8]) -> Result<(), OrMemory<TextKind>>
         ensures { Leaves self.new result
-            (takes (section_line self.old section (fields_of values.now))) }
+            (section_stated self.old section (fields_of values.now)) }
     {
         if !is_next(self.section, section) {
             return Err(OrMemory::Fault(TextKind::Key));

@@ -1,10 +1,9 @@
 //! The header of a model file that is read.
 
-ghost use Rattle.std.specs.Prelude.{◌≡◌, ◌<◌, ◌≤◌, ◌∷◌, [], pos, true, IfOk};
-ghost use Rattle.forms.specs.Words.{Decimal, is_fine};
-ghost use Rattle.minelib_lines.specs.KeyParts.{field_in};
+ghost use Rattle.std.specs.Prelude.{◌≡◌, ◌<◌, ◌≤◌, true, IfOk};
 ghost use Rattle.minelib_reading.specs.ModelDraft.{blank_header};
-ghost use Rattle.minelib_reading.specs.inner.ModelParts.{is_name_for, millionths_in, number_in, number_limit, number_with};
+ghost use Rattle.minelib_reading.specs.ModelKeys.{number_stated};
+ghost use Rattle.minelib_reading.specs.inner.ModelParts.{IsFineField, is_name_for, millionths_in, number_limit, number_with, stated_in};
 
 use crate::model::key::Header;
 use crate::model::key_lines::is_exactly;
@@ -33,13 +32,14 @@ pub fn blank_header(problem: Problem) -> Header
 /// # Errors
 ///
 /// What is wrong with the value, or `Count` where NBLOCKS is another number.
+#[tactic(auto, using(crate::proofs::keys::KeyNumbers::number_taken, crate::proofs::keys::KeyNumbers::fine_field))]
 pub fn number_in(
     problem: Problem,
     blocks: usize,
     key: HeaderKey,
     value: &[u8],
 ) -> Result<u64, TextKind>
-    ensures value { result ≡ number_in problem blocks key value.now }
+    ensures value { result ≡ number_stated problem blocks key value.now }
     ensures name { IfOk result (λ _. is_name_for key value.now ≡ true) }
     ensures below { IfOk result (λ n. n < number_limit key) }
 {
@@ -62,8 +62,8 @@ fn number_with(blocks: usize, key: HeaderKey, millionths: u64) -> Result<u64, Te
 
 // The millionths that a field states, 0 of a word.
 fn stated_in(problem: Problem, field: KeyField, text: &[u8]) -> Result<u64, TextKind>
-    requires { is_fine (field_in problem field ∷ []) ≡ true }
-    ensures { result ≡ millionths_in (field_in problem field) text.now }
+    requires { IsFineField field }
+    ensures { result ≡ stated_in problem field text.now }
 {
     match field {
         KeyField::Name if is_name(text) => Ok(0),
@@ -80,7 +80,7 @@ fn stated_in(problem: Problem, field: KeyField, text: &[u8]) -> Result<u64, Text
 // The millionths that a field states with at most so many decimals, from `low` to `high`.
 fn millionths_in(field: &[u8], decimals: u8, low: u64, high: u64) -> Result<u64, TextKind>
     requires { decimals ≤ 6 }
-    ensures { result ≡ millionths_in (Decimal decimals (pos low) (pos high)) field.now }
+    ensures { result ≡ millionths_in decimals low high field.now }
 {
     let stated = parse_within(field, decimals, i128::from(low), i128::from(high))?;
     Ok(stated.millionths() as u64)

@@ -1,17 +1,17 @@
 //! The lines of a model file's sections.
 
-ghost use Rattle.std.specs.Prelude.{◌≡◌, ◌≤◌, ◌<◌, ◌+◌, ◌∷◌, [], ℕ, length, drop, slice_index_or, IfOk, OnOk};
+ghost use Rattle.std.specs.Prelude.{◌≡◌, ◌≤◌, ◌<◌, ◌+◌, ◌∷◌, [], length, drop, slice_index_or, IfOk, OnOk};
 ghost use Rattle.pit_parts.specs.PlanKept.{stands_before};
 ghost use Rattle.mine_instance.specs.Order.{coef_before};
 ghost use Rattle.text_lines.specs.FieldValues.{Takes, all_by, first_by};
 ghost use Rattle.text_lines.specs.StatedFields.{decimal_in};
 ghost use Rattle.minelib_reading.specs.ModelDraft.{is_behind, last_of};
-ghost use Rattle.minelib_reading.specs.inner.ModelParts.{TakesFirst, uncounted_coef, coef_of_line, limit_of_line, values_of_line};
+ghost use Rattle.minelib_reading.specs.ModelText.{coef_stated, limit_stated, values_stated};
+ghost use Rattle.minelib_reading.specs.inner.ModelParts.{TakesFirst};
 ghost use Rattle.text_lines.specs.Reading.{Leaves};
-ghost use Rattle.minelib_reading.specs.shapes.ItemForms.{coef_form};
 ghost use Rattle.text_lines.specs.TextLines.{fields_of};
 ghost use Rattle.text_lines.specs.inner.Taken.{AdmitsCounted};
-ghost use Rattle.minelib_reading.specs.inner.UncountedItems.{bound_in, destination_in, interval_in, limit_width};
+ghost use Rattle.minelib_reading.specs.inner.UncountedItems.{bound_in, coef_width, destination_in, interval_in, limit_width, uncounted_coef};
 ghost use Rattle.pit_parts.specs.declared.ranges.TheConstants.{MAX_BLOCKS};
 
 use crate::model::key_lines::is_exactly;
@@ -39,7 +39,7 @@ pub fn values_of_line(
     row: &mut Vec<Dec>,
 ) -> Result<(), OrMemory<TextKind>>
     ensures value { Leaves row.new.items result
-        (values_of_line blocks destinations before (fields_of line.now)) }
+        (values_stated blocks destinations before (fields_of line.now)) }
     ensures width { OnOk result (length row.new.items ≡ destinations) }
     ensures room { OnOk result (before < blocks) }
 {
@@ -54,7 +54,7 @@ pub fn values_of_line(
 }
 
 // Reads the values of a line of as many fields as it has to have. The fault of another line may be of another kind.
-#[tactic(auto, using(crate::proofs::lines::ValuesLineFacts::values_counted))]
+#[tactic(auto, using(crate::proofs::counts::LaterLines::values_counted))]
 fn uncounted_values(
     blocks: usize,
     destinations: u8,
@@ -63,7 +63,7 @@ fn uncounted_values(
     row: &mut Vec<Dec>,
 ) -> Result<(), OrMemory<TextKind>>
     ensures value { AdmitsCounted (length (fields_of line.now) ≡ destinations + 1) row.new.items
-        result (values_of_line blocks destinations before (fields_of line.now)) }
+        result (values_stated blocks destinations before (fields_of line.now)) }
     ensures width { OnOk result (length row.new.items ≡ destinations) }
     ensures room { OnOk result (before < blocks) }
 {
@@ -108,7 +108,7 @@ pub fn coef_of_line(
     line: &[u8],
 ) -> Result<Coef, TextKind>
     requires { blocks ≤ MAX_BLOCKS }
-    ensures value { result ≡ coef_of_line problem blocks destinations resources (fields_of line.now) }
+    ensures value { result ≡ coef_stated problem blocks destinations resources (fields_of line.now) }
     ensures block { IfOk result (λ coef. coef.b < MAX_BLOCKS) }
     ensures destination { IfOk result (λ coef. coef.d < 256) }
     ensures resource { IfOk result (λ coef. coef.r < 256) }
@@ -121,7 +121,7 @@ pub fn coef_of_line(
 
 // The coefficient of a line of as many fields as it has to have. The fault of another line may be of another kind.
 #[inline(always)]
-#[tactic(auto, using(crate::proofs::lines::CoefLineFacts::coef_steps))]
+#[tactic(auto, using(crate::proofs::counts::LaterLines::coef_read))]
 fn uncounted_coef(
     problem: Problem,
     blocks: usize,
@@ -152,8 +152,7 @@ fn uncounted_coef(
 }
 
 fn coef_width(problem: Problem) -> usize
-    ensures { (n destinations resources : ℕ)
-        → result ≡ length (coef_form problem n destinations resources) }
+    ensures { result ≡ coef_width problem }
 {
     match problem {
         Problem::Pcpsp => 4,
@@ -188,9 +187,9 @@ pub fn is_coef_behind(coefs: &[Coef], coef: &Coef) -> bool
 /// # Errors
 ///
 /// `Fields`, or what is wrong with the first faulty field.
-#[tactic(auto, using(crate::proofs::lines::LimitLineFacts::limit_same))]
+#[tactic(auto, using(crate::proofs::counts::LimitSteps::limit_same))]
 pub fn limit_of_line(resources: u8, periods: u8, line: &[u8]) -> Result<Limit, TextKind>
-    ensures { result ≡ limit_of_line resources periods (fields_of line.now) }
+    ensures { result ≡ limit_stated resources periods (fields_of line.now) }
 {
     if count_fields(line) != limit_width(line) {
         return Err(TextKind::Fields);

@@ -18,7 +18,6 @@ use text_lines::text_fault::LineFault;
 /// # Errors
 ///
 /// The first faulty line, or `OutOfMemory`.
-#[tactic(auto, using(crate::proofs::plain::TextForms::lines_admitted))]
 pub fn read_model(
     alloc: Global,
     problem: Problem,

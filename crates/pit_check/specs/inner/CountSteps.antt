@@ -1,6 +1,6 @@
 -- The counts of the texts of an instance, one file after the other.
 use Rattle.std.specs.Prelude.{ℕ, List, None, Some, Result, Ok}
-use Rattle.forms.specs.Words.{◌>>=◌}
+use Rattle.pit_units.specs.Steps.{◌>>=◌}
 use Rattle.minelib_reading.specs.FedCounts.{arcs_counted, blocks_counted, model_counted}
 use Rattle.minelib_lines.specs.declared.problem.Problem.TheVariants as problem
 use Rattle.text_lines.specs.Reading.{in_file}

@@ -1,19 +1,13 @@
-use Rattle.text_lines.specs.declared.text_fault.TextKind.TheVariants as kind
-use Rattle.minelib_reading.proofs.lines.LineKindsFacts.{fail_preds, fails_section, preds_fail, section_fails}
+use Rattle.text_lines.specs.TextLines.{fields_of}
+use Rattle.minelib_reading.proofs.lines.FaultFacts.{count_fails, fields_fails, key_fails, missing_fails, order_fails, twice_fails}
 use Rattle.minelib_reading.proofs.laws.faulty_lines_have_their_kind.Goals as goal
 
 pub returns : goal.returns
 returns c = record {
-  order = λ n own line. (preds_fail n own line kind.Order (λ never. never), fail_preds n own line kind.Order);
-  count = λ n own line. (
-    (λ fails. (let f = preds_fail n own line kind.Count (λ never. never) fails in (f.0, f.1, f.2.0, f.2.1))),
-    (λ h. fail_preds n own line kind.Count (h.0, h.1, (h.2, h.3))),
-  );
-  twice = λ n own line. (
-    (λ fails. (let f = preds_fail n own line kind.Twice (λ never. never) fails in (f.0, f.1, f.2.0, f.2.1, f.2.2))),
-    (λ h. fail_preds n own line kind.Twice (h.0, h.1, (h.2, h.3, h.4))),
-  );
-  key = λ d section fields. (section_fails d section fields kind.Key, fails_section d section fields kind.Key);
-  fields = λ d section fields. (section_fails d section fields kind.Fields, fails_section d section fields kind.Fields);
-  missing = λ d section fields. (section_fails d section fields kind.Missing, fails_section d section fields kind.Missing);
+  order = λ n own line. let x = order_fails n own (fields_of line) in (x.told, x.back);
+  count = λ n own line. let x = count_fails n own (fields_of line) in (x.told, x.back);
+  twice = λ n own line. let x = twice_fails n own (fields_of line) in (x.told, x.back);
+  key = λ d section fields. let x = key_fails d section fields in (x.told, x.back);
+  fields = λ d section fields. let x = fields_fails d section fields in (x.told, x.back);
+  missing = λ d section fields. let x = missing_fails d section fields in (x.told, x.back);
 }

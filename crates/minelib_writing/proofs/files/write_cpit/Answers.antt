@@ -4,7 +4,7 @@ use Rattle.mine_instance.specs.Kept.{HasDecimals}
 use Rattle.minelib_writing.specs.Written.{one_value_line, cpit_coef_line, limit_line}
 use Rattle.minelib_writing.proofs.KeptFacts.{kept_all}
 use Rattle.minelib_writing.proofs.LineFacts.{length-line_parts}
-use Rattle.minelib_writing.proofs.PlainFacts.{cpit_by_keys}
+use Rattle.minelib_writing.proofs.ByKeys.{cpit_by_keys}
 use Rattle.minelib_writing.proofs.files.write_cpit.Goals as goal
 
 pub returns : goal.returns

@@ -9,7 +9,7 @@ use Rattle.mine_instance.specs.Kept.{HasDecimals}
 use Rattle.minelib_writing.specs.Written.{value_line, limit_line}
 use Rattle.minelib_writing.proofs.KeptFacts.{kept_all}
 use Rattle.minelib_writing.proofs.LineFacts.{length-line_parts}
-use Rattle.minelib_writing.proofs.PlainFacts.{pcpsp_by_keys}
+use Rattle.minelib_writing.proofs.ByKeys.{pcpsp_by_keys}
 use Rattle.minelib_writing.proofs.files.write_pcpsp.Goals as goal
 
 pub returns : goal.returns

@@ -1,14 +1,14 @@
 use Rattle.std.proofs.Common.{◌++◌, ◌∷◌, [], ◌∙◌, ap, arith, sym}
 use Rattle.std.proofs.lemmas.List.{take_all}
 use Rattle.std.specs.List.{flat_map}
-use Rattle.minelib_lines.specs.KeyParts.{value_in}
-use Rattle.minelib_lines.specs.WrittenLines.{key_line}
+use Rattle.minelib_lines.specs.KeyParts.{text_in}
+use Rattle.minelib_lines.specs.HeaderTable.{key_line}
 use Rattle.minelib_writing.proofs.LineFacts.{key_texts}
 use Rattle.minelib_writing.proofs.keys.put_keys.Goals as goal
 
 pub returns : goal.returns
 returns c =
-    let value = value_in c.args.values.now in
+    let value = text_in c.args.values.now in
     let keys = c.args.keys.now in
     c.loop-key.invariant
     ∙ ap (λ lines. c.args.out.now.items ++ lines)

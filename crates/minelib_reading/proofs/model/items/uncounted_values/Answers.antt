@@ -1,6 +1,6 @@
 use Rattle.std.proofs.Common.{rules}
 use Rattle.text_lines.specs.TextLines.{fields_of}
-use Rattle.minelib_reading.proofs.lines.ValuesLineFacts.{values_admitted}
+use Rattle.minelib_reading.proofs.counts.LaterLines.{values_admitted}
 use Rattle.minelib_reading.proofs.model.items.uncounted_values.Goals as goal
 
 pub returns-in_err-read_decimals-clause-value : goal.returns-in_err-read_decimals-clause-value

@@ -1,5 +1,5 @@
 use Rattle.text_lines.specs.TextLines.{fields_of}
-use Rattle.minelib_reading.proofs.lines.ValuesLineFacts.{values_kind}
+use Rattle.minelib_reading.proofs.counts.LaterLines.{values_kind}
 use Rattle.minelib_reading.proofs.model.items.values_of_line.Goals as goal
 
 pub returns-in-Err-Fault-clause-value : goal.returns-in-Err-Fault-clause-value

@@ -1,6 +1,6 @@
 use Rattle.std.proofs.Common.{rules}
-use Rattle.minelib_lines.specs.KeyParts.{value_in}
-use Rattle.minelib_lines.specs.WrittenLines.{key_lines}
+use Rattle.minelib_lines.specs.KeyParts.{text_in}
+use Rattle.minelib_lines.specs.HeaderTable.{key_lines}
 use Rattle.minelib_writing.specs.Written.{section_lines}
 use Rattle.minelib_writing.proofs.KeptFacts.{on_ok_three}
 use Rattle.minelib_writing.proofs.SectionsWritten.{goes_on, lines_cut_before}
@@ -9,7 +9,7 @@ use Rattle.minelib_writing.proofs.files.ModelFileText.write.Goals as goal
 pub returns : goal.returns
 returns g c =
     let file = c.args.self.now in
-    let keys = key_lines (value_in file.header) file.keys.now in
+    let keys = key_lines (text_in file.header) file.keys.now in
     let sections = section_lines (g.V.Parted.lines file.values) (g.C.Parted.lines file.coefs) (g.L.Parted.lines file.limits) in
     record {
       writes = goes_on _ _ keys sections c.write_sections.result c.in_ok-write_keys.ensures c.write_sections.ensures.writes;
@@ -21,6 +21,6 @@ returns g c =
 pub returns-in_err-write_keys-clause-writes : goal.returns-in_err-write_keys-clause-writes
 returns-in_err-write_keys-clause-writes g c =
     let file = c.args.self.now in
-    let keys = key_lines (value_in file.header) file.keys.now in
+    let keys = key_lines (text_in file.header) file.keys.now in
     let sections = section_lines (g.V.Parted.lines file.values) (g.C.Parted.lines file.coefs) (g.L.Parted.lines file.limits) in
     let cut = lines_cut_before keys sections c.in_err-write_keys.ensures in search rules

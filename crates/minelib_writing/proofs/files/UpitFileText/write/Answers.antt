@@ -2,19 +2,18 @@ use Rattle.std.proofs.Common.{rules, ◌≡◌, ◌∷◌, ap, length}
 use Rattle.std.specs.Prelude.{codes}
 use Rattle.std.proofs.lemmas.Result.{on_ok_weaker}
 use Rattle.mine_instance.specs.Instance.{Instance}
-use Rattle.minelib_lines.specs.HeaderTable.{key_value, upit_keys}
-use Rattle.minelib_lines.specs.LineValues.{header_of}
+use Rattle.minelib_lines.specs.HeaderTable.{key_lines, key_text, upit_keys}
+use Rattle.minelib_lines.specs.StatedHeader.{header_of}
 use Rattle.minelib_lines.specs.Lines.{lines_from}
-use Rattle.minelib_lines.specs.WrittenLines.{key_lines}
 use Rattle.minelib_writing.specs.Written.{greatest_line}
-use Rattle.minelib_writing.proofs.PlainFacts.{upit_by_keys}
+use Rattle.minelib_writing.proofs.ByKeys.{upit_by_keys}
 use Rattle.minelib_writing.proofs.SectionsWritten.{goes_on, lines_cut_before}
 use Rattle.minelib_writing.proofs.files.UpitFileText.write.Goals as goal
 
 pub returns : goal.returns
 returns g c =
     let i = c.args.self.now.instance.now in
-    let keys = key_lines (key_value (codes "UPIT") (length i.blocks) (header_of i)) upit_keys in
+    let keys = key_lines (key_text (codes "UPIT") (length i.blocks) (header_of i)) upit_keys in
     let values = codes "OBJECTIVE_FUNCTION:" ∷ lines_from greatest_line 0 i.values in
     let seen_values : g.V.ValueList.list c.instance.inside.values ≡ i.values = ap (λ (i : Instance). i.values) c.instance.view_is in
     let first = rw (c.of_instance.ensures.values, c.of_upit.ensures) at c.in_ok-write_keys.ensures in
@@ -28,7 +27,7 @@ returns g c =
 pub returns-in_err-write_keys-clause-writes : goal.returns-in_err-write_keys-clause-writes
 returns-in_err-write_keys-clause-writes g c =
     let i = c.args.self.now.instance.now in
-    let keys = key_lines (key_value (codes "UPIT") (length i.blocks) (header_of i)) upit_keys in
+    let keys = key_lines (key_text (codes "UPIT") (length i.blocks) (header_of i)) upit_keys in
     let values = codes "OBJECTIVE_FUNCTION:" ∷ lines_from greatest_line 0 i.values in
     let cut = lines_cut_before keys values (rw (c.of_instance.ensures.values, c.of_upit.ensures) at c.in_err-write_keys.ensures) in
     rw (upit_by_keys i) (search rules)

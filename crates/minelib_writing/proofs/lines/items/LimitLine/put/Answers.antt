@@ -1,5 +1,5 @@
 use Rattle.std.proofs.Common.{rules, append_assoc}
-use Rattle.minelib_writing.proofs.PlainFacts.{limit_text}
+use Rattle.minelib_writing.proofs.ByKeys.{limit_text}
 use Rattle.minelib_writing.proofs.lines.items.LimitLine.put.Goals as goal
 
 pub returns-clause-text : goal.returns-clause-text

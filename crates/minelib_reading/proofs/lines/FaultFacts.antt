@@ -1,0 +1,170 @@
+-- The kind of a line's fault is that of the first thing that is wrong with it.
+use Rattle.std.specs.Prelude.{Bool, Err, List, Ok, Result, if◌then◌else◌, nat_lt, not, pos, unsigned_abs, ℕ, ℤ, ◌*◌, ◌-ℤ◌, ◌/◌, ◌==◌, ◌^◌, ◌||◌, ◌≢◌}
+use Rattle.std.proofs.Common.{All, [], ap, arith, drop, false, length, refl, true, ◌<◌, ◌∷◌, ◌≡◌}
+use Rattle.std.proofs.lemmas.Bool.{eq-eqb, eqb-false, eqb-true, ne_eqb}
+use Rattle.std.proofs.lemmas.Bool.Decides.{nat_tests}
+use Rattle.std.proofs.lemmas.List.{nil_from_length}
+use Rattle.pit_units.proofs.Fails.{Fails, fails_behind, fails_here, fails_then, other_fault}
+use Rattle.pit_units.specs.Decimal.{decimal_within}
+use Rattle.pit_units.specs.Steps.{◌>>=◌}
+use Rattle.pit_units.specs.declared.fault.DecFault.{DecFault}
+use Rattle.pit_units.specs.declared.fault.DecFault.TheVariants as dec
+use Rattle.mine_instance.specs.Valid.{ArePredsOf}
+use Rattle.text_lines.proofs.FieldFacts.{below, each}
+use Rattle.text_lines.specs.StatedFields.{below_in, each_in, field_at, number_in, number_said}
+use Rattle.text_lines.specs.declared.text_fault.TextKind.{TextKind}
+use Rattle.text_lines.specs.declared.text_fault.TextKind.TheVariants.{Count, Fields, Key, Missing, Number, Order, Range, TooFine, Twice}
+use Rattle.minelib_reading.proofs.lines.LineFacts.{all_below}
+use Rattle.minelib_reading.proofs.lines.PrecTests.{passed_preds, preds_pass}
+use Rattle.minelib_reading.specs.ModelDraft.{ModelDraftView, is_next, is_ready}
+use Rattle.minelib_reading.specs.ModelText.{section_stated}
+use Rattle.minelib_reading.specs.PrecText.{all_differ, preds_stated, stands_in}
+use Rattle.minelib_reading.specs.declared.model.key.Section.{Section}
+use Rattle.minelib_reading.specs.spelled.SpelledItems.{NumbersThen}
+
+opposite : (t : Bool) → not t ≡ true → t ≡ false
+opposite false e = refl
+opposite true e = absurd cc
+
+opposite_back : (t : Bool) → not t ≡ false → t ≡ true
+opposite_back true e = refl
+opposite_back false e = absurd cc
+
+-- a number has no other fault than a number's
+module _ (kind : TextKind) (no_number : Number ≢ kind) (no_fine : TooFine ≢ kind) (no_range : Range ≢ kind) where
+  said_never : (d : Result ℤ DecFault) → number_said d ≢ Err kind
+  said_never (Ok m) e = absurd cc
+  said_never (Err dec.Number) e = no_number (other_fault Number kind e)
+  said_never (Err dec.TooFine) e = no_fine (other_fault TooFine kind e)
+  said_never (Err dec.Range) e = no_range (other_fault Range kind e)
+
+  below_never : (limit : ℕ) (field : List ℕ) → below_in limit field ≢ Err kind
+  unfolding below_in
+  below_never limit field e =
+      by (number_in 0 (pos 0) (pos (limit * 10 ^ 6) -ℤ pos 1) field) (said_never (decimal_within 0 (pos 0) (pos (limit * 10 ^ 6) -ℤ pos 1) field)) e
+    where
+      by : (r : Result ℤ TextKind) → r ≢ Err kind → (r >>= λ m. Ok (unsigned_abs m / 10 ^ 6)) ≡ Err kind → ⊥
+      by (Ok m) never e = absurd cc
+      by (Err other) never e = never (ap Err (other_fault other kind e))
+
+  each_never : (limit : ℕ) (fields : List (List ℕ)) → each_in (below_in limit) fields ≢ Err kind
+  each_never limit [] e = absurd cc
+  each_never limit (field ∷ fields) e =
+      by (below_in limit field) (below_never limit field) (each_in (below_in limit) fields) (each_never limit fields) e
+    where
+      by : (r : Result ℕ TextKind) → r ≢ Err kind → (rest : Result (List ℕ) TextKind) → rest ≢ Err kind
+          → (r >>= λ x. rest >>= λ xs. Ok (x ∷ xs)) ≡ Err kind → ⊥
+      by (Ok x) never (Ok xs) later e = absurd cc
+      by (Ok x) never (Err other) later e = later (ap Err (other_fault other kind e))
+      by (Err other) never rest later e = never (ap Err (other_fault other kind e))
+
+  -- the numbers of a line of predecessors, and then the fault
+  numbers_then : (n : ℕ) (fields : List (List ℕ)) {next : ℕ → ℕ → List ℕ → Result (List ℕ) TextKind} {Q : ℕ → ℕ → List ℕ → Type 0} → Fields ≢ kind
+      → ((id k : ℕ) (ids : List ℕ) → Fails (next id k ids) kind (Q id k ids))
+      → Fails (if nat_lt (length fields) 2 then Err Fields else (below_in n (field_at fields 0) >>= λ id. below_in n (field_at fields 1) >>= λ k.
+      each_in (below_in n) (drop 2 fields) >>= λ ids. next id k ids)) kind (NumbersThen n fields Q)
+  numbers_then n fields no_fields behind =
+      fails_behind Fields no_fields (λ e. grind (arith, nat_tests, e)) (λ h. grind (arith, nat_tests, h)) (
+      fails_then kind (below n (field_at fields 0)) (below_never n (field_at fields 0)) (λ id.
+      fails_then kind (below n (field_at fields 1)) (below_never n (field_at fields 1)) (λ k.
+      fails_then kind (each (below n) (drop 2 fields)) (each_never n (drop 2 fields)) (λ ids.
+      behind id k ids))))
+
+pub order_fails : (n own : ℕ) (fields : List (List ℕ))
+    → Fails (preds_stated n own fields) Order (NumbersThen n fields (λ id k ids. id ≢ own))
+unfolding preds_stated
+order_fails n own fields =
+    numbers_then Order (λ e. absurd cc) (λ e. absurd cc) (λ e. absurd cc) n fields (λ e. absurd cc) (λ id k ids.
+    fails_here _ Order (λ e. eqb-false id own (opposite (id == own) e)) (λ differs. rw (ne_eqb id own differs) refl)
+    (never (k == length ids) (stands_in ids own || not (all_differ ids)) ids))
+  where
+    never : (counts twice : Bool) (ids : List ℕ)
+        → ◌≢◌ {A = Result (List ℕ) TextKind} (if not counts then Err Count else (if twice then Err Twice else Ok ids)) (Err Order)
+    never false twice ids e = absurd cc
+    never true true ids e = absurd cc
+    never true false ids e = absurd cc
+
+pub count_fails : (n own : ℕ) (fields : List (List ℕ))
+    → Fails (preds_stated n own fields) Count (NumbersThen n fields (λ id k ids. (id ≡ own) × (k ≢ length ids)))
+unfolding preds_stated
+count_fails n own fields =
+    numbers_then Count (λ e. absurd cc) (λ e. absurd cc) (λ e. absurd cc) n fields (λ e. absurd cc) (λ id k ids.
+    fails_behind Order (λ e. absurd cc) (λ e. eqb-true id own (opposite_back (id == own) e)) (λ is. rw (eq-eqb id own is) refl)
+    (fails_here _ Count (λ e. eqb-false k (length ids) (opposite (k == length ids) e)) (λ differs. rw (ne_eqb k (length ids) differs) refl)
+    (never (stands_in ids own || not (all_differ ids)) ids)))
+  where
+    never : (twice : Bool) (ids : List ℕ) → ◌≢◌ {A = Result (List ℕ) TextKind} (if twice then Err Twice else Ok ids) (Err Count)
+    never true ids e = absurd cc
+    never false ids e = absurd cc
+
+pub twice_fails : (n own : ℕ) (fields : List (List ℕ))
+    → Fails (preds_stated n own fields) Twice
+    (NumbersThen n fields (λ id k ids. (id ≡ own) × ((k ≡ length ids) × ¬ (ArePredsOf own n ids))))
+unfolding preds_stated
+twice_fails n own fields = record { told = λ e. to (steps.told e); back = λ h. steps.back (from h) }
+  where
+    Tested : Type 0
+    Tested = NumbersThen n fields (λ id k ids. (id ≡ own) × ((k ≡ length ids) × ((stands_in ids own || not (all_differ ids)) ≡ true)))
+
+    Twofold : Type 0
+    Twofold = NumbersThen n fields (λ id k ids. (id ≡ own) × ((k ≡ length ids) × ¬ (ArePredsOf own n ids)))
+
+    steps : Fails (preds_stated n own fields) Twice Tested
+    steps =
+        numbers_then Twice (λ e. absurd cc) (λ e. absurd cc) (λ e. absurd cc) n fields (λ e. absurd cc) (λ id k ids.
+        fails_behind Order (λ e. absurd cc) (λ e. eqb-true id own (opposite_back (id == own) e)) (λ is. rw (eq-eqb id own is) refl)
+        (fails_behind Count (λ e. absurd cc) (λ e. eqb-true k (length ids) (opposite_back (k == length ids) e)) (λ is. rw (eq-eqb k (length ids) is) refl)
+        (fails_here (Ok ids) Twice (λ e. e) (λ e. e) (λ e. absurd cc))))
+
+    passes : (ids : List ℕ) → ArePredsOf own n ids → (stands_in ids own || not (all_differ ids)) ≡ true → ⊥
+    passes ids are fails = let p = preds_pass own n ids are in let none = rw (p.0, p.1) at fails in cc
+
+    some_fails : (ids : List ℕ) → All (λ id. id < n) ids → ¬ (ArePredsOf own n ids) → (stands_in ids own || not (all_differ ids)) ≡ true
+    some_fails ids low never = by (stands_in ids own) (all_differ ids) refl refl
+      where
+        by : (stands differ : Bool) → stands_in ids own ≡ stands → all_differ ids ≡ differ → (stands || not differ) ≡ true
+        by true differ e g = refl
+        by false false e g = refl
+        by false true e g = absurd (never (passed_preds own n ids low e g))
+
+    to : Tested → Twofold
+    to (two, (id, of_id, (k, of_k, (ids, of_ids, (own_is, (counts, fails)))))) =
+        (two, (id, of_id, (k, of_k, (ids, of_ids, (own_is, (counts, λ are. passes ids are fails))))))
+
+    from : Twofold → Tested
+    from (two, (id, of_id, (k, of_k, (ids, of_ids, (own_is, (counts, fails)))))) =
+        (two, (id, of_id, (k, of_k, (ids, of_ids, (own_is, (counts, some_fails ids (all_below n (drop 2 fields) ids of_ids) fails))))))
+
+-- the line of a section's key
+module _ (d : ModelDraftView) (section : Section) (fields : List (List ℕ)) where
+  pub key_fails : Fails (section_stated d section fields) Key (is_next d.section section ≡ false)
+  unfolding section_stated
+  key_fails =
+      fails_here _ Key (opposite (is_next d.section section)) (λ e. rw e refl) (never (length fields == 0) (is_ready d d.section))
+    where
+      never : (none ready : Bool) → ◌≢◌ {A = Result ModelDraftView TextKind}
+          (if not none then Err Fields else (if not ready then Err Missing else Ok (record d { section = section }))) (Err Key)
+      never false ready e = absurd cc
+      never true false e = absurd cc
+      never true true e = absurd cc
+
+  pub fields_fails : Fails (section_stated d section fields) Fields ((is_next d.section section ≡ true) × (fields ≢ []))
+  unfolding section_stated
+  fields_fails =
+      fails_behind Key (λ e. absurd cc) (opposite_back (is_next d.section section)) (λ e. rw e refl)
+      (fails_here _ Fields (λ e none. eqb-false (length fields) 0 (opposite (length fields == 0) e) (ap length none))
+      (λ some. rw (ne_eqb (length fields) 0 (λ e. some (nil_from_length fields e))) refl) (never (is_ready d d.section)))
+    where
+      never : (ready : Bool) → ◌≢◌ {A = Result ModelDraftView TextKind}
+          (if not ready then Err Missing else Ok (record d { section = section })) (Err Fields)
+      never false e = absurd cc
+      never true e = absurd cc
+
+  pub missing_fails : Fails (section_stated d section fields) Missing
+      ((is_next d.section section ≡ true) × ((fields ≡ []) × (is_ready d d.section ≡ false)))
+  unfolding section_stated
+  missing_fails =
+      fails_behind Key (λ e. absurd cc) (opposite_back (is_next d.section section)) (λ e. rw e refl)
+      (fails_behind Fields (λ e. absurd cc) (λ e. nil_from_length fields (eqb-true (length fields) 0 (opposite_back (length fields == 0) e)))
+      (λ none. rw (eq-eqb (length fields) 0 (ap length none)) refl)
+      (fails_here _ Missing (opposite (is_ready d d.section)) (λ e. rw e refl) (λ e. absurd cc)))

@@ -1,5 +1,0 @@
-pub mod BlockForms
-pub mod ItemForms
-pub mod KeyForms
-pub mod PrecForms
-pub mod TextForms

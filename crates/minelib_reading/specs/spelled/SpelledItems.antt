@@ -1,0 +1,68 @@
+-- What the fields of a line spell: a block, predecessors, the values of a block, a coefficient, a limit.
+use Rattle.std.specs.Prelude.{◌≡◌, ℕ, ◌+◌, ◌*◌, ◌≤◌, List, length, drop, ℤ, codes}
+use Rattle.std.specs.List.{AllZip}
+use Rattle.pit_units.specs.SpelledNumbers.{SpellsBelow, SpellsSize}
+use Rattle.pit_units.specs.StandsFor.{StandsFor}
+use Rattle.pit_parts.specs.declared.block.Block.{Block}
+use Rattle.pit_parts.specs.declared.limit.Bound.{Bound}
+use Rattle.pit_parts.specs.declared.limit.Bound.TheVariants.{AtMost, AtLeast, Between}
+use Rattle.pit_parts.specs.declared.limit.Limit.{Limit}
+use Rattle.pit_parts.specs.declared.ranges.TheConstants.{GRID_CELLS, MAX_BLOCKS, MAX_GRADE, MAX_KG, MAX_ZONES}
+use Rattle.mine_instance.specs.Valid.{ArePredsOf}
+use Rattle.mine_instance.specs.declared.coefs.coef.Coef.{Coef}
+use Rattle.minelib_lines.specs.declared.problem.Problem.{Problem}
+use Rattle.minelib_lines.specs.declared.problem.Problem.TheVariants.{Pcpsp, Cpit}
+use Rattle.text_lines.specs.StatedFields.{field_at}
+
+-- the number of the lines before, and the block
+pub record SpellsBlock (before : ℕ) (fields : List (List ℕ)) (b : Block) : Type 0 where
+  pub seven : length fields ≡ 7
+  pub id : SpellsBelow MAX_BLOCKS (field_at fields 0) before
+  pub x : SpellsBelow GRID_CELLS (field_at fields 1) b.x
+  pub y : SpellsBelow GRID_CELLS (field_at fields 2) b.y
+  pub z : SpellsBelow GRID_CELLS (field_at fields 3) b.z
+  pub tonnes : SpellsSize 3 (MAX_KG * 1000) (field_at fields 4) (b.kg * 1000)
+  pub grade : SpellsSize 6 MAX_GRADE (field_at fields 5) b.grade
+  pub zone : SpellsBelow MAX_ZONES (field_at fields 6) b.zone
+
+-- the block's own number, of n, how many predecessors it has, and each of them
+pub record SpellsPreds (n own : ℕ) (fields : List (List ℕ)) (ids : List ℕ) : Type 0 where
+  pub two : 2 ≤ length fields
+  pub id : SpellsBelow n (field_at fields 0) own
+  pub count : SpellsBelow n (field_at fields 1) (length ids)
+  pub each : AllZip (SpellsBelow n) (drop 2 fields) ids
+  pub are : ArePredsOf own n ids
+
+-- the block's number, of n, and its value at each destination
+pub record SpellsValues (n destinations block : ℕ) (fields : List (List ℕ)) (values : List ℤ) : Type 0 where
+  pub as_many : length fields ≡ destinations + 1
+  pub id : SpellsBelow n (field_at fields 0) block
+  pub each : AllZip (StandsFor 6) (drop 1 fields) values
+
+-- a coefficient; in a CPIT, which has one destination, without it
+abbrev pub SpellsCoef : Problem → ℕ → ℕ → ℕ → List (List ℕ) → Coef → Type 0
+SpellsCoef Pcpsp n destinations resources fields c =
+    (length fields ≡ 4) × SpellsBelow n (field_at fields 0) c.b × SpellsBelow destinations (field_at fields 1) c.d
+    × SpellsBelow resources (field_at fields 2) c.r × StandsFor 6 (field_at fields 3) c.v
+SpellsCoef Cpit n destinations resources fields c =
+    (length fields ≡ 3) × SpellsBelow n (field_at fields 0) c.b × (c.d ≡ 0)
+    × SpellsBelow resources (field_at fields 1) c.r × StandsFor 6 (field_at fields 2) c.v
+
+-- a bound: its letter, and one number or two
+abbrev pub SpellsBound : List (List ℕ) → Bound → Type 0
+SpellsBound fields (AtMost v) = (length fields ≡ 4) × (field_at fields 2 ≡ codes "L") × StandsFor 6 (field_at fields 3) v
+SpellsBound fields (AtLeast v) = (length fields ≡ 4) × (field_at fields 2 ≡ codes "G") × StandsFor 6 (field_at fields 3) v
+SpellsBound fields (Between v w) =
+    (length fields ≡ 5) × (field_at fields 2 ≡ codes "I") × StandsFor 6 (field_at fields 3) v × StandsFor 6 (field_at fields 4) w
+
+-- a limit
+abbrev pub SpellsLimit : ℕ → ℕ → List (List ℕ) → Limit → Type 0
+SpellsLimit resources periods fields l =
+    SpellsBelow resources (field_at fields 0) l.resource × SpellsBelow periods (field_at fields 1) l.period × SpellsBound fields l.bound
+
+-- the numbers of a line of predecessors, of which something then holds
+abbrev pub NumbersThen : ℕ → List (List ℕ) → (ℕ → ℕ → List ℕ → Type 0) → Type 0
+NumbersThen n fields Q =
+    (2 ≤ length fields)
+    × ((id : ℕ) × SpellsBelow n (field_at fields 0) id × ((k : ℕ) × SpellsBelow n (field_at fields 1) k
+    × ((ids : List ℕ) × AllZip (SpellsBelow n) (drop 2 fields) ids × Q id k ids)))

@@ -1,0 +1,71 @@
+-- What is read of a field is what it spells.
+use Rattle.std.specs.Prelude.{◌≡◌, ℕ, ◌*◌, ◌^◌, ◌≤◌, List, [], ◌∷◌, ℤ, pos, ◌-ℤ◌, Result, Ok, Err}
+use Rattle.std.specs.List.{AllZip}
+use Rattle.std.proofs.Common.{refl, sym, ap, subst, arith}
+use Rattle.pit_units.proofs.Standing.{read_stands, stands_read}
+use Rattle.pit_units.specs.Decimal.{decimal_of, decimal_within}
+use Rattle.pit_units.specs.StandsFor.{StandsFor}
+use Rattle.pit_units.specs.declared.fault.DecFault.{DecFault}
+use Rattle.pit_units.specs.declared.fault.DecFault.TheVariants as dec
+use Rattle.pit_units.proofs.Exactly.{Exactly, as_, done, same, then_}
+use Rattle.pit_units.proofs.SpelledFacts.{below_of_number, size_of_number, whole_of_number, within}
+use Rattle.pit_units.specs.SpelledNumbers.{SpellsBelow, SpellsNumber, SpellsSize, SpellsWhole}
+use Rattle.text_lines.specs.StatedFields.{below_in, decimal_in, each_in, number_in, number_said, size_in, whole_in}
+use Rattle.text_lines.specs.declared.text_fault.TextKind.{TextKind}
+
+number_ok : (d : Result ℤ DecFault) (m : ℤ) → number_said d ≡ Ok m → d ≡ Ok m
+number_ok (Ok n) m e = ap Ok (same n m e)
+number_ok (Err dec.Number) m e = absurd cc
+number_ok (Err dec.TooFine) m e = absurd cc
+number_ok (Err dec.Range) m e = absurd cc
+
+pub number : (decimals : ℕ) (low high : ℤ) (field : List ℕ) → decimals ≤ 6
+    → Exactly (number_in decimals low high field) (SpellsNumber decimals low high field)
+number decimals low high field few =
+    let all = within decimals low high field few in
+    record { told = λ m e. all.told m (number_ok (decimal_within decimals low high field) m e); back = λ m h. ap number_said (all.back m h) }
+
+pub below : (limit : ℕ) (field : List ℕ) → Exactly (below_in limit field) (SpellsBelow limit field)
+unfolding below_in
+below limit field = below_of_number field limit (number 0 (pos 0) (pos (limit * 10 ^ 6) -ℤ pos 1) field (omega arith))
+
+pub whole : (low high : ℕ) (field : List ℕ) → Exactly (whole_in low high field) (SpellsWhole low high field)
+whole low high field = whole_of_number field low high (number 0 (pos (low * 10 ^ 6)) (pos (high * 10 ^ 6)) field (omega arith))
+
+pub size : (decimals most : ℕ) (field : List ℕ) → decimals ≤ 6 → Exactly (size_in decimals most field) (SpellsSize decimals most field)
+unfolding size_in
+size decimals most field few = size_of_number field decimals most (number decimals (pos 0) (pos most) field few)
+
+pub any : (field : List ℕ) → Exactly (decimal_in field) (StandsFor 6 field)
+unfolding decimal_in
+any field = record {
+  told = λ m e. read_stands 6 field m (omega arith) (number_ok (decimal_of 6 field) m e);
+  back = λ m h. ap number_said (stands_read 6 field m (omega arith) h);
+}
+
+-- several fields by one rule
+pub each : {A : Type 0} {rule : List ℕ → Result A TextKind} {P : List ℕ → A → Type 0} → ((field : List ℕ) → Exactly (rule field) (P field))
+    → (fields : List (List ℕ)) → Exactly (each_in rule fields) (AllZip P fields)
+each {A} {rule} {P} one [] = record { told = none; back = some }
+  where
+    none : (xs : List A) → ◌≡◌ {A = Result (List A) TextKind} (Ok []) (Ok xs) → AllZip P [] xs
+    none [] e = tt
+    none (x ∷ xs) e = absurd cc
+
+    some : (xs : List A) → AllZip P [] xs → ◌≡◌ {A = Result (List A) TextKind} (Ok []) (Ok xs)
+    some [] h = refl
+    some (x ∷ xs) h = absurd h
+each {A} {rule} {P} one (field ∷ fields) = as_ (steps (each one fields)) to from
+  where
+    Steps : List A → Type 0
+    Steps all = (x : A) × P field x × ((xs : List A) × AllZip P fields xs × (all ≡ x ∷ xs))
+
+    steps : Exactly (each_in rule fields) (AllZip P fields) → Exactly (each_in rule (field ∷ fields)) Steps
+    steps all = then_ (one field) (λ x. then_ all (λ xs. done (x ∷ xs)))
+
+    to : (all : List A) → Steps all → AllZip P (field ∷ fields) all
+    to all (x, h, (xs, more, is)) = subst (AllZip P (field ∷ fields)) (sym is) (h, more)
+
+    from : (all : List A) → AllZip P (field ∷ fields) all → Steps all
+    from [] h = absurd h
+    from (x ∷ xs) h = (x, h.0, (xs, h.1, refl))
