@@ -8,8 +8,8 @@ use Rattle.crossbeam_channel.specs.Claims.{Pass, view}
 use Rattle.crossbeam_channel.specs.Ends.{ruled_capacity}
 use Rattle.lane.specs.declared.message.Taken.{Taken}
 use Rattle.lane.specs.declared.part.Part.{Part}
-use Rattle.lane.specs.declared.part.Part.TheVariants.{Count, Put, Take, Close}
-use Rattle.lane.specs.Ends.{Lane, PutEndView, TakeEndView, CloserView, StoppedView}
+use Rattle.lane.specs.declared.part.Part.TheVariants.{Put, Take, Close}
+use Rattle.lane.specs.Ends.{Lane, PutEndView, TakeEndView, CloserView, GivenUpView, StoppedView}
 use Rattle.lane.specs.Whole.{GatheredView}
 
 -- what the first part of a view knows: its list, and the Quits that the closer put
@@ -71,12 +71,11 @@ take_end_view s taker = record { lane = s.lane; taker = taker; took = took_in s.
 abbrev pub closer_view : SeatView → ℕ → ℕ → CloserView
 closer_view s files takers = record { lane = s.lane; files = files; takers = takers }
 
+abbrev pub given_up_view : SeatView → GivenUpView
+given_up_view s = record { lane = s.lane; quits = quits_in s.known }
+
 abbrev pub stopped_view : SeatView → ℕ → StoppedView
 stopped_view s takers = record { lane = s.lane; takers = takers; sent = sent_lists s.known }
-
--- a lane that was given up: the number of Quits that the pass put
-abbrev pub quits_of : Pass Taken (List Part) → ℕ
-quits_of p = quits_in (view p)
 
 -- what was gathered, by what the pass of all parts knows
 abbrev pub gathered_view : Pass Taken (List Part) → GatheredView

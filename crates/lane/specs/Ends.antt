@@ -27,6 +27,11 @@ pub record CloserView : Type 0 where
   pub files : ℕ
   pub takers : ℕ
 
+-- a lane that was given up, and for how many takers a Quit was put
+pub record GivenUpView : Type 0 where
+  pub lane : Lane
+  pub quits : ℕ
+
 -- a stopped lane, with what each file sent
 pub record StoppedView : Type 0 where
   pub lane : Lane

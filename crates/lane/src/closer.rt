@@ -1,12 +1,12 @@
 //! The closer of a lane, which stops it once every file has ended, or gives it up.
 
-ghost use Rattle.std.specs.Prelude.{◌≡◌, ◌<◌, ◌≤◌, true, [], ◌∷◌, length, map, ℕ};
+ghost use Rattle.std.specs.Prelude.{◌≡◌, ◌<◌, ◌≤◌, true, [], ◌∷◌, length, map};
 ghost use Rattle.std.specs.List.{All, sum_by};
 ghost use Rattle.crossbeam_channel.specs.Ends.{receives_on};
 ghost use Rattle.lane.specs.MessageKinds.{is_done, row_count};
 ghost use Rattle.lane.specs.Rule.{put_parts};
-ghost use Rattle.lane.specs.EndFields.{sent_lists, taken_lists, room_of, closer_view, quits_of, stopped_view};
-ghost use Rattle.lane.specs.Ends.{ArePutsFrom, AreTakesFrom, CloserView, StoppedView};
+ghost use Rattle.lane.specs.EndFields.{sent_lists, taken_lists, room_of, closer_view, given_up_view, stopped_view};
+ghost use Rattle.lane.specs.Ends.{ArePutsFrom, AreTakesFrom, CloserView, GivenUpView, StoppedView};
 ghost use Rattle.lane.specs.inner.Kept.{IsChannelOf, IsJoined, IsStopping, IsAllIn, IsCloser};
 ghost use Rattle.lane.specs.Whole.{IsWhole};
 
@@ -14,7 +14,7 @@ use crate::gathered::Gathered;
 use crate::message::Taken;
 use crate::part::Part;
 use crate::put_end::EndedPut;
-use crate::rule::{Receiver, Seat};
+use crate::rule::Receiver;
 use crate::seated::SeatedSender;
 use crate::take_end::TakeEnd;
 use std::marker::Model;
@@ -89,7 +89,8 @@ impl Closer {
     /// thread.
     pub fn quit<R: Wait>(self, rt: &R, n: u8) -> GivenUp
         requires few { n ≤ self.takers }
-        ensures quits { result ≡ n }
+        ensures lane { result.lane ≡ self.lane }
+        ensures quits { result.quits ≡ n }
     {
         let Closer {
             mut seat,
@@ -98,22 +99,29 @@ impl Closer {
             takers,
         } = self;
         put_quits(rt, &mut seat, files, takers, n);
-        GivenUp {
-            pass: seat.into_pass(),
-        }
+        GivenUp { seat }
     }
 }
 
-/// A lane that was given up. Contracts see the number of its Quit marks.
+/// A lane that was given up. Contracts see the lane and the number of its Quit marks.
 #[derive(Drop)]
 pub struct GivenUp {
-    pass: Seat,
+    seat: SeatedSender,
 }
 
 impl Model for GivenUp {
-    ghost Value = { ℕ };
+    ghost Value = { GivenUpView };
 
-    ghost view = { λ e. quits_of e.pass };
+    ghost view = { λ e. given_up_view e.seat };
+}
+
+impl GivenUp {
+    /// The sender and the pass by which it gave the lane up.
+    pub fn seat(&self) -> &SeatedSender
+        ensures { self.now ≡ given_up_view result.now }
+    {
+        &self.seat
+    }
 }
 
 // The parts of the ended puts join the closer's. Answers the number of their rows.

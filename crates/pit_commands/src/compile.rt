@@ -25,7 +25,6 @@ use std::alloc::{AllocError, Global};
 use std::rt::Files;
 use std::sync::Wait;
 use std::thread::Threads;
-use valuers::OpenGate;
 
 /// Compiles the zone files at these paths, which are opened in order, into the sinks, as `run` does with a gate that is always open.
 /// Appends the line `rows N` to `out`, N being the number of rows over all zone files. No other file is opened.
@@ -67,16 +66,7 @@ pub fn compile_into<R: Threads + Wait + Sync, O: Opener, S: Sink>(
     ensures settled { AreSettled starts.old starts.new }
 {
     let feeds = open_all(alloc, zones, files)?;
-    let gathered = run_with_starts(
-        alloc,
-        feeds,
-        plan,
-        destinations,
-        settings,
-        starts,
-        &OpenGate,
-        sinks,
-    )?;
+    let gathered = run_with_starts(alloc, feeds, plan, destinations, settings, starts, sinks)?;
     append_rows(alloc, gathered.rows(), out)?;
     Ok(())
 }

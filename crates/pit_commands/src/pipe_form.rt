@@ -23,7 +23,6 @@ use pit_parts::ranges::{USUAL_CAPACITY, USUAL_VALUERS};
 use std::alloc::{AllocError, Global};
 use std::sync::Wait;
 use std::thread::Threads;
-use valuers::OpenGate;
 
 /// The settings of the pipe form.
 pub const SETTINGS: Settings = Settings {
@@ -88,15 +87,7 @@ pub fn pipe_with_starts<R: Threads + Wait + Sync>(
 {
     require_settings(zones.len(), plan, destinations, SETTINGS)?;
     let feeds = lent(alloc, zones)?;
-    let compiled = compile_with_starts(
-        alloc,
-        feeds,
-        plan,
-        destinations,
-        SETTINGS,
-        starts,
-        &OpenGate,
-    )?;
+    let compiled = compile_with_starts(alloc, feeds, plan, destinations, SETTINGS, starts)?;
     print(alloc, &compiled.instance, out)?;
     Ok(compiled.gathered)
 }

@@ -84,28 +84,20 @@ pub fn compile<R: Threads + Wait + Sync, F: Feed + Send + Drop, G: Gate + Sync>(
         (λ _. budget.settings.valuers + length feeds.items ≤ budget.starts) }
 {
     let Budget { settings, starts } = budget;
-    let mut starts = Starts::new(rt, starts);
-    compile_with_starts(
-        alloc,
-        feeds,
-        plan,
-        destinations,
-        settings,
-        &mut starts,
-        gate,
-    )
+    let mut starts = Starts::with_gate(rt, starts, gate);
+    compile_with_starts(alloc, feeds, plan, destinations, settings, &mut starts)
 }
 
-/// The same as `compile`, with starts that the caller lends, and which tell what became of them: a thread is started for each valuer and
-/// each file, and joined, or else a start was refused, or none was tried. `NoThread` is answered only where a start was refused.
+/// The same as `compile`, with starts that the caller lends, and behind their gate. The starts tell what became of them: a thread is started
+/// for each valuer and each file, and joined, or else a start was refused, or none was tried. `NoThread` is answered only where a start was
+/// refused.
 pub fn compile_with_starts<R: Threads + Wait + Sync, F: Feed + Send + Drop, G: Gate + Sync>(
     alloc: Global,
     feeds: Vec<F>,
     plan: &Plan,
     destinations: &[Destination],
     settings: Settings,
-    starts: &mut Starts<'_, R>,
-    gate: &G,
+    starts: &mut Starts<'_, R, G>,
 ) -> Result<Compiled, Refusal>
     requires unspent { starts.old ≡ none_spent starts.old.allowed }
     ensures settings { (kind : ASettingsFault) → (result ≡ Err (Refusal.Settings kind))
@@ -133,7 +125,7 @@ pub fn compile_with_starts<R: Threads + Wait + Sync, F: Feed + Send + Drop, G: G
         valuers: settings.valuers as u8,
         capacity: settings.capacity,
     };
-    let (handed, _given) = hand_over(alloc, feeds, plan, destinations, allowance, starts, gate)?;
+    let (handed, _given) = hand_over(alloc, feeds, plan, destinations, allowance, starts)?;
     compiled_of(alloc, plan, given, handed)
 }
 

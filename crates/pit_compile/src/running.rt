@@ -83,7 +83,7 @@ pub fn run_limited<R: Threads + Wait + Sync, F: Feed + Send + Drop, G: Gate + Sy
         Runs plan.now (formulas_of destinations.now) settings (map F.left feeds.items)
         (HasFailed F.is_sure F.failures feeds.items) starts (told sinks.old) (told sinks.new) result }
 {
-    let mut starts = Starts::new(rt, starts);
+    let mut starts = Starts::with_gate(rt, starts, gate);
     run_with_starts(
         alloc,
         feeds,
@@ -91,20 +91,19 @@ pub fn run_limited<R: Threads + Wait + Sync, F: Feed + Send + Drop, G: Gate + Sy
         destinations,
         settings,
         &mut starts,
-        gate,
         sinks,
     )
 }
 
-/// The same as `run_limited`, with starts that the caller lends, and which tell what became of them, as of `compile_with_starts`.
+/// The same as `run_limited`, with starts that the caller lends, and behind their gate. The starts tell what became of them, as of
+/// `compile_with_starts`.
 pub fn run_with_starts<R: Threads + Wait + Sync, F: Feed + Send + Drop, G: Gate + Sync, S: Sink>(
     alloc: Global,
     feeds: Vec<F>,
     plan: &Plan,
     destinations: &[Destination],
     settings: Settings,
-    starts: &mut Starts<'_, R>,
-    gate: &G,
+    starts: &mut Starts<'_, R, G>,
     sinks: &mut Sinks<S>,
 ) -> Result<Gathered, Refusal>
     requires unspent { starts.old ≡ none_spent starts.old.allowed }
@@ -127,7 +126,6 @@ pub fn run_with_starts<R: Threads + Wait + Sync, F: Feed + Send + Drop, G: Gate 
         destinations,
         settings,
         starts,
-        gate,
     )?;
     write_texts(alloc, &instance, sinks)?;
     Ok(gathered)

@@ -1,10 +1,9 @@
 -- What joined threads gave back, by what they promised.
 use Rattle.std.proofs.Common.{◌≡◌, ℕ, zero, suc, ◌+◌, List, [], ◌∷◌, ◌++◌, Bool, true, false, Option, length, map, drop, get_or, refl, sym, ap, ◌∙◌, subst, arith, All, append_assoc, inl, inr, ⊎_elim, true≢false, ◌||◌}
 use Rattle.std.proofs.lemmas.List.{map-append, length-map}
-use Rattle.std.proofs.lemmas.Simd.{map-map}
 use Rattle.std.specs.List.{AllZip, list_any}
 use Rattle.std.proofs.lemmas.Bool.{cases_Bool, or_parts}
-use Rattle.std.proofs.lemmas.List.Elements.{All-nil, All-cons, All-head, All-rest}
+use Rattle.std.proofs.lemmas.List.Elements.{All-nil, All-cons, All-head, All-rest, All-tail}
 use Rattle.lane.specs.Ends.{Lane, PutEndView, TakeEndView, ArePutsFrom, AreTakesFrom, first_puts, first_takes}
 use Rattle.lane.specs.MessageKinds.{is_done}
 use Rattle.pit_parts.specs.PlanFormulas.{formulas_of_plan}
@@ -49,6 +48,28 @@ first_unsent lane k (suc n) = (refl, refl, first_unsent lane (k + 1) n)
 pub unsent_rest : (k : ℕ) (e : PutEndView) (l rest : List PutEndView) → l ≡ e ∷ rest → AreUnsentFrom k l
     → (e.file ≡ k) × (e.sent ≡ []) × AreUnsentFrom (k + 1) rest
 unsent_rest k e l rest is h = subst (AreUnsentFrom k) is h
+
+-- the ends that are made for a lane are of it
+pub puts_of_lane : (lane : Lane) (k n : ℕ) → All (λ (e : PutEndView). e.lane ≡ lane) (first_puts lane k n)
+puts_of_lane lane k zero = All-nil (λ (e : PutEndView). e.lane ≡ lane)
+puts_of_lane lane k (suc n) =
+    All-cons (λ (e : PutEndView). e.lane ≡ lane) (record { lane = lane; file = k; sent = [] }) (first_puts lane (k + 1) n) refl
+    (puts_of_lane lane (k + 1) n)
+
+pub takes_of_lane : (lane : Lane) (k n : ℕ) → All (λ (e : TakeEndView). e.lane ≡ lane) (first_takes lane k n)
+takes_of_lane lane k zero = All-nil (λ (e : TakeEndView). e.lane ≡ lane)
+takes_of_lane lane k (suc n) =
+    All-cons (λ (e : TakeEndView). e.lane ≡ lane) (record { lane = lane; taker = k; took = [] }) (first_takes lane (k + 1) n) refl
+    (takes_of_lane lane (k + 1) n)
+
+-- what holds of all ends holds of the first of them, which threads were given
+pub of_given : {H E : Type 0} (P : E → Type 0) (end : H → E) (hs : List H) (rest all : List E) → map end hs ++ rest ≡ all → All P all
+    → All (λ h. P (end h)) hs
+of_given P end [] rest all is h = All-nil (λ h. P (end h))
+of_given P end (x ∷ xs) rest all is h =
+    let behind = map end xs ++ rest in
+    let whole : All P (end x ∷ behind) = subst (All P) (sym is) h in
+    All-cons (λ h. P (end h)) x xs (All-head P (end x) behind whole) (of_given P end xs rest behind refl (All-tail P (end x) behind whole))
 
 -- the readers of one plan, whatever their handles are
 module _ {H F : Type 0} (left : F → Option (List ℕ)) (is_sure : F → Bool) (failures : F → ℕ) (feed : H → F) (plan : H → PlanParts)

@@ -70,8 +70,9 @@ impl From<GaveUp> for OrMemory<NoThread> {
 }
 
 /// Reads each file in a thread of its own, into a lane from which the valuers, each in a thread of its own, take and
-/// value the rows. The valuers start first. No thread is cancelled: every reader runs to the end of its file or to its
-/// first fault. The feeds are used up, each by the thread that it is given to, and one of the starts for each thread.
+/// value the rows, behind the gate of the starts. The valuers start first. No thread is cancelled: every reader runs to the
+/// end of its file or to its first fault. The feeds are used up, each by the thread that it is given to, and one of the
+/// starts for each thread.
 ///
 /// # Errors
 ///
@@ -83,8 +84,7 @@ pub fn hand_over<R: Threads + Wait + Sync, F: Feed + Send + Drop, G: Gate + Sync
     plan: &Plan,
     destinations: &[Destination],
     allowance: Allowance,
-    starts: &mut Starts<'_, R>,
-    gate: &G,
+    starts: &mut Starts<'_, R, G>,
 ) -> Result<(HandedOver, GivenFeeds<F>), OrMemory<NoThread>>
     requires files { length feeds.items ≡ length plan.now.cones }
     requires valuers { (1 ≤ allowance.valuers) × (allowance.valuers ≤ MAX_VALUERS) }
@@ -127,7 +127,7 @@ pub fn hand_over<R: Threads + Wait + Sync, F: Feed + Send + Drop, G: Gate + Sync
             alloc,
             plan,
             destinations,
-            gate,
+            gate: starts.gate(),
         },
         room: room_for(alloc, lane.puts.len(), lane.takes.len())?,
         valuers: Vec::with_capacity(alloc, lane.takes.len())?,

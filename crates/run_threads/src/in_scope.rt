@@ -48,7 +48,7 @@ pub fn hand_over_in<'s, E, T: Threads, R: Wait + Sync, F: Feed + Send + Drop + '
     ensures settled { AreSettled starter.entry result.starts }
 
     // Where one was refused, the valuers are ended by a Quit each.
-    ensures quits { IfErr result.handed (λ gave_up. gave_up.quits ≡ gave_up.valuers) }
+    ensures quits { IfErr result.handed (λ gave_up. gave_up.quits.quits ≡ gave_up.valuers) }
 {
     let Ready {
         shared,

@@ -1,7 +1,8 @@
-//! The starts of a run's threads, which are counted, and their joins. This module alone starts and joins threads, and alone hands on the
-//! runtime that does: to the scope of a run, and to what waits in its threads.
+//! The starts of a run's threads, which are counted, and their joins. Of this crate this module alone starts and joins threads. It hands on
+//! the runtime that does to `hand_over`, which opens the scope of a run, and lends it to what waits in its threads.
 
 ghost use Rattle.std.specs.Prelude.{◌≡◌, ◌+◌, ◌<◌, ◌≤◌, true, false, is_some, map, IfSome, OnSome};
+ghost use Rattle.lane.specs.Ends.{Lane};
 ghost use Rattle.run_threads.specs.Starts.{none_spent};
 ghost use Rattle.pit_parts.specs.PlanFormulas.{formulas_of_plan};
 ghost use Rattle.run_threads.specs.inner.Promises.{KeepsRead, KeepsValued};
@@ -11,23 +12,25 @@ ghost use Rattle.run_threads.specs.declared.starts.OnThread.{OnThread as AThread
 use crate::file_reading::FileRead;
 use crate::promises::{ReadBy, ReaderHandle, ValuedBy, ValuerHandle};
 use devices::feeds::feed::Feed;
-use lane::{Closer, GivenUp, PutEnd, Stopped};
+use lane::{Closer, GivenUp, PutEnd, SeatedSender, Stopped};
 use pit_parts::plan::Plan;
 use std::marker::{Model, PhantomData};
 use std::mem;
 use std::snapshot::Snapshot;
 use std::thread::{Promise, PromisedHandle, Scope, Threads};
-use valuers::{PackedItems, ValuerResult};
+use valuers::{OpenGate, PackedItems, ValuerResult};
 
-/// The starts of threads. They have the runtime on which threads are started and waited for, and give it to no other crate: so who is lent
-/// starts can spend no others, and wait for nothing but a run.
+/// The starts of threads. They have the runtime on which threads are started and waited for, and the gate of a run, to which that is lent;
+/// and they give neither to another crate. So who is lent starts, and has no runtime of its own, can spend no others, and wait for nothing
+/// but a run behind this gate.
 #[derive(Drop)]
-pub struct Starts<'a, R> {
+pub struct Starts<'a, R, G = OpenGate> {
     rt: &'a R,
+    gate: &'a G,
     counted: Counted,
 }
 
-impl<'a, R> Model for Starts<'a, R> {
+impl<'a, R, G> Model for Starts<'a, R, G> {
     ghost use Rattle.run_threads.specs.Starts.{StartsView};
 
     ghost Value = { StartsView };
@@ -36,12 +39,22 @@ impl<'a, R> Model for Starts<'a, R> {
 }
 
 impl<'a, R> Starts<'a, R> {
-    /// So many starts on this runtime, of which none is spent: one more counts as refused.
+    /// So many starts on this runtime, of which none is spent: one more counts as refused. Their gate is open.
     pub fn new(rt: &'a R, allowed: u32) -> Starts<'a, R>
+        ensures { result ≡ none_spent allowed }
+    {
+        Starts::with_gate(rt, allowed, &OpenGate)
+    }
+}
+
+impl<'a, R, G> Starts<'a, R, G> {
+    /// The same, with this gate.
+    pub fn with_gate(rt: &'a R, allowed: u32, gate: &'a G) -> Starts<'a, R, G>
         ensures { result ≡ none_spent allowed }
     {
         Starts {
             rt,
+            gate,
             counted: Counted::new(allowed),
         }
     }
@@ -49,6 +62,11 @@ impl<'a, R> Starts<'a, R> {
     /// The runtime.
     pub(crate) fn runtime(&self) -> &'a R {
         self.rt
+    }
+
+    /// The gate.
+    pub(crate) fn gate(&self) -> &'a G {
+        self.gate
     }
 
     /// What is counted, to be given back: until then there is no start here.
@@ -122,38 +140,74 @@ pub struct OnThread {
     here: PhantomData<*mut u8>,
 }
 
-/// That each valuer is sent the mark that ends it.
+/// What there is of a lane once threads at its ends may be joined.
+pub trait OfLane {
+    /// The lane.
+    ghost lane_of: { Self → Lane };
+}
+
+// It is not closed yet.
+impl OfLane for Closer {
+    ghost lane_of = { λ closer. closer.lane };
+}
+
+/// That each valuer which was started at this lane is sent the mark that ends it. Contracts see the lane.
 #[derive(Drop)]
 pub struct LaneEnded {
-    _ended: (),
+    seat: Snapshot<SeatedSender>,
+}
+
+impl Model for LaneEnded {
+    ghost Value = { Lane };
+
+    ghost view = { λ ended. ended.seat.value.lane };
 }
 
 impl LaneEnded {
     /// The lane was stopped.
-    pub fn by_stop(_stopped: &Stopped) -> LaneEnded {
-        LaneEnded { _ended: () }
+    pub fn by_stop(stopped: &Stopped) -> LaneEnded
+        ensures { result ≡ stopped.now.lane }
+    {
+        LaneEnded {
+            seat: Snapshot::of(stopped.seat()),
+        }
     }
 
     /// The lane was given up.
-    pub fn by_quits(_quits: &GivenUp) -> LaneEnded {
-        LaneEnded { _ended: () }
+    pub fn by_quits(quits: &GivenUp) -> LaneEnded
+        ensures { result ≡ quits.now.lane }
+    {
+        LaneEnded {
+            seat: Snapshot::of(quits.seat()),
+        }
     }
+}
+
+impl OfLane for LaneEnded {
+    ghost lane_of = { λ ended. ended };
 }
 
 /// A promise of a thread of a run.
 pub trait RunPromise {
     /// What there is once the thread may be joined.
-    type Behind;
+    type Behind: OfLane;
+
+    /// The lane that the thread puts into, or takes from.
+    ghost lane: { Self → Lane };
 }
 
 // A reader ends by itself, while valuers take: before the lane is closed.
 impl<F> RunPromise for ReadBy<F> {
     type Behind = Closer;
+
+    ghost lane = { λ promise. promise.end.value.lane };
 }
 
 // A valuer ends by the mark that it is sent.
 impl RunPromise for ValuedBy {
     type Behind = LaneEnded;
+
+    ghost lane = { λ promise. promise.end.value.lane };
 }
 
 /// The feeds that the threads of readers were given, in the order of these threads.
@@ -304,13 +358,14 @@ impl<'s, E, T> Starter<'s, E, T> {
 }
 
 impl<'s, E, T: Threads> Starter<'s, E, T> {
-    /// Joins a thread, where there is what it may be joined behind.
+    /// Joins a thread, where there is of its lane what it may be joined behind.
     pub fn join<A, P: Promise<A> + RunPromise>(
         &mut self,
         handle: PromisedHandle<A, P>,
         _behind: &P::Behind,
     ) -> A
         requires running { self.old.joined < self.old.spent }
+        requires lane { P.lane handle.promise ≡ P.Behind.lane_of _behind.now }
         ensures kept { P.kept_by handle.promise result }
         ensures counted { self.new ≡ after_join self.old }
     {

@@ -21,7 +21,6 @@ use pit_model::plan::Plan;
 use std::alloc::{AllocError, Global};
 use std::sync::Wait;
 use std::thread::Threads;
-use valuers::OpenGate;
 
 /// Compiles the zone files at these paths, which are opened in order, as `compile` does with a gate that is always open, and writes what
 /// is left of the predecessors of their instance into the sink, as a precedence file. Appends the line `rows N arcs M of L` to `out`: the
@@ -70,7 +69,6 @@ pub fn thin_into<R: Threads + Wait + Sync, O: Opener, S: Sink>(
         destinations,
         settings,
         starts,
-        &OpenGate,
     )?;
     let counts = write_fewer(alloc, instance, sink)?;
     append_counts(alloc, counts, out)?;

@@ -2,6 +2,7 @@
 //! readers, and valuers are joined behind their Quits.
 
 ghost use Rattle.std.specs.Prelude.{◌≡◌, ◌+◌, ◌≤◌, vec_len};
+ghost use Rattle.std.specs.List.{All};
 ghost use Rattle.run_threads.specs.inner.Started.{after_joins};
 
 use crate::promises::ValuerHandle;
@@ -30,6 +31,7 @@ pub fn join_each<'s, E, T: Threads, A: Drop, P: Promise<A> + RunPromise>(
     behind: &P::Behind,
 ) -> Joined
     requires running { starter.old.joined + vec_len handles ≤ starter.old.spent }
+    requires lane { All (λ h. P.lane h.promise ≡ P.Behind.lane_of behind.now) handles.items }
     ensures counted { starter.new ≡ after_joins (vec_len handles) starter.old }
 {
     for handle in handles {
@@ -41,18 +43,20 @@ pub fn join_each<'s, E, T: Threads, A: Drop, P: Promise<A> + RunPromise>(
 /// Sends a Quit for each of so many valuers.
 pub fn quit_each<R: Wait>(rt: &R, closer: Closer, _readers: &Joined, valuers: usize) -> GivenUp
     requires { valuers ≤ closer.takers }
-    ensures { result ≡ valuers }
+    ensures lane { result.lane ≡ closer.lane }
+    ensures quits { result.quits ≡ valuers }
 {
     closer.quit(rt, valuers as u8)
 }
 
-/// Joins the valuers, for each of which a Quit was sent.
+/// Joins the valuers, for each of which a Quit was sent into their lane.
 pub fn join_behind<'s, E, T: Threads>(
     starter: &mut Starter<'s, E, T>,
     quits: GivenUp,
     valuers: Vec<ValuerHandle>,
 ) -> GaveUp
-    requires quits { vec_len valuers ≤ quits }
+    requires lane { All (λ h. h.promise.end.value.lane ≡ quits.lane) valuers.items }
+    requires quits { vec_len valuers ≤ quits.quits }
     requires running { starter.old.joined + vec_len valuers ≤ starter.old.spent }
     ensures quits { result.quits ≡ quits }
     ensures valuers { result.valuers ≡ vec_len valuers }

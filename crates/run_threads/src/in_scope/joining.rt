@@ -1,7 +1,7 @@
 //! Joining threads, and parting what they give back.
 
 ghost use Rattle.std.specs.Prelude.{◌≡◌, ◌+◌, ◌≤◌, [], map, vec_len, vec_capacity};
-ghost use Rattle.std.specs.List.{AllZip, list_any};
+ghost use Rattle.std.specs.List.{All, AllZip, list_any};
 ghost use Rattle.run_threads.specs.inner.Started.{after_joins};
 
 use crate::file_reading::FileRead;
@@ -22,6 +22,7 @@ pub fn join_all<'s, E, T: Threads, A: Drop, P: Promise<A> + RunPromise>(
     requires empty { results.items ≡ [] }
     requires room { vec_len handles ≤ vec_capacity results }
     requires running { starter.old.joined + vec_len handles ≤ starter.old.spent }
+    requires lane { All (λ h. P.lane h.promise ≡ P.Behind.lane_of behind.now) handles.items }
     ensures kept { AllZip (λ h r. P.kept_by h.promise r) handles.items result.items }
     ensures count { vec_len result ≡ vec_len handles }
     ensures counted { starter.new ≡ after_joins (vec_len handles) starter.old }

@@ -82,10 +82,12 @@ pub fn give_up<'s, E, T: Threads, R: Wait, F: Feed>(
     readers: Vec<ReaderHandle<F>>,
     valuers: Vec<ValuerHandle>,
 ) -> GaveUp
+    requires puts { All (λ h. h.promise.end.value.lane ≡ closer.lane) readers.items }
+    requires takes { All (λ h. h.promise.end.value.lane ≡ closer.lane) valuers.items }
     requires takers { vec_len valuers ≤ closer.takers }
     requires running { starter.old.joined + (vec_len readers + vec_len valuers)
         ≤ starter.old.spent }
-    ensures quits { result.quits ≡ vec_len valuers }
+    ensures quits { result.quits.quits ≡ vec_len valuers }
     ensures valuers { result.valuers ≡ vec_len valuers }
     ensures counted { starter.new
         ≡ after_joins (vec_len readers + vec_len valuers) starter.old }

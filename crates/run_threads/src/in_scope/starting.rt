@@ -2,6 +2,7 @@
 
 ghost use Rattle.std.specs.Prelude.{◌≡◌, ◌<◌, ◌≤◌, ◌++◌, [], true, false, drop, is_some, length, map, vec_len, vec_capacity, IsFalse, IsTrue, IfSome};
 ghost use Rattle.std.specs.List.{All};
+ghost use Rattle.lane.specs.Ends.{Lane};
 ghost use Rattle.lane.specs.MessageKinds.{is_done};
 ghost use Rattle.pit_parts.specs.Destinations.{formulas_of};
 ghost use Rattle.run_threads.specs.Reading.{IsRead};
@@ -42,6 +43,8 @@ pub fn start_valuers<'s, E, T, R: Wait + Sync, G: Gate + Sync>(
     requires room { vec_len takes ≤ vec_capacity handles }
     ensures ends { IsFalse result.refused
         → map (λ h. h.promise.end.value) result.handles.items ≡ takes.items }
+    ensures lanes { (lane : Lane) → All (λ end. end.lane ≡ lane) takes.items
+        → All (λ h. h.promise.end.value.lane ≡ lane) result.handles.items }
     ensures plans { All (λ h. h.promise.plan.value ≡ shared.now.plan.now) result.handles.items }
     ensures count { vec_len result.handles ≤ vec_len takes }
     ensures short { IsTrue result.refused → vec_len result.handles < vec_len takes }
@@ -87,6 +90,8 @@ pub fn start_readers<'s, E, T, R: Wait + Sync, F: Feed + Send + Drop + 's, G: Ga
     // Which readers run: where none was refused, one for each end.
     ensures ends { IsFalse result.refused
         → map (λ h. h.promise.end.value) result.handles.items ≡ ends.items }
+    ensures lanes { (lane : Lane) → All (λ end. end.lane ≡ lane) ends.items
+        → All (λ h. h.promise.end.value.lane ≡ lane) result.handles.items }
     ensures feeds { IsFalse result.refused
         → map (λ h. h.promise.feed.value) result.handles.items ≡ feeds.items }
     ensures plans { All (λ h. h.promise.plan.value ≡ shared.now.plan.now) result.handles.items }

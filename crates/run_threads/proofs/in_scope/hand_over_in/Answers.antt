@@ -1,6 +1,6 @@
 use Rattle.std.proofs.Common.{rules, ◌≡◌, map, subst}
 use Rattle.run_threads.specs.inner.HandingOver.{IsHandedOver}
-use Rattle.run_threads.proofs.Joined.{first_unsent}
+use Rattle.run_threads.proofs.Joined.{first_unsent, puts_of_lane, takes_of_lane}
 use Rattle.run_threads.proofs.in_scope.hand_over_in.Goals as goal
 
 pub start_readers-readers-requires-clause-unsent :
@@ -8,6 +8,23 @@ pub start_readers-readers-requires-clause-unsent :
 start_readers-readers-requires-clause-unsent g c κs within =
     let lane = c.args.ready.lane in
     rw lane.puts_are (first_unsent lane.closer.lane 0 lane.closer.files)
+
+pub give_up-gave_up-requires-clause-takes : goal.give_up-gave_up-requires-clause-takes
+give_up-gave_up-requires-clause-takes g c =
+    let lane = c.args.ready.lane in
+    c.start_valuers-valuers.ensures.lanes lane.closer.lane (rw lane.takes_are (takes_of_lane lane.closer.lane 0 lane.closer.takers))
+
+pub give_up-gave_up-requires-then-readers-clause-puts :
+    goal.give_up-gave_up-requires-then-readers-clause-puts
+give_up-gave_up-requires-then-readers-clause-puts g c =
+    let lane = c.args.ready.lane in
+    c.start_readers-readers.ensures.lanes lane.closer.lane (rw lane.puts_are (puts_of_lane lane.closer.lane 0 lane.closer.files))
+
+pub give_up-gave_up-requires-then-readers-clause-takes :
+    goal.give_up-gave_up-requires-then-readers-clause-takes
+give_up-gave_up-requires-then-readers-clause-takes g c =
+    let lane = c.args.ready.lane in
+    c.start_valuers-valuers.ensures.lanes lane.closer.lane (rw lane.takes_are (takes_of_lane lane.closer.lane 0 lane.closer.takers))
 
 pub returns-clause-handed : goal.returns-clause-handed
 returns-clause-handed g c =

@@ -1,8 +1,18 @@
 use Rattle.std.proofs.Common.{rules, ◌≡◌, ◌∷◌, ◌++◌, [], sym, ◌∙◌}
 use Rattle.std.proofs.lemmas.List.{nil_from_length}
+use Rattle.std.proofs.lemmas.List.Elements.{All-head, All-rest, All-same}
 use Rattle.std.specs.Vec.Iter.{into_iter_items, into_iter_len}
 use Rattle.run_threads.proofs.Joined.{partly_more, partly_all}
 use Rattle.run_threads.proofs.in_scope.joining.join_all.Goals as goal
+
+pub join-requires-clause-lane : goal.join-requires-clause-lane
+join-requires-clause-lane g c =
+    let all = into_iter_items c.loop-handle.handle-iterator in
+    let behind = into_iter_items c.next.new.self in
+    let rest : all ≡ c.in-Some.handle ∷ behind = search rules in
+    All-head (λ h. g.P.RunPromise.lane h.promise ≡ g.P.Behind.OfLane.lane_of c.args.behind.now) c.in-Some.handle behind
+    (All-same (λ h. g.P.RunPromise.lane h.promise ≡ g.P.Behind.OfLane.lane_of c.args.behind.now) (c.in-Some.handle ∷ behind) all (sym rest)
+    c.loop-handle.invariant.lane)
 
 pub loop-handle-preserved : goal.loop-handle-preserved
 loop-handle-preserved g c =
@@ -15,6 +25,7 @@ loop-handle-preserved g c =
       left = search rules;
       count = search rules;
       room = search rules;
+      lane = All-rest (λ h. g.P.RunPromise.lane h.promise ≡ g.P.Behind.OfLane.lane_of c.args.behind.now) c.in-Some.handle (into_iter_items c.next.new.self) (into_iter_items c.loop-handle.handle-iterator) rest was.lane;
       counted = search rules;
     }
 

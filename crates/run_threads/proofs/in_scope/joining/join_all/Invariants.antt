@@ -1,4 +1,4 @@
-use Rattle.std.proofs.Common.{◌≡◌, ◌+◌, ◌≤◌, length, vec_len}
+use Rattle.std.proofs.Common.{◌≡◌, ◌+◌, ◌≤◌, length, vec_len, All}
 use Rattle.std.specs.Prelude.{vec_capacity}
 use Rattle.std.specs.Vec.Iter.{into_iter_items, into_iter_len}
 use Rattle.run_threads.specs.inner.Promises.{IsPartly}
@@ -12,5 +12,6 @@ invariant-loop-handle g l =
       left : into_iter_len l.handle-iterator ≡ length (into_iter_items l.handle-iterator);
       count : vec_len l.results + into_iter_len l.handle-iterator ≡ vec_len l.fn.handles;
       room : vec_len l.fn.handles ≤ vec_capacity l.results;
+      lane : All (λ h. g.P.RunPromise.lane h.promise ≡ g.P.Behind.OfLane.lane_of l.behind) (into_iter_items l.handle-iterator);
       counted : l.starter ≡ after_joins (vec_len l.results) l.fn.starter;
     }

@@ -1,8 +1,25 @@
-use Rattle.std.proofs.Common.{arith, rules, ◌≡◌, ◌∙◌, All, true, sym, subst}
-use Rattle.lane.specs.Ends.{TakeEndView}
+use Rattle.std.proofs.Common.{arith, rules, ◌≡◌, ◌∙◌, All, [], append-nil, map, true, sym, subst}
+use Rattle.lane.specs.Ends.{Lane, PutEndView, TakeEndView, first_puts, first_takes}
 use Rattle.lane.specs.MessageKinds.{is_done}
-use Rattle.run_threads.proofs.Joined.{puts_of, read_of, takes_of, done_of, valued_of, full_of}
+use Rattle.run_threads.proofs.Joined.{puts_of, read_of, takes_of, done_of, valued_of, full_of, of_given, puts_of_lane, takes_of_lane}
 use Rattle.run_threads.proofs.in_scope.settling.settle.Goals as goal
+
+pub join_all-reads-requires-clause-lane : goal.join_all-reads-requires-clause-lane
+join_all-reads-requires-clause-lane g c =
+    let lane = c.args.closer.lane in
+    let ends = map (λ h. h.promise.end.value) c.args.readers.items in
+    of_given (λ (e : PutEndView). e.lane ≡ lane) (λ h. h.promise.end.value) c.args.readers.items [] (first_puts lane 0 c.args.closer.files)
+    (append-nil ends ∙ c.requires.ends) (puts_of_lane lane 0 c.args.closer.files)
+
+pub join_all-values-requires-clause-lane : goal.join_all-values-requires-clause-lane
+join_all-values-requires-clause-lane g c =
+    let lane = c.args.closer.lane in
+    let ends = map (λ h. h.promise.end.value) c.args.valuers.items in
+    let Same : Lane → Type 0 = λ other. All (λ h. h.promise.end.value.lane ≡ other) c.args.valuers.items in
+    let ended : c.by_stop.result ≡ lane = c.by_stop.ensures ∙ c.stop-stopped.ensures.lane in
+    subst Same (sym ended)
+    (of_given (λ (e : TakeEndView). e.lane ≡ lane) (λ h. h.promise.end.value) c.args.valuers.items [] (first_takes lane 0 c.args.closer.takers)
+    (append-nil ends ∙ c.requires.takes) (takes_of_lane lane 0 c.args.closer.takers))
 
 pub stop-stopped-requires : goal.stop-stopped-requires
 stop-stopped-requires g c =

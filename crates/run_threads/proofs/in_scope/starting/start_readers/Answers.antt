@@ -1,8 +1,9 @@
 use Rattle.std.proofs.Common.{rules, ◌≡◌, ◌+◌, ◌∷◌, ◌++◌, [], subst, vec_len}
 use Rattle.std.proofs.lemmas.List.Elements.{All-push}
 use Rattle.std.specs.Vec.Iter.{into_iter_items}
+use Rattle.lane.specs.Ends.{PutEndView}
 use Rattle.run_threads.specs.inner.Promises.{AreUnsentFrom}
-use Rattle.run_threads.proofs.Joined.{map_step, unsent_rest}
+use Rattle.run_threads.proofs.Joined.{map_step, of_given, unsent_rest}
 use Rattle.run_threads.proofs.in_scope.starting.start_readers.Goals as goal
 
 pub loop-end-preserved : goal.loop-end-preserved
@@ -30,3 +31,13 @@ loop-end-preserved g c =
       counted = search rules;
       within = search rules;
     }
+
+pub returns-in_default-start_reader-clause-lanes : goal.returns-in_default-start_reader-clause-lanes
+returns-in_default-start_reader-clause-lanes g c =
+    λ lane same. of_given (λ (e : PutEndView). e.lane ≡ lane) (λ h. h.promise.end.value) c.loop-end.handles.items
+    (into_iter_items c.loop-end.end-iterator) c.args.ends.items c.loop-end.invariant.ends same
+
+pub returns-clause-lanes : goal.returns-clause-lanes
+returns-clause-lanes g c =
+    λ lane same. of_given (λ (e : PutEndView). e.lane ≡ lane) (λ h. h.promise.end.value) c.loop-end.handles.items
+    (into_iter_items c.loop-end.end-iterator) c.args.ends.items c.loop-end.invariant.ends same

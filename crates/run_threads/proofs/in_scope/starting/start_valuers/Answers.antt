@@ -1,0 +1,34 @@
+use Rattle.std.proofs.Common.{rules, ◌≡◌, ◌∷◌, ◌++◌, []}
+use Rattle.std.proofs.lemmas.List.Elements.{All-push}
+use Rattle.std.specs.Vec.Iter.{into_iter_items}
+use Rattle.lane.specs.Ends.{TakeEndView}
+use Rattle.run_threads.proofs.Joined.{map_step, of_given}
+use Rattle.run_threads.proofs.in_scope.starting.start_valuers.Goals as goal
+
+pub returns-in_default-clause-lanes : goal.returns-in_default-clause-lanes
+returns-in_default-clause-lanes g c =
+    λ lane same. of_given (λ (e : TakeEndView). e.lane ≡ lane) (λ h. h.promise.end.value) c.loop-take.handles.items
+    (into_iter_items c.loop-take.take-iterator) c.args.takes.items c.loop-take.invariant.ends same
+
+pub loop-take-preserved : goal.loop-take-preserved
+loop-take-preserved g c =
+    let was = c.loop-take.invariant in
+    let kept = c.in-Some-start_valuer.ensures.promise in
+    let grown : c.push.new.self.items ≡ c.loop-take.handles.items ++ c.in-Some-start_valuer.handle ∷ [] = search rules in
+    let ends : into_iter_items c.loop-take.take-iterator ≡ c.in-Some.take ∷ into_iter_items c.next.new.self = search rules in
+    record {
+      ends = rw grown (map_step (λ h. h.promise.end.value) c.loop-take.handles.items c.in-Some-start_valuer.handle c.in-Some.take
+          (into_iter_items c.loop-take.take-iterator) (into_iter_items c.next.new.self) c.args.takes.items ends kept.1 was.ends);
+      plans = rw grown (All-push (λ h. h.promise.plan.value ≡ c.args.shared.now.plan.now) c.loop-take.handles.items
+          c.in-Some-start_valuer.handle was.plans kept.0);
+      count = search rules;
+      rest = search rules;
+      room = search rules;
+      counted = search rules;
+      within = search rules;
+    }
+
+pub returns-clause-lanes : goal.returns-clause-lanes
+returns-clause-lanes g c =
+    λ lane same. of_given (λ (e : TakeEndView). e.lane ≡ lane) (λ h. h.promise.end.value) c.loop-take.handles.items
+    (into_iter_items c.loop-take.take-iterator) c.args.takes.items c.loop-take.invariant.ends same
