@@ -1,6 +1,6 @@
 //! The model that an input gives.
 
-ghost use Rattle.std.specs.Prelude.{◌≡◌, ℕ, List, IfOk, IfErr, IfSome};
+ghost use Rattle.std.specs.Prelude.{◌≡◌, ◌+◌, ℕ, List, length, IfOk, IfErr, IfSome, OnOk};
 ghost use Rattle.pit_commands.specs.Model.{HasTooManyFiles, IsModel, IsNoModel};
 ghost use Rattle.pit_edge.specs.Pieces.{plan_piece, zone_pieces};
 
@@ -34,7 +34,9 @@ pub struct Model {
 pub fn read_model<F: Feed>(alloc: Global, feed: &mut F) -> Result<Model, Refused>
     ensures model { IfOk result (λ model. (input : List ℕ)
         × IfSome (F.left feed.old) (λ left. input ≡ left)
+        × (F.given feed.new ≡ F.given feed.old + length input)
         × IsModel input model.pieces model.plan) }
+    ensures works { OnOk result (F.failures feed.new ≡ F.failures feed.old) }
     ensures refused { IfErr result (IsNoModel (F.left feed.old) (F.given feed.old)
         (F.given feed.new) (F.failures feed.old) (F.failures feed.new)) }
 {
