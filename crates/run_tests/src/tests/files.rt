@@ -83,6 +83,7 @@ fn failing_devices(rt: HostRuntime) -> Result<(), Fail> {
     fs::remove_file(&rt, "ore.cpit")?;
     let counts = "blocks 1 arcs 0 coefficients 0 limits 0\n";
     assert!(rt; is_answer(&checked(&rt, alloc, "ore"), (0, counts, "")));
+    assert!(rt; fs::read(&rt, "ore.csv")?.as_slice() == ORE);
     for path in ["ore.csv", "ore.blocks", "ore.prec", "ore.upit", "ore.pcpsp"] {
         fs::remove_file(&rt, path)?;
     }
@@ -102,5 +103,9 @@ fn files_that_are_not_there(rt: HostRuntime) -> Result<(), Fail> {
     assert!(rt; is_answer(&refused, (3, "", "pitc: file 0: FeedFailed\n")));
     let refused = checked(&rt, alloc, "not_there");
     assert!(rt; is_answer(&refused, (3, "", "pitc: blocks: FeedFailed\n")));
+    for ending in ["csv", "blocks", "prec", "upit", "pcpsp", "cpit"] {
+        let path = format!(in alloc; "not_there.{ending}")?;
+        assert!(rt; is_closed(&rt, path.as_str()));
+    }
     Ok(())
 }
