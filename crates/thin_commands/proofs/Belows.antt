@@ -1,5 +1,5 @@
 -- What is left of lists has no identifiers but theirs.
-use Rattle.std.proofs.Common.{◌≡◌, ℕ, ◌<◌, Bool, true, false, List, [], ◌∷◌, ◌++◌, All, fold, get_or, if◌then◌else◌, length, map, subst, sym, arith}
+use Rattle.std.proofs.Common.{◌≡◌, ℕ, ◌<◌, Bool, true, false, List, [], ◌∷◌, ◌++◌, All, fold, get_or, if◌then◌else◌, length, subst, sym, arith}
 use Rattle.std.proofs.lemmas.List.{get_or_default, length-map}
 use Rattle.std.proofs.lemmas.List.Elements.{All-append, All-cons, All-head, All-map, All-tail}
 use Rattle.fewer_arcs.specs.Fewer.{fewer, is_behind, left_of, left_with}

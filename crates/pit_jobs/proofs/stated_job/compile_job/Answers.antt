@@ -1,4 +1,4 @@
-use Rattle.std.proofs.Common.{rules, ◌≡◌, None, Some, refl}
+use Rattle.std.proofs.Common.{rules, ◌≡◌, None, refl}
 use Rattle.std.proofs.lemmas.Option.{MatchOption-at_none, MatchOption-at_some}
 use Rattle.clap.specs.Words.{found_of, rows_of}
 use Rattle.pit_jobs.specs.CommandLine.{FindsWords}
