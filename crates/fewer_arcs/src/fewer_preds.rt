@@ -4,9 +4,8 @@ ghost use Rattle.std.specs.Prelude.{◌≡◌, ◌<◌, ◌^◌, ◌++◌, [], O
 ghost use Rattle.precedence.specs.IdRuns.{ids_of};
 ghost use Rattle.fewer_arcs.specs.Fewer.{fewer, left_of};
 
-use precedence::{EnoughPreds, IdRun, PredLists, add_runs_of_ids};
+use precedence::{EnoughPreds, IdRun, MadeLists, add_runs_of_ids};
 use std::alloc::{AllocError, Global};
-use std::cell::Cell;
 use std::marker::Model;
 
 /// What is left of the lists of others: of each, no block that stands in the list of one that is left before it. None is kept: that of a
@@ -15,7 +14,7 @@ use std::marker::Model;
 pub struct FewerPreds<L: EnoughPreds + Drop> {
     lists: L,
     alloc: Global,
-    room: Cell<Vec<u32>>,
+    room: Vec<u32>,
 }
 
 impl<L: EnoughPreds + Drop> Model for FewerPreds<L> {
@@ -35,40 +34,39 @@ impl<L: EnoughPreds + Drop> FewerPreds<L> {
         FewerPreds {
             lists,
             alloc,
-            room: Cell::new(Vec::new(alloc)),
+            room: Vec::new(alloc),
         }
     }
 }
 
-impl<L: EnoughPreds + Drop> PredLists for FewerPreds<L> {
+impl<L: EnoughPreds + Drop> MadeLists for FewerPreds<L> {
     ghost lists = { λ fewer. fewer };
 
     fn count(&self) -> usize {
         self.lists.count()
     }
 
-    fn add_runs(&self, runs: &mut Vec<IdRun>, id: u32) -> Result<(), AllocError> {
-        let mut enough = self.room.replace(Vec::new(self.alloc));
-        add_fewer(runs, &mut enough, &self.lists, id)?;
-        self.room.set(enough);
-        Ok(())
+    fn add_runs(&mut self, runs: &mut Vec<IdRun>, id: u32) -> Result<(), AllocError> {
+        add_fewer(self.alloc, runs, &mut self.room, &mut self.lists, id)
     }
 }
 
 // Appends runs that tell what is left of the list of a block: those predecessors that stand for all others. The vector is room for them.
 fn add_fewer<L: EnoughPreds>(
+    alloc: Global,
     runs: &mut Vec<IdRun>,
     enough: &mut Vec<u32>,
-    lists: &L,
+    lists: &mut L,
     id: u32,
 ) -> Result<(), AllocError>
-    requires { id < length (L.lists lists.now) }
+    requires { id < length (L.lists lists.old) }
     ensures left { OnOk result (ids_of runs.new.items ≡ ids_of runs.old.items
-        ++ left_of (L.lists lists.now) (slice_index_or (L.lists lists.now) id [])) }
-    ensures countable { length (slice_index_or (L.lists lists.now) id []) < 2 ^ 63 }
+        ++ left_of (L.lists lists.old) (slice_index_or (L.lists lists.old) id [])) }
+    ensures kept { L.lists lists.new ≡ L.lists lists.old }
+    ensures countable { length (slice_index_or (L.lists lists.old) id []) < 2 ^ 63 }
 {
     enough.clear();
-    lists.add_enough(enough, id)?;
+    lists.add_enough(alloc, enough, id)?;
     add_runs_of_ids(runs, enough.as_slice())?;
     Ok(())
 }

@@ -11,24 +11,24 @@ use crate::lines::preds::{count_of, write_counted};
 use devices::sinks::sink::Sink;
 use devices::sinks::slices::{LARGE, flush};
 use devices::sinks::write_fault::WriteFault;
-use precedence::{IdRun, PredLists};
+use precedence::{IdRun, MadeLists, PredLists};
 use std::alloc::{AllocError, Global};
 
-/// Begins the sink and writes the precedence file of these lists, one for each block by identifier. Answers how many identifiers stand
-/// in them. Where it is refused the sink is left as by the writers of an instance.
+/// Begins the sink and writes the precedence file of these lists, one for each block by identifier, each made when its line is written.
+/// Answers how many identifiers stand in them. Where it is refused the sink is left as by the writers of an instance.
 #[tactic(auto, using(crate::proofs::SectionsWritten::cut_at_begin))]
-pub fn write_lists<P: PredLists, S: Sink>(
+pub fn write_lists<M: MadeLists, S: Sink>(
     alloc: Global,
-    preds: &P,
+    preds: &mut M,
     sink: &mut S,
 ) -> Result<u128, WriteFault>
-    requires few { length (P.lists preds.now) ≤ MAX_BLOCKS }
-    requires below { All (λ ids. All (λ id. id < length (P.lists preds.now)) ids) (P.lists preds.now) }
+    requires few { length (M.lists preds.old) ≤ MAX_BLOCKS }
+    requires below { All (λ ids. All (λ id. id < length (M.lists preds.old)) ids) (M.lists preds.old) }
     ensures writes { MatchResult result
-        (λ _. IsWritten (text_preds (P.lists preds.now)) (S.state sink.old) (S.state sink.new))
-        (λ fault. IsCutOff (refusals fault) (text_preds (P.lists preds.now)) (S.state sink.old)
+        (λ _. IsWritten (text_preds (M.lists preds.old)) (S.state sink.old) (S.state sink.new))
+        (λ fault. IsCutOff (refusals fault) (text_preds (M.lists preds.old)) (S.state sink.old)
         (S.state sink.new)) }
-    ensures arcs { IfOk result (λ arcs. arcs ≡ sum_by length (P.lists preds.now)) }
+    ensures arcs { IfOk result (λ arcs. arcs ≡ sum_by length (M.lists preds.old)) }
 {
     let texts = IdText::below(alloc, preds.count())?;
     let mut buffer = Vec::with_capacity(alloc, 2 * LARGE)?;

@@ -4,5 +4,6 @@ pub mod covers;
 pub mod first;
 pub mod rest;
 pub mod state;
+pub mod state_rows;
 pub mod states;
 pub mod walking;

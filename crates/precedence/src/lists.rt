@@ -7,6 +7,7 @@ pub mod enough_preds;
 pub mod found_preds;
 pub mod id_run;
 pub mod ids_as_runs;
+pub mod made_lists;
 pub mod pred_lists;
 pub mod predecessors;
 pub mod row_runs;

@@ -42,9 +42,8 @@ pub fn write_fewer<S: Sink>(
 {
     let (rows, preds) = parts_of(instance);
     let whole = count_all(alloc, &preds)?;
-    let cut = preds.cut(alloc)?;
-    let fewer = FewerPreds::new(alloc, cut);
-    let left = in_sink(write_lists(alloc, &fewer, sink))?;
+    let mut fewer = FewerPreds::new(alloc, preds);
+    let left = in_sink(write_lists(alloc, &mut fewer, sink))?;
     Ok(Counts { rows, left, whole })
 }
 

@@ -12,7 +12,7 @@ use crate::id_text::IdText;
 use devices::sinks::sink::Sink;
 use devices::sinks::slices::flush_full;
 use devices::sinks::write_fault::WriteFault;
-use precedence::{IdRun, PredLists};
+use precedence::{IdRun, LentLists, MadeLists, PredLists};
 use std::alloc::{AllocError, Global};
 
 /// Writes the line of each block behind what the buffer holds. The runs of a block are asked for when its line is written. `texts` has
@@ -31,25 +31,26 @@ pub fn write_preds<S: Sink, P: PredLists>(
         buffer.old.items buffer.new.items (S.state sink.old) (S.state sink.new) result }
 {
     let mut arcs = 0;
-    write_counted(alloc, sink, buffer, preds, texts, &mut arcs)
+    let mut lent = LentLists { lent: preds };
+    write_counted(alloc, sink, buffer, &mut lent, texts, &mut arcs)
 }
 
-/// The same, and counts the predecessors of all blocks in `arcs`.
-pub fn write_counted<S: Sink, P: PredLists>(
+/// The same of lists that are made, and counts the predecessors of all blocks in `arcs`.
+pub fn write_counted<S: Sink, M: MadeLists>(
     alloc: Global,
     sink: &mut S,
     buffer: &mut Vec<u8>,
-    preds: &P,
+    preds: &mut M,
     texts: &IdText,
     arcs: &mut u128,
 ) -> Result<(), WriteFault>
-    requires few { length (P.lists preds.now) ≤ MAX_BLOCKS }
-    requires own { length (P.lists preds.now) ≤ texts.now }
-    requires preds { All (λ ids. All (λ id. id < texts.now) ids) (P.lists preds.now) }
+    requires few { length (M.lists preds.old) ≤ MAX_BLOCKS }
+    requires own { length (M.lists preds.old) ≤ texts.now }
+    requires preds { All (λ ids. All (λ id. id < texts.now) ids) (M.lists preds.old) }
     requires none { arcs.old ≡ 0 }
-    ensures writes { WritesOn (text_of (lines_from prec_line 0 (P.lists preds.now)))
+    ensures writes { WritesOn (text_of (lines_from prec_line 0 (M.lists preds.old)))
         buffer.old.items buffer.new.items (S.state sink.old) (S.state sink.new) result }
-    ensures counted { OnOk result (arcs.new ≡ sum_by length (P.lists preds.now)) }
+    ensures counted { OnOk result (arcs.new ≡ sum_by length (M.lists preds.old)) }
 {
     let mut runs = Vec::new(alloc);
     for id in 0..preds.count() {
@@ -60,25 +61,26 @@ pub fn write_counted<S: Sink, P: PredLists>(
 
 // Writes the line of one block, and adds to `arcs` how many predecessors it has. The vector is room for their runs.
 #[tactic(auto, using(crate::proofs::SectionsWritten::nothing_put))]
-fn write_line<S: Sink, P: PredLists>(
+fn write_line<S: Sink, M: MadeLists>(
     sink: &mut S,
     buffer: &mut Vec<u8>,
-    preds: &P,
+    preds: &mut M,
     id: u32,
     texts: &IdText,
     runs: &mut Vec<IdRun>,
     arcs: &mut u128,
 ) -> Result<(), WriteFault>
-    requires block { id < length (P.lists preds.now) }
+    requires block { id < length (M.lists preds.old) }
     requires own { id < texts.now }
-    requires preds { All (λ pred. pred < texts.now) (slice_index_or (P.lists preds.now) id []) }
+    requires preds { All (λ pred. pred < texts.now) (slice_index_or (M.lists preds.old) id []) }
     requires room { arcs.old < 2 ^ 127 }
     ensures writes { WritesOn
-        (text_of (take 1 (drop id (lines_from prec_line 0 (P.lists preds.now)))))
+        (text_of (take 1 (drop id (lines_from prec_line 0 (M.lists preds.old)))))
         buffer.old.items buffer.new.items (S.state sink.old) (S.state sink.new) result }
+    ensures kept { M.lists preds.new ≡ M.lists preds.old }
     ensures counted { OnOk result
-        (arcs.new ≡ arcs.old + length (slice_index_or (P.lists preds.now) id [])) }
-    ensures countable { OnOk result (length (slice_index_or (P.lists preds.now) id []) < 2 ^ 63) }
+        (arcs.new ≡ arcs.old + length (slice_index_or (M.lists preds.old) id [])) }
+    ensures countable { OnOk result (length (slice_index_or (M.lists preds.old) id []) < 2 ^ 63) }
 {
     *arcs += u128::from(put_line(buffer, preds, id, texts, runs)?);
     flush_full(sink, buffer)?;
@@ -86,19 +88,20 @@ fn write_line<S: Sink, P: PredLists>(
 }
 
 // Appends the line of a block, and answers how many predecessors it has.
-fn put_line<P: PredLists>(
+fn put_line<M: MadeLists>(
     out: &mut Vec<u8>,
-    preds: &P,
+    preds: &mut M,
     id: u32,
     texts: &IdText,
     runs: &mut Vec<IdRun>,
 ) -> Result<u64, AllocError>
-    requires block { id < length (P.lists preds.now) }
+    requires block { id < length (M.lists preds.old) }
     requires own { id < texts.now }
-    requires preds { All (λ pred. pred < texts.now) (slice_index_or (P.lists preds.now) id []) }
+    requires preds { All (λ pred. pred < texts.now) (slice_index_or (M.lists preds.old) id []) }
     ensures text { OnOk result (out.new.items
-        ≡ out.old.items ++ text_of (take 1 (drop id (lines_from prec_line 0 (P.lists preds.now))))) }
-    ensures count { IfOk result (λ n. n ≡ length (slice_index_or (P.lists preds.now) id [])) }
+        ≡ out.old.items ++ text_of (take 1 (drop id (lines_from prec_line 0 (M.lists preds.old))))) }
+    ensures kept { M.lists preds.new ≡ M.lists preds.old }
+    ensures count { IfOk result (λ n. n ≡ length (slice_index_or (M.lists preds.old) id [])) }
     ensures countable { IfOk result (λ n. n < 2 ^ 63) }
 {
     runs.clear();

@@ -1,71 +1,101 @@
--- One state and one edge more.
-use Rattle.std.proofs.Common.{◌≡◌, ℕ, ◌<◌, ◌≤◌, List, [], ◌∷◌, ◌++◌, length, get_or, sym, ap, subst, ◌∙◌, arith, ⊎_elim}
-use Rattle.std.proofs.lemmas.Bool.{cases_lt}
-use Rattle.std.proofs.lemmas.List.{get_or_append_left, get_or_at, get_or_default, length-append}
+-- What is left in states, and one state and one edge more.
+use Rattle.std.proofs.Common.{◌≡◌, ℕ, ◌+◌, ◌-◌, ◌<◌, ◌≤◌, List, [], ◌∷◌, ◌++◌, Some, length, get_or, slice_get, sym, ap, subst, ◌∙◌, arith, ⊎_elim, if◌then◌else◌}
+use Rattle.std.proofs.lemmas.Bool.{cases_lt, le-ltb, lt-ltb}
+use Rattle.std.proofs.lemmas.List.{get_or_append_left, get_or_at, length-append}
+use Rattle.std.proofs.lemmas.Option.{slice_get-get_or}
 use Rattle.precedence.specs.inner.Rest.{IsRest}
 use Rattle.precedence.specs.inner.Rows.{AreInOrder}
-use Rattle.precedence.specs.inner.States.{AreStates, IsEdge}
+use Rattle.precedence.specs.inner.States.{rest_of, rows_of_state, AreStates, IsEdge}
+use Rattle.precedence.specs.inner.ZoneTables.{rows_of_table}
 use Rattle.precedence.specs.declared.cones.cone_rows.Row.{Row}
 use Rattle.precedence.specs.declared.cones.cone_table.ConeTable.{ConeTable}
 use Rattle.precedence.specs.declared.cuts.state.State.{State}
 use Rattle.precedence.specs.declared.cuts.state.Edge.{Edge}
 
+-- the rows of a table that is there
+pub table_is : (tables : List ConeTable) (k : ℕ) (t : ConeTable) → k < length tables → t ≡ get_or tables k t
+    → t.rows.items ≡ rows_of_table (slice_get tables k)
+table_is tables k t lt is = ap (λ (t : ConeTable). t.rows.items) is ∙ ap rows_of_table (sym (slice_get-get_or tables k t lt))
+
+module _ (tables : List ConeTable) (states : List State) (k : ℕ) where
+  abbrev here : ℕ
+  here = k - length tables
+
+  -- the whole cone of a table
+  pub whole : k < length tables → rest_of tables states k ≡ rows_of_table (slice_get tables k)
+  whole lt = ap (λ b. if b then rows_of_table (slice_get tables k) else rows_of_state (slice_get states here)) (lt-ltb k (length tables) lt)
+
+  pub whole_is : (t : ConeTable) → k < length tables → t ≡ get_or tables k t → rest_of tables states k ≡ t.rows.items
+  whole_is t lt is = whole lt ∙ sym (table_is tables k t lt is)
+
+  -- what is left in a state that was made
+  pub made : length tables ≤ k → rest_of tables states k ≡ rows_of_state (slice_get states here)
+  made le = ap (λ b. if b then rows_of_table (slice_get tables k) else rows_of_state (slice_get states here)) (le-ltb k (length tables) le)
+
+  pub made_is : (s : State) → length tables ≤ k → here < length states → s ≡ get_or states here s → rest_of tables states k ≡ s.rest.items
+  made_is s le lt is = made le ∙ ap rows_of_state (slice_get-get_or states here s lt) ∙ ap (λ (s : State). s.rest.items) (sym is)
+
 module _ (tables : List ConeTable) (states : List State) (more : State) where
   abbrev all : List State
   all = states ++ more ∷ []
 
-  old_is : (k : ℕ) (s : State) → k < length states → (get_or all k s).rest.items ≡ (get_or states k s).rest.items
-  old_is k s lt = ap (λ (x : State). x.rest.items) (get_or_append_left states (more ∷ []) s k lt)
+  long : length all ≡ length states + 1
+  long = length-append states (more ∷ [])
+
+  old_is : (k : ℕ) → k < length tables + length states → rest_of tables all k ≡ rest_of tables states k
+  old_is k lt = ⊎_elim
+      (λ root. whole tables all k root ∙ sym (whole tables states k root))
+      (λ le.
+      let j = k - length tables in
+      let within : j < length states = omega (arith, lt, le) in
+      let same : slice_get all j ≡ slice_get states j =
+      slice_get-get_or all j more (omega (arith, within, long)) ∙ ap (λ (s : State). Some s) (get_or_append_left states (more ∷ []) more j within)
+      ∙ sym (slice_get-get_or states j more within) in
+      made tables all k le ∙ ap rows_of_state same ∙ sym (made tables states k le))
+      (cases_lt k (length tables))
+
+  -- it has its own rows
+  pub new_is : (k : ℕ) → k ≡ length tables + length states → rest_of tables all k ≡ more.rest.items
+  new_is k is = made_is tables all k more (omega (arith, is)) (omega (arith, is, long))
+      (sym (get_or_at states more [] more (k - length tables) (omega (arith, is))))
 
   edge_stays : (e : Edge) → IsEdge tables states e → IsEdge tables all e
-  edge_stays e is =
-      let long = length-append states (more ∷ []) in
-      record {
-        state = omega (arith, is.state, long);
-        next = omega (arith, is.next, long);
-        rest = λ s d.
-            subst (λ (rows : List Row). IsRest (get_or all e.state s).rest.items e.gap (get_or tables e.table d).rows.items rows) (sym (old_is e.next s is.next))
-            (subst (λ (rows : List Row). IsRest rows e.gap (get_or tables e.table d).rows.items (get_or states e.next s).rest.items) (sym (old_is e.state s is.state))
-            (is.rest s d));
-      }
+  edge_stays e is = record {
+    state = omega (arith, is.state, long);
+    next = omega (arith, is.next, long);
+    rest =
+        subst (λ (rows : List Row). IsRest (rest_of tables all e.state) e.gap (rows_of_table (slice_get tables e.table)) rows) (sym (old_is e.next is.next))
+        (subst (λ (rows : List Row). IsRest rows e.gap (rows_of_table (slice_get tables e.table)) (rest_of tables states e.next)) (sym (old_is e.state is.state))
+        is.rest);
+  }
 
-  pub in_order_more : AreInOrder more.rest.items → ((k : ℕ) (s : State) → k < length states → AreInOrder (get_or states k s).rest.items)
-      → (k : ℕ) (s : State) → k < length all → AreInOrder (get_or all k s).rest.items
-  in_order_more order before k s lt =
-      let long = length-append states (more ∷ []) in
-      ⊎_elim
-      (λ old. subst AreInOrder (sym (old_is k s old)) (before k s old))
-      (λ new.
-      let last : length states ≡ k = omega (arith, new, lt, long) in
-      subst (λ (x : State). AreInOrder x.rest.items) (sym (get_or_at states more [] s k last)) order)
-      (cases_lt k (length states))
-
-  -- one state more, where all tables have theirs
-  pub state_more : (edges : List Edge) → AreInOrder more.rest.items → length tables ≤ length states → AreStates tables states edges → AreStates tables all edges
-  state_more edges order full are = record {
-    roots = λ t s d lt _. old_is t s (omega (arith, lt, full)) ∙ are.roots t s d lt (omega (arith, lt, full));
-    in_order = in_order_more order are.in_order;
+  -- one state more
+  pub state_more : (edges : List Edge) → AreInOrder more.rest.items → AreStates tables states edges → AreStates tables all edges
+  state_more edges order are = record {
+    in_order = λ k s lt. ⊎_elim
+        (λ old. subst (λ (x : State). AreInOrder x.rest.items) (sym (get_or_append_left states (more ∷ []) s k old)) (are.in_order k s old))
+        (λ new.
+        let last : length states ≡ k = omega (arith, new, lt, long) in
+        subst (λ (x : State). AreInOrder x.rest.items) (sym (get_or_at states more [] s k last)) order)
+        (cases_lt k (length states));
     follow = λ k e lt. edge_stays (get_or edges k e) (are.follow k e lt);
   }
 
-  -- one root more
-  pub root_more : (d : ConeTable) → length states < length tables → more.rest.items ≡ (get_or tables (length states) d).rows.items
-      → ((t : ℕ) (s : State) (d : ConeTable) → t < length states → (get_or states t s).rest.items ≡ (get_or tables t d).rows.items)
-      → (t : ℕ) (s : State) → t < length all → (get_or all t s).rest.items ≡ (get_or tables t d).rows.items
-  root_more d within is before t s lt =
-      let long = length-append states (more ∷ []) in
-      ⊎_elim
-      (λ old. old_is t s old ∙ before t s d old)
-      (λ new.
-      let last : length states ≡ t = omega (arith, new, lt, long) in
-      ap (λ (x : State). x.rest.items) (get_or_at states more [] s t last) ∙ is ∙ ap (λ n. (get_or tables n d).rows.items) last)
-      (cases_lt t (length states))
+  -- the edge to it
+  pub new_edge : (e : Edge) → e.state < length tables + length states → e.next ≡ length tables + length states
+      → IsRest (rest_of tables states e.state) e.gap (rows_of_table (slice_get tables e.table)) more.rest.items → IsEdge tables all e
+  new_edge e within next rest = record {
+    state = omega (arith, within, long);
+    next = omega (arith, next, long);
+    rest =
+        subst (λ (rows : List Row). IsRest (rest_of tables all e.state) e.gap (rows_of_table (slice_get tables e.table)) rows) (sym (new_is e.next next))
+        (subst (λ (rows : List Row). IsRest rows e.gap (rows_of_table (slice_get tables e.table)) more.rest.items) (sym (old_is e.state within)) rest);
+  }
 
 -- one edge more
 pub edge_more : (tables : List ConeTable) (states : List State) (edges : List Edge) (more : Edge) → IsEdge tables states more
     → AreStates tables states edges → AreStates tables states (edges ++ more ∷ [])
 edge_more tables states edges more is are = record {
-  roots = are.roots;
   in_order = are.in_order;
   follow = λ k e lt.
       let long = length-append edges (more ∷ []) in
@@ -77,32 +107,9 @@ edge_more tables states edges more is are = record {
       (cases_lt k (length edges));
 }
 
--- the edge to the state that was made last
-pub new_edge : (tables : List ConeTable) (states : List State) (child : State) (e : Edge) → e.state < length states → e.next ≡ length states
-    → e.table < length tables → (own : State) → own ≡ get_or states e.state own → (table : ConeTable) → table ≡ get_or tables e.table table
-    → IsRest own.rest.items e.gap table.rows.items child.rest.items → IsEdge tables (states ++ child ∷ []) e
-new_edge tables states child e within next there own own_is table table_is rest =
-    let all = states ++ child ∷ [] in
-    let long = length-append states (child ∷ []) in
-    record {
-      state = omega (arith, within, long);
-      next = omega (arith, next, long);
-      rest = λ s d.
-          let from : own.rest.items ≡ (get_or all e.state s).rest.items =
-          ap (λ (x : State). x.rest.items) (own_is ∙ get_or_default states e.state own s within ∙ sym (get_or_append_left states (child ∷ []) s e.state within)) in
-          let rows : table.rows.items ≡ (get_or tables e.table d).rows.items =
-          ap (λ (t : ConeTable). t.rows.items) (table_is ∙ get_or_default tables e.table table d there) in
-          let to : child.rest.items ≡ (get_or all e.next s).rest.items =
-          ap (λ (x : State). x.rest.items) (sym (get_or_at states child [] s e.next (sym next))) in
-          subst (λ (r : List Row). IsRest (get_or all e.state s).rest.items e.gap (get_or tables e.table d).rows.items r) to
-          (subst (λ (r : List Row). IsRest (get_or all e.state s).rest.items e.gap r child.rest.items) rows
-          (subst (λ (r : List Row). IsRest r e.gap table.rows.items child.rest.items) from rest));
-    }
-
 -- none at all
 pub no_state : (tables : List ConeTable) → AreStates tables [] []
 no_state tables = record {
-  roots = λ t s d lt none. absurd (omega arith);
   in_order = λ k s lt. absurd (omega arith);
   follow = λ k e lt. absurd (omega arith);
 }

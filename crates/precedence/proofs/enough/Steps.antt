@@ -4,7 +4,6 @@ use Rattle.std.specs.List.Sorted.{IsStrictlyIncreasing}
 use Rattle.std.proofs.lemmas.Bool.{cases_Bool, cases_lt, eqb-true}
 use Rattle.std.proofs.lemmas.List.Kept.{AllPairs-from_increasing}
 use Rattle.std.proofs.lemmas.List.{get_or_default}
-use Rattle.std.proofs.lemmas.Option.{slice_get-get_or}
 use Rattle.precedence.specs.IdRuns.{is_in}
 use Rattle.precedence.specs.inner.Search.{lying}
 use Rattle.precedence.specs.inner.Rest.{IsRestBehind}
@@ -13,7 +12,6 @@ use Rattle.precedence.specs.inner.Steps.{cone_of, is_behind_id, IsFree, IsWalked
 use Rattle.precedence.specs.inner.ZoneTables.{rows_of_table}
 use Rattle.precedence.specs.declared.cones.cone_table.ConeTable.{ConeTable}
 use Rattle.precedence.specs.declared.cones.cone_rows.Row.{Row}
-use Rattle.precedence.specs.declared.cuts.state.State.{State}
 use Rattle.precedence.proofs.PlacesWhere.{told_nowhere, told_where}
 use Rattle.precedence.proofs.enough.Walks.{first_in, in_left, in_right, lying_within, or_cases, push_cases, rising_push}
 
@@ -180,10 +178,9 @@ none_left from rest codes next none y le = ⊎_elim
     (cases_lt y (length codes))
 
 -- the rows of a block's cone are those of its table
-pub cone_at : (tables : List ConeTable) (of_zone zones : List ℕ) (x number : ℕ) (d : ConeTable) → number ≡ get_or of_zone (get_or zones x 0) 0
-    → number < length tables → (get_or tables number d).rows.items ≡ cone_of tables of_zone zones x
-cone_at tables of_zone zones x number d is lt =
-    sym (ap (λ t. rows_of_table (slice_get tables t)) (sym is) ∙ ap rows_of_table (slice_get-get_or tables number d lt))
+pub cone_at : (tables : List ConeTable) (of_zone zones : List ℕ) (x number : ℕ) → number ≡ get_or of_zone (get_or zones x 0) 0
+    → rows_of_table (slice_get tables number) ≡ cone_of tables of_zone zones x
+cone_at tables of_zone zones x number is = ap (λ n. rows_of_table (slice_get tables n)) is
 
 -- the number of a block's table, which is there
 pub number_at : (of_zone zones : List ℕ) (tables : List ConeTable) (n x number : ℕ) → length zones ≡ n → All (λ z. z < length of_zone) zones
@@ -195,11 +192,6 @@ number_at of_zone zones tables n x number each in_zones below within is =
     let same : number ≡ get_or of_zone zone 0 = is ∙ get_or_default of_zone zone number 0 low in
     let there = below zone 0 low in
     (same, omega (arith, there, same))
-
--- a state that is there
-pub some_state : (states : List State) (k : ℕ) → k < length states → State
-some_state [] k lt = absurd (omega (arith, lt))
-some_state (s ∷ ss) k lt = s
 
 -- what is found stands in the list
 pub in_at : (xs : List ℕ) (c : ℕ) → is_in xs c ≡ true → (k : ℕ) × (k < length xs) × (get_or xs k 0 ≡ c)

@@ -1,7 +1,6 @@
 -- What a walk from one predecessor to the next says of lists.
-use Rattle.std.proofs.Common.{◌≡◌, ℕ, ◌<◌, ◌≤◌, true, false, List, [], ◌∷◌, length, get_or, slice_get, inl, inr, sym, ap, subst, ◌∙◌, arith, ⊎_elim}
+use Rattle.std.proofs.Common.{◌≡◌, ℕ, ◌<◌, ◌≤◌, true, false, List, [], length, get_or, slice_get, inl, inr, sym, ap, subst, ◌∙◌, arith, ⊎_elim}
 use Rattle.std.proofs.lemmas.List.{get_or_default}
-use Rattle.std.proofs.lemmas.Option.{slice_get-get_or}
 use Rattle.precedence.specs.Enough.{AreEnough}
 use Rattle.precedence.specs.IdRuns.{is_in}
 use Rattle.precedence.specs.inner.Search.{lying}
@@ -10,15 +9,10 @@ use Rattle.precedence.specs.inner.Rows.{is_in_rows}
 use Rattle.precedence.specs.inner.Steps.{cone_of, is_behind_id, HasEnded, IsWalkedTo}
 use Rattle.precedence.specs.inner.ZoneTables.{rows_of_table, zone_rows}
 use Rattle.precedence.specs.declared.cones.cone_rows.Row.{Row}
-use Rattle.precedence.specs.declared.cones.cone_table.ConeTable.{ConeTable}
 use Rattle.precedence.specs.declared.lists.found_preds.FoundPreds.TheInside.{Inside}
 use Rattle.precedence.proofs.AllLists.{found_at, found_length}
 use Rattle.precedence.proofs.PlacesWhere.{told_where}
 use Rattle.precedence.proofs.enough.Walks.{lying_rises, lying_within}
-
-some_table : (tables : List ConeTable) (n : ℕ) → n < length tables → ConeTable
-some_table [] n lt = absurd (omega arith)
-some_table (t ∷ ts) n lt = t
 
 module _ (f : Inside) (keeps : KeepsFound f) (lists : List (List ℕ)) (is : found_in f ≡ lists) (id zone from : ℕ) (within : id < length lists)
     (zone_is : zone ≡ get_or f.zones.items id zone) (from_is : from ≡ get_or f.places.codes.items id from) where
@@ -68,13 +62,8 @@ module _ (f : Inside) (keeps : KeepsFound f) (lists : List (List ℕ)) (is : fou
         apart = λ c d hc hd lt. list_of d c (own d hd) (own c hc) ∙ w.apart c d hc hd lt;
       }
 
-  pub ended_enough : (table : ℕ) (found : List ℕ) → table ≡ get_or f.tables.of_zone.items zone 0 → table < length f.tables.tables.items
-      → ((d : ConeTable) → HasEnded codes cone from (get_or f.tables.tables.items table d).rows.items found)
-      → AreEnough lists (get_or lists id []) found
-  ended_enough table found at there ended =
-      let tables = f.tables.tables.items in
-      let d = some_table tables table there in
-      let own : (get_or tables table d).rows.items ≡ rows =
-      sym (ap (λ t. rows_of_table (slice_get tables t)) (sym at) ∙ ap rows_of_table (slice_get-get_or tables table d there)) in
-      let e = subst (λ (rs : List Row). HasEnded codes cone from rs found) own (ended d) in
+  pub ended_enough : (table : ℕ) (found : List ℕ) → table ≡ get_or f.tables.of_zone.items zone 0
+      → HasEnded codes cone from (rows_of_table (slice_get f.tables.tables.items table)) found → AreEnough lists (get_or lists id []) found
+  ended_enough table found at ended =
+      let e = subst (λ (t : ℕ). HasEnded codes cone from (rows_of_table (slice_get f.tables.tables.items t)) found) at ended in
       steps_enough e.0 e.1.0 found e.1.1 e.1.2

@@ -6,6 +6,7 @@ ghost use Rattle.precedence.specs.inner.Beside.{AreNoWider, IsNoWider};
 ghost use Rattle.precedence.specs.inner.Rows.{is_in_row, is_in_rows, pasts, AreInOrder};
 ghost use Rattle.precedence.specs.declared.cones.cone_rows.Row.{Row};
 ghost use Rattle.precedence.specs.declared.places.code.TheConstants.{CODES};
+ghost use Rattle.pit_parts.specs.declared.ranges.TheConstants.{MAX_BLOCKS};
 
 use crate::cones::cone_rows::{Row, Widths};
 use crate::lists::beside::{Behind, ByChunk, PassBlocks};
@@ -29,7 +30,7 @@ pub fn first_in_rows(
     rows: &[Row],
     past: &[u64],
     widths: &Widths,
-    hints: &[Cell<usize>],
+    hints: &[Cell<Hint>],
     from: u64,
     reached: Reached,
 ) -> Option<Reached>
@@ -120,8 +121,9 @@ fn row_reached(codes: &[u64], past: &[u64], from: u64, reached: Reached) -> usiz
 // The first place from `id` on whose code is not below the target.
 #[tactic(auto, using(crate::proofs::runs::Starts::starts, crate::proofs::runs::Starts::from_start, crate::proofs::runs::Starts::start_before_in))]
 #[inline(always)]
-fn first_from(codes: &[u64], hints: &[Cell<usize>], i: usize, id: usize, target: u64) -> usize
-    requires { IsStrictlyIncreasing codes.now }
+fn first_from(codes: &[u64], hints: &[Cell<Hint>], i: usize, id: usize, target: u64) -> usize
+    requires rising { IsStrictlyIncreasing codes.now }
+    requires few { length codes.now ≤ MAX_BLOCKS }
     ensures later { id ≤ result }
     ensures within { id ≤ length codes.now → result ≤ length codes.now }
     ensures below { (y : ℕ) → id ≤ y → y < result → slice_index codes.now y < target }
@@ -134,22 +136,22 @@ fn first_from(codes: &[u64], hints: &[Cell<usize>], i: usize, id: usize, target:
         return id;
     }
     let first = start_of(codes, hint_at(hints, i).max(id), target);
-    keep_hint(hints, i, first);
+    keep_hint(hints, i, first as u32);
     first
 }
 
 #[inline(always)]
-fn hint_at(hints: &[Cell<usize>], i: usize) -> usize {
+fn hint_at(hints: &[Cell<Hint>], i: usize) -> usize {
     match hints.get(i) {
-        Some(hint) => hint.get(),
+        Some(hint) => hint.get().first as usize,
         None => 0,
     }
 }
 
 #[inline(always)]
-fn keep_hint(hints: &[Cell<usize>], i: usize, first: usize) {
+fn keep_hint(hints: &[Cell<Hint>], i: usize, first: u32) {
     if let Some(hint) = hints.get(i) {
-        hint.set(first);
+        hint.set(Hint { first, past: first });
     }
 }
 

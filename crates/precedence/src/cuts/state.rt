@@ -5,6 +5,7 @@ ghost use Rattle.precedence.specs.inner.Beside.{AreNoWider};
 ghost use Rattle.precedence.specs.inner.Rows.{pasts};
 
 use crate::cones::cone_rows::{Row, Widths};
+use crate::lists::row_runs::Hint;
 use std::cell::Cell;
 
 /// How far a walk over a cone has come: what is left of it.
@@ -15,12 +16,13 @@ pub struct State {
     pub past: Vec<u64>,
     pub widths: Widths,
     /// Where each row was found to begin last: guesses.
-    pub hints: Vec<Cell<usize>>,
+    pub hints: Vec<Cell<Hint>>,
     pub ghost all_past: { past.items ≡ pasts rest.items },
     pub ghost no_wider: { AreNoWider widths rest.items },
 }
 
-/// That a walk goes from one state to another where the first block is found at a distance and its cone has a table.
+/// That a walk goes from one state to another where the first block is found at a distance and its cone has a table. The first states
+/// have the whole cones of the tables, and those that are made are numbered behind them.
 #[derive(Clone, Copy, Debug)]
 pub struct Edge {
     pub state: usize,
@@ -31,7 +33,7 @@ pub struct Edge {
     pub older: usize,
 }
 
-/// States, and the edges between them.
+/// The states that were made, and the edges between all states.
 #[derive(Drop)]
 pub struct States {
     pub states: Vec<State>,

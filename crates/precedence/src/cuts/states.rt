@@ -1,21 +1,22 @@
-//! Making the states of walks, and going from one to the next.
+//! Going from one state of a walk to the next, which is made where it is lacking.
 
-ghost use Rattle.std.specs.Prelude.{◌≡◌, ◌+◌, ◌<◌, ◌≤◌, ◌^◌, [], ℕ, All, IfOk, IfSome, OnOk, length, slice_index_or};
+ghost use Rattle.std.specs.Prelude.{◌≡◌, ◌+◌, ◌<◌, ◌≤◌, ◌^◌, [], None, All, IfOk, IfSome, IsTrue, length, slice_get};
 ghost use Rattle.precedence.specs.inner.Rest.{IsRestBehind};
 ghost use Rattle.precedence.specs.inner.Rows.{pasts, AreInOrder};
-ghost use Rattle.precedence.specs.inner.States.{AreStates};
-ghost use Rattle.precedence.specs.declared.cones.cone_table.ConeTable.{ConeTable};
-ghost use Rattle.precedence.specs.declared.cuts.state.State.{State};
+ghost use Rattle.precedence.specs.inner.States.{rest_of, AreStates};
+ghost use Rattle.precedence.specs.inner.ZoneTables.{rows_of_table};
 
 use crate::cones::cone_rows::Row;
 use crate::cones::cone_table::ConeTable;
 use crate::cones::widths::widths_of;
 use crate::cuts::rest::{lies_behind, rest_behind};
 use crate::cuts::state::{Edge, State, States};
+use crate::cuts::state_rows::rows_at;
+use crate::lists::row_runs::{Hint, NOTHING_KNOWN};
 use std::alloc::{AllocError, Global};
 use std::cell::Cell;
 
-// So many rows are kept in all states, some 8 MB of them. Ten times as many take longer to make than they save.
+// So many rows are kept in all states, some 8 MB of them.
 const MOST_ROWS: usize = 200_000;
 
 // A state takes as much memory as so many rows, beside its own.
@@ -24,7 +25,7 @@ const ROWS_OF_STATE: usize = 6;
 // There is no edge with this number.
 const NO_EDGE: usize = usize::MAX;
 
-/// No states.
+/// No states but those of the tables.
 pub fn no_states(alloc: Global) -> States
     ensures states { result.states.items ≡ [] }
     ensures edges { result.edges.items ≡ [] }
@@ -33,49 +34,16 @@ pub fn no_states(alloc: Global) -> States
         states: Vec::new(alloc),
         edges: Vec::new(alloc),
         newest: Vec::new(alloc),
-        room: 0,
-    }
-}
-
-/// The states before the first step: one for each table, which is its cone. There are so many hashes of edges, at least one.
-pub fn first_states(
-    alloc: Global,
-    tables: &[ConeTable],
-    hashes: usize,
-) -> Result<States, AllocError>
-    requires { All (λ t. AreInOrder t.rows.items) tables.now }
-    ensures states { IfOk result (λ s. AreStates tables.now s.states.items s.edges.items) }
-    ensures all { IfOk result (λ s. length tables.now ≤ length s.states.items) }
-{
-    let newest = no_edges(alloc, hashes.max(1))?;
-    let mut states = Vec::new(alloc);
-    for table in tables {
-        let rest = copied(alloc, table.rows.as_slice())?;
-        let state = state_of(alloc, rest)?;
-        states.push(state)?;
-    }
-    Ok(States {
-        states,
-        edges: Vec::new(alloc),
-        newest,
         room: MOST_ROWS,
-    })
-}
-
-fn no_edges(alloc: Global, count: usize) -> Result<Vec<usize>, AllocError> {
-    let mut newest = Vec::with_capacity(alloc, count)?;
-    for _ in 0..count {
-        newest.push(NO_EDGE)?;
     }
-    Ok(newest)
 }
 
-fn copied(alloc: Global, rows: &[Row]) -> Result<Vec<Row>, AllocError>
-    ensures { IfOk result (λ copy. copy.items ≡ rows.now) }
-{
-    let mut copy = Vec::new(alloc);
-    copy.extend_from_slice(rows)?;
-    Ok(copy)
+// Makes so many hashes, at least one, where there are none.
+fn make_hashes(alloc: Global, newest: &mut Vec<usize>, hashes: usize) -> Result<(), AllocError> {
+    if newest.is_empty() {
+        newest.resize(hashes.max(1), NO_EDGE)?;
+    }
+    Ok(())
 }
 
 // A state with nothing known.
@@ -100,41 +68,65 @@ fn pasts_of(alloc: Global, rows: &[Row]) -> Result<Vec<u64>, AllocError>
     rows.iter().map(|row| row.past).collect(alloc)
 }
 
-fn no_hints(alloc: Global, count: usize) -> Result<Vec<Cell<usize>>, AllocError> {
+fn no_hints(alloc: Global, count: usize) -> Result<Vec<Cell<Hint>>, AllocError> {
     let mut hints = Vec::with_capacity(alloc, count)?;
     for _ in 0..count {
-        hints.push(Cell::new(0))?;
+        hints.push(Cell::new(NOTHING_KNOWN))?;
     }
     Ok(hints)
 }
 
 /// The state that follows where the first block is found at a distance, and its cone has a table: the same one, where this cone lies
-/// behind all that is left. Or none, where it was not made.
+/// behind all that is left. Where it was not made before it is made, and found again by one of so many hashes. Or none, where there is
+/// no room for it.
 #[inline(always)]
 pub fn next_state(
+    alloc: Global,
     tables: &[ConeTable],
-    states: &States,
+    states: &mut States,
     state: usize,
     gap: u64,
     table: usize,
-) -> Option<usize>
+    hashes: usize,
+) -> Result<Option<usize>, AllocError>
     requires in_order { All (λ t. AreInOrder t.rows.items) tables.now }
-    requires states { AreStates tables.now states.now.states.items states.now.edges.items }
-    requires state { state < length states.now.states.items }
+    requires states { AreStates tables.now states.old.states.items states.old.edges.items }
+    requires state { state < length tables.now + length states.old.states.items }
     requires table { table < length tables.now }
     requires gap { gap < 10 ^ 15 }
-    ensures within { IfSome result (λ next. next < length states.now.states.items) }
-    ensures rest { IfSome result (λ next. (s : State) (d : ConeTable) → IsRestBehind
-        (slice_index_or states.now.states.items state s).rest.items gap
-        (slice_index_or tables.now table d).rows.items
-        (slice_index_or states.now.states.items next s).rest.items) }
+    ensures states { AreStates tables.now states.new.states.items states.new.edges.items }
+    ensures within { IfOk result (λ next. IfSome next
+        (λ n. n < length tables.now + length states.new.states.items)) }
+    ensures rest { IfOk result (λ next. IfSome next (λ n. IsRestBehind
+        (rest_of tables.now states.old.states.items state) gap
+        (rows_of_table (slice_get tables.now table))
+        (rest_of tables.now states.new.states.items n))) }
+    ensures kept { IfOk result (λ next. next ≡ None
+        → states.new.states.items ≡ states.old.states.items) }
 {
-    let own = &states.states[state];
-    let rows = tables[table].rows.as_slice();
-    if lies_behind(own.rest.as_slice(), own.past.as_slice(), gap, rows) {
-        return Some(state);
+    if stays(tables, states, state, gap, table) {
+        return Ok(Some(state));
     }
-    made_state(tables, states, state, gap, table)
+    match made_state(tables, states, state, gap, table) {
+        Some(next) => Ok(Some(next)),
+        None => add_state(alloc, tables, states, state, gap, table, hashes),
+    }
+}
+
+// Whether the cone of a table lies behind all that is left.
+#[inline(always)]
+fn stays(tables: &[ConeTable], states: &States, state: usize, gap: u64, table: usize) -> bool
+    requires in_order { All (λ t. AreInOrder t.rows.items) tables.now }
+    requires states { All (λ s. AreInOrder s.rest.items) states.now.states.items }
+    requires state { state < length tables.now + length states.now.states.items }
+    requires table { table < length tables.now }
+    requires gap { gap < 10 ^ 15 }
+    ensures { IsTrue result → IsRestBehind (rest_of tables.now states.now.states.items state) gap
+        (rows_of_table (slice_get tables.now table))
+        (rest_of tables.now states.now.states.items state) }
+{
+    let own = rows_at(tables, states.states.as_slice(), &[], state);
+    lies_behind(own.rows, own.past, gap, tables[table].rows.as_slice())
 }
 
 // The state that was made for this.
@@ -147,11 +139,12 @@ fn made_state(
     table: usize,
 ) -> Option<usize>
     requires states { AreStates tables.now states.now.states.items states.now.edges.items }
-    ensures within { IfSome result (λ next. next < length states.now.states.items) }
-    ensures rest { IfSome result (λ next. (s : State) (d : ConeTable) → IsRestBehind
-        (slice_index_or states.now.states.items state s).rest.items gap
-        (slice_index_or tables.now table d).rows.items
-        (slice_index_or states.now.states.items next s).rest.items) }
+    ensures within { IfSome result
+        (λ next. next < length tables.now + length states.now.states.items) }
+    ensures rest { IfSome result (λ next. IsRestBehind
+        (rest_of tables.now states.now.states.items state) gap
+        (rows_of_table (slice_get tables.now table))
+        (rest_of tables.now states.now.states.items next)) }
 {
     let mut number = newest_edge(states, hash_of(state, gap, table));
     while number < states.edges.len() {
@@ -195,41 +188,51 @@ fn keep_newest(newest: &mut Vec<usize>, hash: u64, number: usize) {
     newest[place] = number;
 }
 
-/// Makes the state that follows, and tells it.
-pub fn add_state(
+// Makes the state that follows, where there is room, and tells it.
+fn add_state(
     alloc: Global,
     tables: &[ConeTable],
     states: &mut States,
     state: usize,
     gap: u64,
     table: usize,
-) -> Result<usize, AllocError>
+    hashes: usize,
+) -> Result<Option<usize>, AllocError>
     requires in_order { All (λ t. AreInOrder t.rows.items) tables.now }
     requires states { AreStates tables.now states.old.states.items states.old.edges.items }
-    requires all { length tables.now ≤ length states.old.states.items }
-    requires state { state < length states.old.states.items }
+    requires state { state < length tables.now + length states.old.states.items }
     requires table { table < length tables.now }
     requires gap { gap < 10 ^ 15 }
-    ensures states { OnOk result (AreStates tables.now states.new.states.items states.new.edges.items) }
-    ensures more { OnOk result (length states.old.states.items ≤ length states.new.states.items) }
-    ensures within { IfOk result (λ next. next < length states.new.states.items) }
+    ensures states { AreStates tables.now states.new.states.items states.new.edges.items }
+    ensures within { IfOk result (λ next. IfSome next
+        (λ n. n < length tables.now + length states.new.states.items)) }
+    ensures rest { IfOk result (λ next. IfSome next (λ n. IsRestBehind
+        (rest_of tables.now states.old.states.items state) gap
+        (rows_of_table (slice_get tables.now table))
+        (rest_of tables.now states.new.states.items n))) }
+    ensures kept { IfOk result (λ next. next ≡ None
+        → states.new.states.items ≡ states.old.states.items) }
 {
+    if states.room == 0 {
+        return Ok(None);
+    }
+    make_hashes(alloc, &mut states.newest, hashes)?;
     let own = &tables[table];
-    let from = &states.states[state];
+    let from = rows_at(tables, states.states.as_slice(), &[], state);
     let rest = rest_behind(
         alloc,
-        from.rest.as_slice(),
+        from.rows,
         gap,
         own.rows.as_slice(),
         own.past.as_slice(),
     )?;
     states.room = states.room.saturating_sub(rest.len() + ROWS_OF_STATE);
+    let child = state_of(alloc, rest)?;
+    let next = tables.len() + states.states.len();
+    states.states.push(child)?;
     let hash = hash_of(state, gap, table);
     let older = newest_edge(states, hash);
     keep_newest(&mut states.newest, hash, states.edges.len());
-    let next = states.states.len();
-    let child = state_of(alloc, rest)?;
-    states.states.push(child)?;
     states.edges.push(Edge {
         state,
         gap,
@@ -237,5 +240,5 @@ pub fn add_state(
         next,
         older,
     })?;
-    Ok(next)
+    Ok(Some(next))
 }

@@ -4,15 +4,22 @@ ghost use Rattle.std.specs.Prelude.{◌≡◌, ◌<◌, ◌^◌, [], OnOk, lengt
 ghost use Rattle.precedence.specs.Enough.{AreEnough};
 
 use crate::lists::pred_lists::PredLists;
-use std::alloc::AllocError;
+use std::alloc::{AllocError, Global};
 
-/// Lists of predecessors in which those are found that stand for all others, and which need not tell the whole list for that.
+/// Lists of predecessors in which those are found that stand for all others, and which need not tell the whole list for that. What is
+/// found on the way is kept for the blocks that are asked for later, and changes no list.
 pub trait EnoughPreds: PredLists {
     /// Puts the predecessors of a block into `found` that stand for all others. Where memory is refused, what `found` has is of no use.
-    fn add_enough(&self, found: &mut Vec<u32>, block: u32) -> Result<(), AllocError>
-        requires block { block < length (Self.lists self.now) }
+    fn add_enough(
+        &mut self,
+        alloc: Global,
+        found: &mut Vec<u32>,
+        block: u32,
+    ) -> Result<(), AllocError>
+        requires block { block < length (Self.lists self.old) }
         requires none { found.old.items ≡ [] }
-        ensures enough { OnOk result (AreEnough (Self.lists self.now)
-            (slice_index_or (Self.lists self.now) block []) found.new.items) }
-        ensures countable { length (slice_index_or (Self.lists self.now) block []) < 2 ^ 63 };
+        ensures enough { OnOk result (AreEnough (Self.lists self.old)
+            (slice_index_or (Self.lists self.old) block []) found.new.items) }
+        ensures kept { Self.lists self.new ≡ Self.lists self.old }
+        ensures countable { length (slice_index_or (Self.lists self.old) block []) < 2 ^ 63 };
 }

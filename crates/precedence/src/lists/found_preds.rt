@@ -12,7 +12,7 @@ use crate::cones::bounds::extents_of;
 use crate::cones::zone_tables::{ZoneTables, tables_of};
 use crate::cuts::state::States;
 use crate::cuts::states::no_states;
-use crate::cuts::walking::{states_of, walk};
+use crate::cuts::walking::walk;
 use crate::lists::arc_counts::arcs_in_cones;
 use crate::lists::beside::{ByChunk, ByRow};
 use crate::lists::enough_preds::EnoughPreds;
@@ -33,7 +33,8 @@ use std::marker::Model;
 const USUAL: usize = 8;
 
 /// The predecessors of each block by identifier, in rising order. They are not kept: those of a block are found when they are asked
-/// for. It takes 9 bytes for each block and 32 for each row of a cone. Contracts see the list of all lists, as of `Preds`.
+/// for. It takes 9 bytes for each block and 32 for each row of a cone, and what walks keep. Contracts see the list of all lists, as of
+/// `Preds`.
 #[derive(Drop)]
 pub struct FoundPreds {
     places: Places,
@@ -42,7 +43,7 @@ pub struct FoundPreds {
     tables: ZoneTables,
     // where the run of each row of the tables was found last: a guess, which changes the time and not the lists
     hints: Vec<Cell<Hint>>,
-    // the states of walks over the cones, or none
+    // the states of walks over the cones that were made so far
     states: States,
 }
 
@@ -78,21 +79,6 @@ impl FoundPreds {
             tables,
             hints,
             states: no_states(alloc),
-        })
-    }
-
-    /// The same, with the states of the walks that find few predecessors of each block that stand for all others. Fails only where memory
-    /// is refused.
-    pub fn cut(self, alloc: Global) -> Result<FoundPreds, AllocError>
-        ensures { IfOk result (λ found. found ≡ self) }
-    {
-        let states = states_of(alloc, &self.places, self.zones.as_slice(), &self.tables)?;
-        Ok(FoundPreds {
-            places: self.places,
-            zones: self.zones,
-            tables: self.tables,
-            hints: self.hints,
-            states,
         })
     }
 
@@ -153,17 +139,24 @@ impl PredLists for FoundPreds {
 
 impl EnoughPreds for FoundPreds {
     #[tactic(auto, using(crate::proofs::AllLists::found_length))]
-    fn add_enough(&self, found: &mut Vec<u32>, block: u32) -> Result<(), AllocError> {
+    fn add_enough(
+        &mut self,
+        alloc: Global,
+        found: &mut Vec<u32>,
+        block: u32,
+    ) -> Result<(), AllocError> {
         let index = block as usize;
         let zone = self.zones[index];
         let from = self.places.codes[index];
         let table = self.tables.of_zone[zone as usize];
         walk(
+            alloc,
             found,
             &self.places,
             self.zones.as_slice(),
             &self.tables,
-            &self.states,
+            self.hints.as_slice(),
+            &mut self.states,
             table,
             from,
         )?;

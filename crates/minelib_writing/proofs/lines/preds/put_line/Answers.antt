@@ -8,7 +8,7 @@ use Rattle.minelib_writing.proofs.lines.preds.put_line.Goals as goal
 
 pub returns-clause-text : goal.returns-clause-text
 returns-clause-text g c =
-    let lists = g.P.PredLists.lists c.args.preds.now in
+    let lists = g.M.MadeLists.lists c.args.preds.now in
     let id = c.args.id in
     let lines = lines_from prec_line 0 lists in
     let list : ids_of c.as_slice.result.now ≡ get_or lists id [] =
@@ -23,7 +23,7 @@ returns-clause-text g c =
 
 pub returns-clause-count : goal.returns-clause-count
 returns-clause-count g c =
-    let lists = g.P.PredLists.lists c.args.preds.now in
+    let lists = g.M.MadeLists.lists c.args.preds.now in
     let list : ids_of c.as_slice.result.now ≡ get_or lists c.args.id [] =
     ap ids_of c.as_slice.ensures.value ∙ c.in_ok-add_runs.ensures.list
     ∙ ap (λ runs. ids_of runs ++ get_or lists c.args.id []) c.clear.ensures.items in
@@ -31,7 +31,7 @@ returns-clause-count g c =
 
 pub returns-clause-countable : goal.returns-clause-countable
 returns-clause-countable g c =
-    let lists = g.P.PredLists.lists c.args.preds.now in
+    let lists = g.M.MadeLists.lists c.args.preds.now in
     let list : ids_of c.as_slice.result.now ≡ get_or lists c.args.id [] =
     ap ids_of c.as_slice.ensures.value ∙ c.in_ok-add_runs.ensures.list
     ∙ ap (λ runs. ids_of runs ++ get_or lists c.args.id []) c.clear.ensures.items in

@@ -5,8 +5,12 @@ use Rattle.minelib_writing.specs.Written.{prec_line}
 use Rattle.devices.specs.sinks.Writes.{IsWrittenOn}
 use Rattle.minelib_writing.proofs.lines.preds.write_counted.Given as goal
 
--- The lines so far are written on, and their predecessors are counted.
+-- The lists stay, the lines so far are written on, and their predecessors are counted.
 abbrev pub invariant-loop-id : goal.invariant-loop-id
-invariant-loop-id g l = IsWrittenOn (text_of (take l.id (lines_from prec_line 0 (g.P.PredLists.lists l.preds))))
-    l.initial.buffer.items l.buffer.items (g.S.Sink.state l.initial.sink) (g.S.Sink.state l.sink)
-    × (l.arcs ≡ sum_by length (take l.id (g.P.PredLists.lists l.preds))) × (l.arcs ≤ l.id * 2 ^ 63)
+invariant-loop-id g l = record {
+  kept : g.M.MadeLists.lists l.preds ≡ g.M.MadeLists.lists l.initial.preds;
+  written : IsWrittenOn (text_of (take l.id (lines_from prec_line 0 (g.M.MadeLists.lists l.initial.preds))))
+      l.initial.buffer.items l.buffer.items (g.S.Sink.state l.initial.sink) (g.S.Sink.state l.sink);
+  counted : l.arcs ≡ sum_by length (take l.id (g.M.MadeLists.lists l.initial.preds));
+  small : l.arcs ≤ l.id * 2 ^ 63;
+}

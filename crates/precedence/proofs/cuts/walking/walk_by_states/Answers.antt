@@ -1,50 +1,64 @@
-use Rattle.std.proofs.Common.{◌≡◌, ◌+◌, ◌-◌, ◌<◌, ◌≤◌, ℕ, List, false, true, length, get_or, refl, subst, sym, ap, ◌∙◌, arith}
+use Rattle.std.proofs.Common.{◌≡◌, ◌+◌, ◌-◌, ◌<◌, ◌≤◌, ℕ, List, [], ◌∷◌, ◌++◌, false, true, get_or, slice_get, refl, length, subst, sym, ◌∙◌, arith}
 use Rattle.std.proofs.lemmas.List.{get_or_default}
 use Rattle.precedence.specs.inner.Rest.{IsRestBehind}
-use Rattle.precedence.specs.inner.Rows.{is_in_rows, AreInOrder}
-use Rattle.precedence.specs.inner.Steps.{cone_of}
+use Rattle.precedence.specs.inner.Rows.{is_in_rows}
+use Rattle.precedence.specs.inner.States.{rest_of}
+use Rattle.precedence.specs.inner.Steps.{cone_of, IsWalkedTo}
+use Rattle.precedence.specs.inner.ZoneTables.{rows_of_table}
 use Rattle.precedence.specs.declared.cones.cone_rows.Row.{Row}
-use Rattle.precedence.specs.declared.cones.cone_table.ConeTable.{ConeTable}
 use Rattle.precedence.specs.declared.cuts.state.State.{State}
 use Rattle.precedence.proofs.PlacesWhere.{told_where}
-use Rattle.precedence.proofs.enough.Steps.{cone_at, free_step, no_more, none_left, number_at, rest_step, some_state, stay_step}
+use Rattle.precedence.proofs.enough.States.{whole}
+use Rattle.precedence.proofs.enough.Steps.{cone_at, free_step, no_more, no_step, none_left, number_at, rest_step, stay_step}
 use Rattle.precedence.proofs.cuts.walking.walk_by_states.Goals as goal
 
-pub first_in_rows-first-requires-clause-in_order : goal.first_in_rows-first-requires-clause-in_order
-first_in_rows-first-requires-clause-in_order c =
-    rw c.as_slice.ensures.value
-    (subst (λ (s : State). AreInOrder s.rest.items) (sym c.index-own.ensures)
-    (c.requires.states.in_order c.loop-reached.state c.index-own.result.now c.loop-reached.invariant.state))
+pub rows_at-own-requires-clause-states : goal.rows_at-own-requires-clause-states
+rows_at-own-requires-clause-states c = rw c.as_slice.ensures.value c.loop-reached.invariant.states.in_order
+
+pub loop-reached-init : goal.loop-reached-init
+loop-reached-init c =
+    let codes = c.args.places.now.codes.items in
+    let tables = c.args.tables.now.tables.items in
+    let cone = cone_of tables c.args.tables.now.of_zone.items c.args.zones.now in
+    let rows = rows_of_table (slice_get tables c.args.table) in
+    let is = whole tables c.args.states.now.states.items c.args.table c.requires.table in
+    rw c.requires.none (record {
+      states = c.requires.states;
+      state = omega (arith, c.requires.table);
+      walked = subst (λ (r : List Row). IsWalkedTo codes cone c.args.from rows r 0 []) (sym is) (no_step codes cone c.args.from rows);
+      free = λ d y h le r. absurd (let no : ⊥ = cc in no);
+    })
 
 pub returns-in-None-clause-ended : goal.returns-in-None-clause-ended
-returns-in-None-clause-ended c = λ _ d.
+returns-in-None-clause-ended c = λ _.
     let codes = c.args.places.now.codes.items in
-    let states = c.args.states.now.states.items in
-    let own = c.index-own.result.now in
-    let rest_is = c.as_slice.ensures.value ∙ ap (λ (x : State). x.rest.items) c.index-own.ensures in
-    let rest = (get_or states c.loop-reached.state own).rest.items in (
+    let state = c.loop-reached.state in
+    let rest = rest_of c.args.tables.now.tables.items c.loop-reached.states.states.items state in
+    let own_is : c.rows_at-own.result.rows.now ≡ rest =
+    c.rows_at-own.ensures.rows ∙ (λ j. rest_of (c.as_slice-all.ensures.value j) (c.as_slice.ensures.value j) state) in (
       rest,
       (
         c.loop-reached.reached.id,
-        c.loop-reached.invariant.walked own d,
+        c.loop-reached.invariant.walked,
         none_left c.args.from rest codes c.loop-reached.reached.id
-            (λ y low within. subst (λ (r : List Row). is_in_rows c.args.from r (get_or codes y 0) ≡ false) rest_is (c.in-None.ensures.none refl y low within)),
+            (λ y low within. subst (λ (r : List Row). is_in_rows c.args.from r (get_or codes y 0) ≡ false) own_is (c.in-None.ensures.none refl y low within)),
       ),
     )
 
 pub returns-clause-ended : goal.returns-clause-ended
-returns-clause-ended c = λ _ d.
+returns-clause-ended c = λ _.
     let codes = c.args.places.now.codes.items in
-    let states = c.args.states.now.states.items in
-    let own = some_state states c.loop-reached.state c.loop-reached.invariant.state in
-    let rest = (get_or states c.loop-reached.state own).rest.items in (
+    let rest = rest_of c.args.tables.now.tables.items c.loop-reached.states.states.items c.loop-reached.state in (
       rest,
       (
         c.loop-reached.reached.id,
-        c.loop-reached.invariant.walked own d,
+        c.loop-reached.invariant.walked,
         λ y low. no_more c.args.from rest codes c.loop-reached.reached.id y (omega (arith, c.loop-reached-test.false)) low,
       ),
     )
+
+pub next_state-requires-clause-in_order : goal.next_state-requires-clause-in_order
+next_state-requires-clause-in_order c = rw c.as_slice-all.ensures.value c.requires.in_order
 
 pub loop-reached-preserved : goal.loop-reached-preserved
 loop-reached-preserved c =
@@ -52,61 +66,64 @@ loop-reached-preserved c =
     let zones = c.args.zones.now in
     let tables = c.args.tables.now.tables.items in
     let of_zone = c.args.tables.now.of_zone.items in
-    let states = c.args.states.now.states.items in
     let from = c.args.from in
     let state = c.loop-reached.state in
+    let found = c.loop-reached.found.items in
+    let next = c.loop-reached.reached.id in
     let inv = c.loop-reached.invariant in
-    let own = c.index-own.result.now in
     let id = c.in-Some.at.id in
     let within : id < length codes = c.in-Some.ensures.within in
     let code = c.index.result.now in
     let number = c.index-number.result.now in
     let gap : ℕ = code - from in
     let cone = cone_of tables of_zone zones in
+    let rows = rows_of_table (slice_get tables c.args.table) in
+    let rest = rest_of tables c.loop-reached.states.states.items state in
+    let after = rest_of tables c.next_state.new.states.states.items c.in-Some-2.next in
     let place : get_or codes id 0 ≡ from + gap = omega (arith, c.index.ensures, get_or_default codes id code 0 within, c.in-Some.ensures.above) in
     let at = number_at of_zone zones tables (length codes) id number c.requires.each c.requires.zones c.requires.below within c.index-number.ensures in
-    let rest_of : State → List Row = λ s. (get_or states state s).rest.items in
-    let next_of : State → List Row = λ s. (get_or states c.in-Some-next_state.next s).rest.items in
-    let rest_is : (s : State) → c.as_slice.result.now ≡ rest_of s =
-    λ s. c.as_slice.ensures.value ∙ ap (λ (x : State). x.rest.items) (c.index-own.ensures ∙ get_or_default states state own s inv.state) in
-    let left : (s : State) (d : ConeTable) → IsRestBehind (rest_of s) gap (cone id) (next_of s) = λ s d.
-    subst (λ (r : List Row). IsRestBehind (rest_of s) gap r (next_of s)) (cone_at tables of_zone zones id number d at.0 at.1)
-    (subst (λ (ts : List ConeTable). IsRestBehind (rest_of s) gap (get_or ts number d).rows.items (next_of s)) c.as_slice-all.ensures.value
-    (c.in-Some-next_state.ensures.rest s d)) in
-    let some : (s : State) → is_in_rows from (rest_of s) (get_or codes id 0) ≡ true = λ s.
-    subst (λ (r : List Row). is_in_rows from r (get_or codes id 0) ≡ true) (rest_is s) c.in-Some.ensures.some in
-    let least : (s : State) (y : ℕ) → c.loop-reached.reached.id ≤ y → y < id → is_in_rows from (rest_of s) (get_or codes y 0) ≡ false = λ s y low up.
-    subst (λ (r : List Row). is_in_rows from r (get_or codes y 0) ≡ false) (rest_is s) (c.in-Some.ensures.least y low up) in
+    let own_is : c.rows_at-own.result.rows.now ≡ rest =
+    c.rows_at-own.ensures.rows ∙ (λ j. rest_of (c.as_slice-all.ensures.value j) (c.as_slice.ensures.value j) state) in
+    let told = rw c.in-Some-2.is at c.in_ok-next.ensures.rest in
+    let of_tables : IsRestBehind rest gap (rows_of_table (slice_get tables number)) after = rw c.as_slice-all.ensures.value at told in
+    let left : IsRestBehind rest gap (cone id) after =
+    subst (λ (r : List Row). IsRestBehind rest gap r after) (cone_at tables of_zone zones id number at.0) of_tables in
+    let some : is_in_rows from rest (get_or codes id 0) ≡ true =
+    subst (λ (r : List Row). is_in_rows from r (get_or codes id 0) ≡ true) own_is c.in-Some.ensures.some in
+    let least : (y : ℕ) → next ≤ y → y < id → is_in_rows from rest (get_or codes y 0) ≡ false = λ y low up.
+    subst (λ (r : List Row). is_in_rows from r (get_or codes y 0) ≡ false) own_is (c.in-Some.ensures.least y low up) in
+    let here = rw c.in-Some-2.is at c.in_ok-next.ensures.within in
     rw c.in_ok-push.ensures.items (record {
-      state = c.in-Some-next_state.ensures.within;
-      walked = λ s d.
-          rest_step codes cone from (get_or tables c.args.table d).rows.items (rest_of s) c.args.places.now.rising c.loop-reached.found.items
-          c.loop-reached.reached.id (inv.walked s d) id within c.in-Some.ensures.later (some s) (least s) (next_of s) gap place (left s d) (inv.free s d);
-      free = λ s d.
-          free_step codes cone from (get_or tables c.args.table d).rows.items (rest_of s) c.args.places.now.rising c.loop-reached.found.items
-          c.loop-reached.reached.id (inv.walked s d) id within c.in-Some.ensures.later (some s) (least s) (next_of s) gap place (left s d) (inv.free s d);
+      states = rw c.as_slice-all.ensures.value at c.in_ok-next.ensures.states;
+      state = rw c.as_slice-all.ensures.value at here;
+      walked =
+          rest_step codes cone from rows rest c.args.places.now.rising found next inv.walked id within c.in-Some.ensures.later some least after gap place
+          left inv.free;
+      free =
+          free_step codes cone from rows rest c.args.places.now.rising found next inv.walked id within c.in-Some.ensures.later some least after gap place
+          left inv.free;
     })
 
-pub returns-in-None-next_state-clause-walked : goal.returns-in-None-next_state-clause-walked
-returns-in-None-next_state-clause-walked c = λ s d.
+pub returns-in-None-2-clause-walked : goal.returns-in-None-2-clause-walked
+returns-in-None-2-clause-walked c =
     let codes = c.args.places.now.codes.items in
-    let zones = c.args.zones.now in
     let tables = c.args.tables.now.tables.items in
-    let of_zone = c.args.tables.now.of_zone.items in
-    let states = c.args.states.now.states.items in
     let from = c.args.from in
     let state = c.loop-reached.state in
     let inv = c.loop-reached.invariant in
-    let own = c.index-own.result.now in
     let id = c.in-Some.at.id in
-    let cone = cone_of tables of_zone zones in
-    let rest = (get_or states state s).rest.items in
-    let rest_is : c.as_slice.result.now ≡ rest =
-    c.as_slice.ensures.value ∙ ap (λ (x : State). x.rest.items) (c.index-own.ensures ∙ get_or_default states state own s inv.state) in
+    let cone = cone_of tables c.args.tables.now.of_zone.items c.args.zones.now in
+    let rows = rows_of_table (slice_get tables c.args.table) in
+    let rest = rest_of tables c.loop-reached.states.states.items state in
+    let own_is : c.rows_at-own.result.rows.now ≡ rest =
+    c.rows_at-own.ensures.rows ∙ (λ j. rest_of (c.as_slice-all.ensures.value j) (c.as_slice.ensures.value j) state) in
     let some : is_in_rows from rest (get_or codes id 0) ≡ true =
-    subst (λ (r : List Row). is_in_rows from r (get_or codes id 0) ≡ true) rest_is c.in-Some.ensures.some in
+    subst (λ (r : List Row). is_in_rows from r (get_or codes id 0) ≡ true) own_is c.in-Some.ensures.some in
+    let kept = (rw c.in-None-2.is at c.in_ok-next.ensures.kept) refl in
+    let stays =
+    stay_step codes cone from rows rest c.args.places.now.rising c.loop-reached.found.items
+    c.loop-reached.reached.id inv.walked id c.in-Some.ensures.within c.in-Some.ensures.later some
+    (λ y low up. subst (λ (r : List Row). is_in_rows from r (get_or codes y 0) ≡ false) own_is (c.in-Some.ensures.least y low up))
+    (λ b has. inv.free b id has c.in-Some.ensures.later (told_where (is_in_rows from rest) id codes 0 c.in-Some.ensures.within ∙ some)) in
     rw c.in_ok-push.ensures.items
-    (stay_step codes cone from (get_or tables c.args.table d).rows.items rest c.args.places.now.rising c.loop-reached.found.items
-    c.loop-reached.reached.id (inv.walked s d) id c.in-Some.ensures.within c.in-Some.ensures.later some
-    (λ y low up. subst (λ (r : List Row). is_in_rows from r (get_or codes y 0) ≡ false) rest_is (c.in-Some.ensures.least y low up))
-    (λ b has. inv.free s d b id has c.in-Some.ensures.later (told_where (is_in_rows from rest) id codes 0 c.in-Some.ensures.within ∙ some)))
+    (subst (λ (ss : List State). IsWalkedTo codes cone from rows (rest_of tables ss state) (id + 1) (c.loop-reached.found.items ++ id ∷ [])) (sym kept) stays)

@@ -27,7 +27,5 @@ returns-clause-enough c =
     let low = inv.zones block 0 lt in
     let in_zones : zone < length of_zone = omega (arith, low, zone_at) in
     let at : table ≡ get_or of_zone zone 0 = c.index-table.ensures ∙ get_or_default of_zone zone table 0 in_zones in
-    let below = inv.below zone 0 in_zones in
-    let there : table < length f.tables.tables.items = omega (arith, below, at) in
     ended_enough f inv c.args.self.now c.self.view_is block zone _ c.requires.block c.index-zone.ensures c.index-from.ensures
-    table c.walk.new.found.items at there (rw c.as_slice.ensures.value at c.in_ok-walk.ensures)
+    table c.walk.new.found.items at (rw c.as_slice.ensures.value at c.in_ok-walk.ensures.ended)
