@@ -1,21 +1,28 @@
-"""One text of definitions: what some calls promise, each word behind the words that it uses.
+"""One text of definitions: what some calls promise, and then each word behind the words that it uses.
+
+The contracts stand first, and are the contents: below each clause stand its words and those that they
+use, each with the number of the section that defines it.
 
 A page of the project is printed whole. Of a file of code the text has the types, traits, constants
 and calls that are used, without bodies and private fields; of the toolchain's library, and of the
 crates that come with it, the definitions that are used. tools/library_words.py tells the words that
-no source defines, or whose source says less than a sentence.
+no source defines, or whose source says no more than a sentence, and how `csv` reads by its defaults.
 """
 import functools
+import itertools
 import os
 import re
 import subprocess
+import sys
 from typing import Dict, Iterator, List, NamedTuple, Optional, Set, Tuple
 
 import library_words
 import shared
 
-# The parts of the text, each with the calls whose contracts stand at its end.
+# The parts of the text, each with the calls whose contracts it is about.
 PARTS: Dict[str, List[Tuple[str, str]]] = {
+    "compile": [("crates/pit_commands/src/compile.rt", "compile_into")],
+    "thin": [("crates/thin_commands/src/thin.rt", "thin_into")],
     "run": [("crates/pit_compile/src/running.rt", "run")],
     "pipe": [("crates/pit_commands/src/model.rt", "read_model"),
              ("crates/pit_commands/src/pipe_form.rt", "pipe")],
@@ -28,8 +35,8 @@ DECLARED = re.compile(rf"(?m)^(?: *(?:abbrev|unfoldable|opaque) (?:pub )?| *pub 
 PRIVATE = re.compile(rf"(?m)^({WORD})(?: \{{[^}}]*\}})? : ")
 CONSTRUCTORS = re.compile(rf"(?m)^  (?!pub )({WORD}(?: {WORD})*) : ")
 DATA = re.compile(r"(?m)^(?:pub )?data ")
-CLAUSE = re.compile(r"(?s)(?:ensures|requires)(?: \w+)? \{(.*?)\}(?=\s*(?:;|,|\Z|ensures|requires))")
-MODULE = re.compile(r"(?m)^ *module .*")
+CLAUSE = re.compile(r"(?s)(?:ensures|requires)(?: (\w+))? \{(.*?)\}(?=\s*(?:;|,|\Z|ensures|requires))")
+MODULE = re.compile(r"(?ms)^ *module .*? where$")
 ITEM = re.compile(r"(?m)^((?://[^\n]*\n|#\[[^\n]*\n)*)pub(?:\(crate\))? "
                   r"((?:const|type) (\w+)[^;]*;|(?:struct|enum|trait|fn) (\w+)(?:[^{\n]*;$|(?s:.*?)^(?:\}|\{)$))")
 FIELD = re.compile(r"(?m)(?:^    ///[^\n]*\n)*^    (?!pub\b|///)[^\n]*,\n")
@@ -93,10 +100,21 @@ def file_of(page: str) -> Optional[str]:
     return path if os.path.isfile(path) else None
 
 
+def by_defaults(text: str) -> str:
+    """A page of `csv` where its settings are its defaults."""
+    if "\ndefault_config = " in text and library_words.CONFIG not in text:
+        sys.exit("tools/pages-to-read: csv has other defaults than tools/library_words.py")
+    for found, put in library_words.DEFAULTS:
+        text = re.sub(found, put, text)
+    return text
+
+
 @functools.lru_cache(None)
 def pieces(path: str) -> List[Piece]:
     """The parts of a file, in its order."""
     text = shared.read(path)
+    if not is_own(path) and path.startswith(os.path.join(library(), "csv", "")):
+        text = by_defaults(text)
     if is_code(path):
         return [code_piece(path, text, *found) for found in ITEM.findall(text)]
     found: List[Piece] = []
@@ -310,7 +328,7 @@ def unknown(piece: Piece) -> Set[str]:
     said, names = piece, {*used(piece), *piece.names, *library_words.SIGNS}
     if is_code(piece.path):
         code = re.sub("//.*", "", piece.text)
-        said = piece._replace(text=" ".join(CLAUSE.findall(code)))
+        said = piece._replace(text=" ".join(clause for _, clause in CLAUSE.findall(code)))
         named = re.findall(r"\w+(?=:)|(?<=[<,])\s*\w+(?=[:,>])|(?<=type )\w+", code)
         names.update(["result", "self", "Self", *map(str.strip, named)])
     known = {part for name in names for part in [name.split(".")[0], *name.split("◌")]} | bound(said)
@@ -358,6 +376,12 @@ class Book(NamedTuple):
         return (f"{len({piece.path for piece in own})} pages, {lines_of(own):,} lines; of the library {words} definitions, "
                 f"{lines_of(lent):,} lines, and {sentences} words by a sentence")
 
+    def sections(self) -> List[Tuple[str, List[Piece]]]:
+        """What is printed below one heading: of one part and one file, with no contract of a part, which stands in the contents."""
+        contracts = {root for part in self.parts for root in roots_of(part)}
+        return [(part, list(some)) for part, pieces_of in self.parts.items()
+                for _, some in itertools.groupby((piece for piece in pieces_of if piece not in contracts), lambda piece: piece.path)]
+
 
 def book_of(parts: List[str]) -> Book:
     """The text of some parts, in their order."""
@@ -376,23 +400,48 @@ def book_of(parts: List[str]) -> Book:
     return Book(told, [(names, says) for names, says in sentences if names], others)
 
 
+def contents_of(contract: Piece, numbers: Dict[Piece, int], told: Set[Piece]) -> Iterator[str]:
+    """A contract, and each of its clauses with its words, and below it those that these use, where none told them before. Each word of
+    the project has the number of the section that defines it."""
+    def own_words(piece: Piece) -> List[Tuple[str, Piece]]:
+        places = {token: place for place, token in reversed(list(enumerate(tokens_of(piece))))}
+        words = [(name, other) for name, other in used(piece).items() if other in numbers and is_own(other.path)]
+        return sorted(words, key=lambda pair: places.get(pair[0], 0))
+
+    def line(name: str, words: List[Tuple[str, Piece]]) -> str:
+        return f"{name}: " + (", ".join(f"{word} {numbers[other]}" for word, other in words) or "words of the library alone")
+
+    yield f"\n## {contract.names[0]} of {contract.path}\n\n{contract.text}\n"
+    for name, clause in CLAUSE.findall(re.sub("//.*", "", contract.text)):
+        words = own_words(contract._replace(text=clause))
+        yield "    " + line(name or "ensures", words)
+        for word, other in words:
+            if not is_code(other.path) and other not in told and own_words(other):
+                yield "        " + line(word, own_words(other))
+            told.add(other)
+
+
 def text_of(book: Book) -> Iterator[str]:
-    """The book as lines: what signs and words mean, and then each part, with the path of each page above it."""
-    headed: Set[str] = set()
-    yield "# How to read this\n"
+    """The book as lines: the contracts with their contents, what signs and words mean, and then each part, with the path of each page above it."""
+    sections = book.sections()
+    numbers = {piece: number for number, (_, some) in enumerate(sections, 1) for piece in some}
+    yield f"# What is promised\n\n{library_words.CONTENTS}"
+    told: Set[Piece] = set()
+    for root in (root for part in book.parts for root in roots_of(part)):
+        yield from contents_of(root, numbers, told)
+    yield "\n# How to read this\n"
     for sign, says in [*library_words.LANGUAGE.items(), *((", ".join(names), says) for names, says in book.listed)]:
         yield f"    {sign}: {says}"
     yield "\n# Names that stand for another one\n"
     for name, meant in book.others.items():
         yield f"    {name}: {', or '.join(meant)}"
-    for part, some in book.parts.items():
-        yield f"\n# {part}\n\n{library_words.PARTS[part]}"
-        path = ""
-        for piece in some:
-            if piece.path != path:
-                path = piece.path
-                name = path if is_own(path) else "the library, " + os.path.relpath(path, library())
-                yield f"\n## {name}{', more of it' if path in headed else ''}"
-                headed.add(path)
-            yield f"\n{piece.text}"
+    begun: Set[str] = set()
+    for number, (part, some) in enumerate(sections, 1):
+        if part not in begun:
+            yield f"\n# {part}\n\n{library_words.PARTS[part]}"
+        path = some[0].path
+        name = path if is_own(path) else "the library, " + os.path.relpath(path, library())
+        yield f"\n## {number}. {name}{', more of it' if path in begun else ''}"
+        begun.update((part, path))
+        yield from (f"\n{piece.text}" for piece in some)
     yield f"\n{book.counts()}"

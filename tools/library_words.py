@@ -1,10 +1,17 @@
 """What the words and signs mean that the text of tools/book.py has no definition of."""
 
+# How the contents are to be read.
+CONTENTS = """Each contract, with its clauses. Behind a word stands the number of the section that defines it; below a clause each of its
+words has those that it uses. A word that has no number is told in `How to read this`, or is one of the library."""
+
 # What each part of the text is about.
 PARTS = {
-    "run": "A zone file is a CSV text with the columns x, y, z, tonnes and grade; the file of number i has the blocks of the plan's\n"
-           "zone i. For each file a thread, its reader, takes the bytes of a feed and puts the rows into a queue, the lane. Valuers, threads\n"
-           "too, take them out, and value each block at each destination. Sinks take the texts, which depend on none of these threads.",
+    "compile": "A zone file is a CSV text with the columns x, y, z, tonnes and grade; the file of number i has the blocks of the plan's\n"
+               "zone i. An opener gives the feed of a file by its path. For each file a thread, its reader, takes the bytes of its feed and\n"
+               "puts the rows into a queue, the lane. Valuers, threads too, take them out, and value each block at each destination. Sinks\n"
+               "take the texts, which depend on none of these threads.",
+    "thin": "The same zone files and threads; one sink takes the precedence file, each list without arcs that follow from others.",
+    "run": "What `compile` stands on, for feeds that are open and any gate, a hook that is called before a row is valued and a reader pulls.",
     "pipe": "One input holds the text of a plan and those of its zone files, cut at lines that are exactly `--`. A plan is a CSV text:\n"
             "the first cell of a record is its key. The texts of the instance are printed one after the other.",
     "check": "The files BASE.blocks, BASE.prec, BASE.pcpsp and, where it is there, BASE.cpit are read back, and what they have is counted.\n"
@@ -58,11 +65,65 @@ LIBRARY = {
     ("◌↔◌",): "that each of two implies the other",
     ("⊤",): "what always holds",
     ("List", "[]", "◌∷◌"): "lists: the empty one, and an element before a list",
+    ("◌++◌",): "a list behind another",
+    ("concat",): "all lists of a list, one behind the other",
+    ("length",): "how many elements a list has",
+    ("reverse",): "a list from its end on",
+    ("map",): "`map f xs`: what f gives of each element, in order",
+    ("take",): "`take n xs`: the first n elements, or all where there are fewer",
+    ("drop",): "`drop n xs`: what stands behind the first n elements",
+    ("replicate",): "`replicate n a`: the list of n times a",
+    ("get_or", "slice_index_or"): "`get_or xs i d`: the element of number i, from 0 on, or else d",
+    ("slice_index",): "`slice_index xs i`: the number at i, from 0 on, or else 0",
+    ("slice_get",): "`slice_get xs i`: the element of number i, from 0 on, if there is one",
+    ("EachIndex",): "`EachIndex xs P`: that P holds of each number below the length",
+    ("All",): "`All P xs`: that P holds of each element",
+    ("AllZip",): "`AllZip R xs ys`: that two lists are as long, and R holds of their elements, place by place",
+    ("AllPairs",): "`AllPairs R xs`: that R holds of each element and each later one",
+    ("filter",): "`filter p xs`: the elements at which p gives true, in order",
+    ("filter_map",): "`filter_map h xs`: what h gives of the elements, in order, without those of which it gives nothing",
+    ("find",): "`find p xs`: the first element at which p gives true, if there is one",
+    ("list_any",): "`list_any p xs`: whether p gives true at some element",
+    ("list_all",): "`list_all p xs`: whether p gives true at each element",
+    ("position",): "`position p xs`: the first index at which p gives true, if there is one",
+    ("position_or_len",): "the same, or else the length",
+    ("before_first",): "`before_first p xs`: what stands before the first element at which p gives true, or all",
+    ("after_first",): "`after_first p xs`: what stands behind the first element at which p gives true, or nothing",
+    ("prefix_len",): "`prefix_len p xs`: how many elements stand before the first at which p gives false, or all",
+    ("suffix_len",): "`suffix_len p xs`: the same from the end on",
+    ("fold",): "`fold f a xs`: a where the list is empty, and else the fold from `f a x` of what stands behind its first element x",
+    ("sum_by",): "`sum_by f xs`: the sum of what f gives of each element",
+    ("count_by",): "`count_by p xs`: at how many elements p gives true",
+    ("range_with_len",): "`range_with_len a n`: the n numbers from a on",
+    ("enumerate_from",): "`enumerate_from n xs`: the pairs of n and the first element, n + 1 and the next, and so on",
+    ("flat_map",): "`flat_map f xs`: the lists that f gives of the elements, one behind the other",
+    ("last_or",): "`last_or o xs`: the last element as an option, or the option o where there is none",
+    ("ok_prefix",): "the values of a list of results before its first error",
+    ("join_with_byte",): "`join_with_byte c xs`: the lists one behind the other, with c between each two",
+    ("slice_split",): "`slice_split p xs`: the list cut at each element at which p gives true, which stands in no part: a part more than cuts",
+    ("onto_first",): "`onto_first x parts`: x put before the first part, or as the one part where there is none",
+    ("IsStrictlyIncreasing",): "that each number of a list is less than the next",
+    ("bytes_eq",): "whether two lists of bytes are the same",
+    ("string_bytes",): "the bytes of a String",
+    ("Config", "default_config"): "how `csv` reads: by its defaults, which the definitions here have put in. Cells end at commas (44) and records at CR, LF or both; double quotes (34) quote, two of them there are one; no other escape, and no comments",
     ("codes",): "the numbers of the characters of a text",
     ("DynBox",): "in definitions what it holds",
     ("Global",): "where memory comes from",
     ("min-le_right", "suc-le-suc_iff"): "proofs: min n m ≤ m; and m ≤ n exactly where m + 1 ≤ n + 1",
 }
+
+# The defaults of `csv`, as its page has them.
+CONFIG = "{ delimiter = 44; quote = 34; escape = None; double_quote = true; quoting = true; comment = None; terminator = term.CRLF }"
+
+# Its pages by them: without the settings, what each of them is put in, and without what no default leads to.
+DEFAULTS = [
+    (r"(?m)^(?:abbrev pub is_byte .*|is_byte .*|\w+ \(term\.Any.*|\w+ (?:cfg )?st\.In(?:Escape|Comment).*|    In(?:Escape|Comment),)\n", ""),
+    (r"records cfg xs = ", "records default_config xs = "),
+    (r"(?<!records : )Config → |Terminator → |\bcfg |cfg\.terminator |term\.CRLF |cfg\.(?:double_)?quot(?:ing|e) && (?!c )", ""),
+    (r"\n    else if is_byte .* then .*|\n    else if cfg\.\w+ && is_byte .* then .*", ""),
+    (r"cfg\.delimiter", "44"),
+    (r"cfg\.quote\b", "34"),
+]
 
 # The words and signs of the language, as they stand in a definition.
 SIGNS = set("→ × λ ¬ ⊥ = _ ← pub abbrev unfoldable record data where module let in do Type Unit ℓ κ".split())
