@@ -6,7 +6,7 @@ import argparse
 from pit_tools.commands import PRECEDENCE, from_zero
 
 HELP = """\
-Finds the best schedule of a CPIT or a PCPSP of some hundred blocks, or a good one of some thousand,
+Finds the best schedule of a CPIT or a PCPSP of about a hundred blocks, or a good one of some thousand,
 by HiGHS, which comes with scipy; or the bound of the relaxation.
 
     pit-tools solve small.cpit small.prec --out small.schedule
