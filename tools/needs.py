@@ -46,8 +46,9 @@ NEEDS = [
 ]
 
 # Modules of Python that one interpreter has to have, all of them; Debian's packages begin with python3-. By ensurepip `python3 -m venv`
-# makes the environment in which tools/archive tries the wheel.
-MODULES = ["pandas", "numpy", "scipy", "matplotlib", "openpyxl", "pytest", "distributed", "hypothesis", "ezdxf", "meshio", "tqdm", "ensurepip"]
+# makes the environment in which tools/archive tries the wheel; by nbclient and ipykernel tools/recipes runs notebooks.
+MODULES = ["pandas", "numpy", "scipy", "matplotlib", "openpyxl", "pytest", "distributed", "hypothesis", "ezdxf", "meshio", "tqdm", "nbclient", "ipykernel",
+           "ensurepip"]
 
 # What no package brings.
 DEVICES = ["/dev/full", "/proc/self/task", "/proc/self/io"]
