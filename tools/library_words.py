@@ -1,17 +1,18 @@
 """What the words and signs mean that the text of tools/book.py has no definition of."""
 
-# How the contents are to be read.
-CONTENTS = """Each contract, with its clauses. Behind a word stands the number of the section that defines it; below a clause each of its
+# What the contents are about, and how they are to be read.
+CONTENTS = """A zone file is a CSV text with the columns x, y, z, tonnes and grade; the file of number i has the blocks of the plan's zone i. For
+each file a thread, its reader, takes the bytes of a feed and puts the rows into a queue, the lane. Valuers, threads too, take them
+out, and value each block at each destination. Sinks take the texts, which depend on none of these threads.
+
+Each contract stands here with its clauses. Behind a word stands the number of the section that defines it; below a clause each of its
 words has those that it uses. A word that has no number is told in `How to read this`, or is one of the library."""
 
 # What each part of the text is about.
 PARTS = {
-    "compile": "A zone file is a CSV text with the columns x, y, z, tonnes and grade; the file of number i has the blocks of the plan's\n"
-               "zone i. An opener gives the feed of a file by its path. For each file a thread, its reader, takes the bytes of its feed and\n"
-               "puts the rows into a queue, the lane. Valuers, threads too, take them out, and value each block at each destination. Sinks\n"
-               "take the texts, which depend on none of these threads.",
-    "thin": "The same zone files and threads; one sink takes the precedence file, each list without arcs that follow from others.",
-    "run": "What `compile` stands on, for feeds that are open and any gate, a hook that is called before a row is valued and a reader pulls.",
+    "compile": "The command compile: an opener gives the feed of a file by its path, and a run writes the five texts into sinks.",
+    "thin": "The program pitc_thin: the same zone files and threads, and one sink, which takes the precedence file with fewer arcs.",
+    "run": "A run: feeds that are open, and any gate, a hook that is called before a row is valued and before a reader pulls.",
     "pipe": "One input holds the text of a plan and those of its zone files, cut at lines that are exactly `--`. A plan is a CSV text:\n"
             "the first cell of a record is its key. The texts of the instance are printed one after the other.",
     "check": "The files BASE.blocks, BASE.prec, BASE.pcpsp and, where it is there, BASE.cpit are read back, and what they have is counted.\n"
