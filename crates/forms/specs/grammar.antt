@@ -1,4 +1,0 @@
-pub mod Grammar
-pub mod GrammarStates
-pub mod Shape
-pub mod ShapeStates
