@@ -4,3 +4,4 @@
 pub mod header_key;
 pub mod key_values;
 pub mod problem;
+pub mod text_name;

@@ -4,8 +4,9 @@
 pub mod laws;
 
 pub use devices::sinks::{file_sink, mem_sink, section_sink, sink, write_fault};
+pub use minelib_lines::text_name;
 pub use minelib_reading::{read_cpit, read_instance};
 pub use minelib_writing::{
-    text_name, write_blocks, write_cpit, write_named, write_pcpsp, write_prec, write_upit,
+    write_blocks, write_cpit, write_named, write_pcpsp, write_prec, write_upit,
 };
 pub use text_lines::text_fault;

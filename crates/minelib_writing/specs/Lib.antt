@@ -1,4 +1,3 @@
-pub mod Endings
 pub mod TextLaws
 pub mod Texts
 pub mod TextsKept

@@ -1,14 +1,10 @@
 -- The texts of an instance by their names.
-use Rattle.std.specs.Prelude.{ℕ, List, [], ◌∷◌}
+use Rattle.std.specs.Prelude.{ℕ, List}
 use Rattle.mine_instance.specs.cpit.OfCpit.{cpit}
 use Rattle.mine_instance.specs.Instance.{Instance}
 use Rattle.minelib_writing.specs.Written.{text_blocks, text_prec, text_upit, text_pcpsp, text_cpit}
-use Rattle.minelib_writing.specs.declared.text_name.TextName.{TextName}
-use Rattle.minelib_writing.specs.declared.text_name.TextName.TheVariants as text
-
--- in the order of writing
-abbrev pub all_texts : List TextName
-all_texts = text.Blocks ∷ text.Prec ∷ text.Upit ∷ text.Pcpsp ∷ text.Cpit ∷ []
+use Rattle.minelib_lines.specs.declared.text_name.TextName.{TextName}
+use Rattle.minelib_lines.specs.declared.text_name.TextName.TheVariants as text
 
 -- the text of this name; that of a CPIT is of the instance's
 abbrev pub text_named : TextName → Instance → List ℕ

@@ -23,7 +23,6 @@ use crate::lines::preds::write_preds;
 use crate::lines::values::{GreatestLines, ValueLines};
 use crate::parts::{Parted, write_parts, write_titled};
 use crate::sections::write_sections;
-use crate::text_name::TextName;
 use devices::sinks::sink::Sink;
 use devices::sinks::whole_text::{Text, write_text};
 use devices::sinks::write_fault::WriteFault;
@@ -35,6 +34,7 @@ use mine_instance::values::list::ValueList;
 use minelib_lines::header_key::HeaderKey;
 use minelib_lines::key_values::KeyValues;
 use minelib_lines::problem::Problem;
+use minelib_lines::text_name::TextName;
 use precedence::PredLists;
 use std::alloc::Global;
 

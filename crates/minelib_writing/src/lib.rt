@@ -11,7 +11,6 @@ mod lines;
 mod lists_file;
 mod parts;
 mod sections;
-pub mod text_name;
 
 pub use files::{write_blocks, write_cpit, write_named, write_pcpsp, write_prec, write_upit};
 pub use lists_file::{count_arcs, write_lists};

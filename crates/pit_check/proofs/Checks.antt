@@ -16,7 +16,7 @@ use Rattle.devices.specs.declared.feeds.slurp.SlurpFault.TheVariants as slurp
 use Rattle.text_lines.specs.declared.text_fault.TextFile.TheVariants.{Blocks, Prec, Pcpsp, Cpit}
 use Rattle.pit_check.specs.Counts.{Texts}
 use Rattle.pit_check.specs.declared.counts.Counts.{Counts}
-use Rattle.pit_compile.specs.declared.refusal.Refusal.TheVariants.{OutOfMemory}
+use Rattle.refusals.specs.declared.refusal.Refusal.TheVariants.{OutOfMemory}
 use Rattle.pit_edge.specs.FaultLine.{Ends}
 use Rattle.pit_edge.specs.Refused.{status_of, unread}
 use Rattle.pit_edge.specs.declared.refused.Refused.{Refused}

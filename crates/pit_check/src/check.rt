@@ -3,7 +3,7 @@
 ghost use Rattle.std.specs.Prelude.{◌≡◌, ◌≢◌, ◌≤◌, ◌⊎◌, IfErr, IfOk, IfSome, OnErr, OnOk};
 ghost use Rattle.pit_check.specs.Checked.{FailsIn, IsCheckStatus, IsFoundIn, IsFoundInOpenedFiles, IsMissing, TellsFiles, TellsOpenedFiles};
 ghost use Rattle.pit_check.specs.inner.CheckSteps.{CountsAll, CountsFile, CountsIfThere};
-ghost use Rattle.pit_compile.specs.declared.refusal.Refusal.TheVariants.{OutOfMemory};
+ghost use Rattle.refusals.specs.declared.refusal.Refusal.TheVariants.{OutOfMemory};
 ghost use Rattle.pit_parts.specs.declared.ranges.TheConstants.{MAX_BLOCKS};
 ghost use Rattle.pit_edge.specs.FaultLine.{EndsBy};
 ghost use Rattle.pit_edge.specs.declared.refused.Refused.TheVariants.{Run};

@@ -3,7 +3,7 @@ use Rattle.std.proofs.Common.{◌≡◌, ◌∙◌, ◌++◌, ℕ, Bool, List, O
 use Rattle.std.proofs.Math.Path.{fun_ext}
 use Rattle.devices.specs.files.Opening.{Opening}
 use Rattle.devices.specs.sinks.FileSinkView.{FileSinkView, unbegun}
-use Rattle.minelib_writing.specs.declared.text_name.TextName.{TextName}
+use Rattle.minelib_lines.specs.declared.text_name.TextName.{TextName}
 use Rattle.pit_commands.specs.BaseFiles.{AreThere, HasFile, IsNoCompileAt, base_path, base_paths, told_at, unbegun_at}
 use Rattle.pit_commands.specs.Compile.{IsNoCompile, TellsRows}
 use Rattle.pit_compile.specs.Sinks.{all_told, sink_of}

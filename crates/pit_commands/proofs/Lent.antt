@@ -6,10 +6,10 @@ use Rattle.pit_compile.specs.ZoneFiles.{AreGiven, IsVerdict}
 use Rattle.pit_compile.specs.Compiling.{IsNotCompiled}
 use Rattle.pit_compile.specs.Settings.{IsSettingsFault}
 use Rattle.pit_compile.specs.Verdict.{IsRefusedBy}
-use Rattle.pit_compile.specs.declared.refusal.Refusal.{Refusal}
-use Rattle.pit_compile.specs.declared.refusal.Refusal.TheVariants.{Settings, NoThread, FeedFailed, TooLong, Row, Same, SinkFailed, OutOfMemory}
-use Rattle.pit_compile.specs.declared.settings.SettingsFault.{SettingsFault}
-use Rattle.pit_compile.specs.declared.settings.SettingsFault.TheVariants.{Files}
+use Rattle.refusals.specs.declared.refusal.Refusal.{Refusal}
+use Rattle.refusals.specs.declared.refusal.Refusal.TheVariants.{Settings, NoThread, FeedFailed, TooLong, Row, Same, SinkFailed, OutOfMemory}
+use Rattle.refusals.specs.declared.settings_fault.SettingsFault.{SettingsFault}
+use Rattle.refusals.specs.declared.settings_fault.SettingsFault.TheVariants.{Files}
 use Rattle.pit_parts.specs.Plan.{PlanParts}
 use Rattle.pit_parts.specs.declared.formulas.formula.Formula.{Formula}
 use Rattle.pit_commands.specs.Printed.{pipe_settings, PipeRefused}

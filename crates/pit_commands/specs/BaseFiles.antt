@@ -4,12 +4,11 @@ use Rattle.devices.specs.feeds.FileFeedView.{FileFeedView}
 use Rattle.devices.specs.files.Opening.{Opening}
 use Rattle.devices.specs.sinks.FileSinkView.{FileSinkView, unbegun}
 use Rattle.devices.specs.sinks.SinkState.{SinkState}
-use Rattle.minelib_writing.specs.Endings.{ending_of}
-use Rattle.minelib_writing.specs.Texts.{all_texts}
-use Rattle.minelib_writing.specs.declared.text_name.TextName.{TextName}
+use Rattle.minelib_lines.specs.TextNames.{all_texts, ending_of}
+use Rattle.minelib_lines.specs.declared.text_name.TextName.{TextName}
 use Rattle.pit_commands.specs.Compile.{IsNoCompile, TellsRows}
 use Rattle.pit_compile.specs.Sinks.{all_told}
-use Rattle.pit_compile.specs.declared.refusal.Refusal.TheVariants.{OutOfMemory}
+use Rattle.refusals.specs.declared.refusal.Refusal.TheVariants.{OutOfMemory}
 use Rattle.pit_compile.specs.declared.running.TheConstants.{MOST_STARTS}
 use Rattle.pit_compile.specs.declared.sinks.Sinks.{Sinks}
 use Rattle.pit_edge.specs.FilePath.{path_to}

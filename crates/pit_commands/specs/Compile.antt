@@ -6,12 +6,12 @@ use Rattle.devices.specs.files.Opening.{Opening}
 use Rattle.devices.specs.sinks.SinkState.{SinkState}
 use Rattle.lane.specs.MessageKinds.{row_count}
 use Rattle.lane.specs.Whole.{GatheredView}
-use Rattle.minelib_writing.specs.declared.text_name.TextName.{TextName}
+use Rattle.minelib_lines.specs.declared.text_name.TextName.{TextName}
 use Rattle.pit_compile.specs.Run.{IsDone, IsRefused}
 use Rattle.pit_compile.specs.Settings.{IsSettingsFault}
-use Rattle.pit_compile.specs.declared.refusal.Refusal.{Refusal}
-use Rattle.pit_compile.specs.declared.refusal.Refusal.TheVariants as refusal
-use Rattle.pit_compile.specs.declared.settings.SettingsFault.{SettingsFault}
+use Rattle.refusals.specs.declared.refusal.Refusal.{Refusal}
+use Rattle.refusals.specs.declared.refusal.Refusal.TheVariants as refusal
+use Rattle.refusals.specs.declared.settings_fault.SettingsFault.{SettingsFault}
 use Rattle.pit_parts.specs.declared.settings.Settings.{Settings}
 use Rattle.pit_parts.specs.Plan.{PlanParts}
 use Rattle.pit_parts.specs.declared.formulas.formula.Formula.{Formula}

@@ -1,7 +1,7 @@
 -- The model that an input gives, and why one gives none.
 use Rattle.std.specs.Prelude.{◌≡◌, ℕ, ◌<◌, ◌≤◌, ◌⊎◌, List, length, Ok, Option, IfSome}
-use Rattle.pit_compile.specs.declared.refusal.Refusal.TheVariants.{Settings, OutOfMemory}
-use Rattle.pit_compile.specs.declared.settings.SettingsFault.TheVariants.{Files}
+use Rattle.refusals.specs.declared.refusal.Refusal.TheVariants.{Settings, OutOfMemory}
+use Rattle.refusals.specs.declared.settings_fault.SettingsFault.TheVariants.{Files}
 use Rattle.pit_model.specs.Planned.{planned}
 use Rattle.pit_parts.specs.declared.plan.Plan.{Plan}
 use Rattle.pit_edge.specs.Pieces.{PiecesView, plan_piece, zone_pieces}

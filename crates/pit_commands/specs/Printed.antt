@@ -6,7 +6,7 @@ use Rattle.pit_edge.specs.declared.refused.Refused.TheVariants.{Run}
 use Rattle.pit_compile.specs.ZoneFiles.{instance_from}
 use Rattle.pit_compile.specs.Settings.{IsSettingsFault}
 use Rattle.pit_compile.specs.Verdict.{IsAccepted, IsRefusedBy}
-use Rattle.pit_compile.specs.declared.refusal.Refusal.{Refusal}
+use Rattle.refusals.specs.declared.refusal.Refusal.{Refusal}
 use Rattle.pit_parts.specs.declared.settings.Settings as settings
 use Rattle.pit_parts.specs.Plan.{PlanParts}
 use Rattle.pit_parts.specs.declared.formulas.formula.Formula.{Formula}

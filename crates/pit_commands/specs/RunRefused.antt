@@ -1,7 +1,7 @@
 -- Why a run is refused, whatever is known of its settings, its zone files and its devices.
-use Rattle.pit_compile.specs.declared.refusal.Refusal.{Refusal}
-use Rattle.pit_compile.specs.declared.refusal.Refusal.TheVariants.{Settings, NoThread, FeedFailed, TooLong, Row, Same, SinkFailed, OutOfMemory}
-use Rattle.pit_compile.specs.declared.settings.SettingsFault.{SettingsFault}
+use Rattle.refusals.specs.declared.refusal.Refusal.{Refusal}
+use Rattle.refusals.specs.declared.refusal.Refusal.TheVariants.{Settings, NoThread, FeedFailed, TooLong, Row, Same, SinkFailed, OutOfMemory}
+use Rattle.refusals.specs.declared.settings_fault.SettingsFault.{SettingsFault}
 
 -- this holds of a fault of the settings, of a verdict on the zone files, and where a device failed; a thread or memory may be refused at any time
 abbrev pub RunRefused : (SettingsFault → Type 0) → (Refusal → Type 0) → Type 0 → Refusal → Type 0

@@ -1,7 +1,7 @@
 //! From the files of a plan and its zones to the files of BASE.
 
 ghost use Rattle.std.specs.Prelude.{◌≡◌, ◌≢◌, map, string_bytes};
-ghost use Rattle.minelib_writing.specs.declared.text_name.TextName.{TextName as AName};
+ghost use Rattle.minelib_lines.specs.declared.text_name.TextName.{TextName as AName};
 ghost use Rattle.pit_commands.specs.BaseFiles.{AreThere, HasFile, IsNoCompileAt, TellsRowsAt};
 ghost use Rattle.pit_commands.specs.Compile.{IsNoCompile, TellsRows};
 ghost use Rattle.pit_compile.specs.Sinks.{all_told, sink_of};

@@ -1,16 +1,15 @@
 //! The files of an instance that a compile writes: a sink for each, at its path.
 
 ghost use Rattle.std.specs.Prelude.{◌≡◌, ◌++◌, map, string_bytes, IfOk, OnErr, OnOk};
-ghost use Rattle.minelib_writing.specs.Endings.{ending_of};
-ghost use Rattle.minelib_writing.specs.Texts.{all_texts};
-ghost use Rattle.minelib_writing.specs.declared.text_name.TextName.{TextName as AName};
+ghost use Rattle.minelib_lines.specs.TextNames.{all_texts, ending_of};
+ghost use Rattle.minelib_lines.specs.declared.text_name.TextName.{TextName as AName};
 ghost use Rattle.pit_compile.specs.Sinks.{sink_of};
 ghost use Rattle.devices.specs.sinks.FileSinkView.{unbegun};
 ghost use Rattle.pit_edge.specs.FilePath.{path_to};
 
 use crate::placed_sink::PlacedSink;
 use devices::files::file_slot::FileSlots;
-use minelib_writing::text_name::TextName;
+use minelib_lines::text_name::TextName;
 use pit_compile::sinks::Sinks;
 use std::alloc::{AllocError, Global};
 

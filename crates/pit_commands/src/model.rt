@@ -5,8 +5,6 @@ ghost use Rattle.pit_commands.specs.Model.{HasTooManyFiles, IsModel, IsNoModel};
 ghost use Rattle.pit_edge.specs.Pieces.{plan_piece, zone_pieces};
 
 use devices::feeds::feed::Feed;
-use pit_compile::refusal::Refusal;
-use pit_compile::settings::SettingsFault;
 use pit_edge::input::read_source;
 use pit_edge::pieces::{Pieces, cut_at_most, plan_piece};
 use pit_edge::plan_text::stated_plan;
@@ -14,6 +12,8 @@ use pit_edge::refused::Refused;
 use pit_edge::refused::source::Source;
 use pit_model::plan::Plan;
 use pit_model::ranges::MAX_FILE_BYTES;
+use refusals::refusal::Refusal;
+use refusals::settings_fault::SettingsFault;
 use std::alloc::Global;
 
 /// A plan and the zone files that came with it.

@@ -3,7 +3,7 @@
 ghost use Rattle.std.specs.Prelude.{◌≡◌, ◌+◌, ◌↔◌, Err, Some, true, length, map, IfErr, IfOk, OnErr, OnOk};
 ghost use Rattle.pit_compile.specs.ZoneFiles.{HasPassed};
 ghost use Rattle.pit_compile.specs.Settings.{IsSettingsFault};
-ghost use Rattle.pit_compile.specs.declared.settings.SettingsFault.{SettingsFault as ASettingsFault};
+ghost use Rattle.refusals.specs.declared.settings_fault.SettingsFault.{SettingsFault as ASettingsFault};
 ghost use Rattle.pit_parts.specs.Destinations.{formulas_of};
 ghost use Rattle.pit_compile.specs.Starts.{AreStartsOf};
 ghost use Rattle.run_threads.specs.Starts.{none_spent, AreSettled, AreSpent};
@@ -12,7 +12,6 @@ ghost use Rattle.pit_commands.specs.Printed.{pipe_settings, IsPrinted, PipeRefus
 use devices::feeds::feed::Feed;
 use devices::feeds::slice_feed::SliceFeed;
 use lane::Gathered;
-use pit_compile::refusal::Refusal;
 use pit_compile::settings::{Settings, require_settings};
 use pit_compile::{MOST_STARTS, Starts, compile_with_starts};
 use pit_edge::pieces::Piece;
@@ -20,6 +19,7 @@ use pit_edge::printing::print;
 use pit_model::destination::Destination;
 use pit_model::plan::Plan;
 use pit_parts::ranges::{USUAL_CAPACITY, USUAL_VALUERS};
+use refusals::refusal::Refusal;
 use std::alloc::{AllocError, Global};
 use std::sync::Wait;
 use std::thread::Threads;

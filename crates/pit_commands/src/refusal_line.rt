@@ -3,11 +3,11 @@
 ghost use Rattle.std.specs.Prelude.{◌≡◌, ◌++◌, IfOk, OnOk, OnErr};
 ghost use Rattle.pit_edge.specs.FaultLine.{program_line};
 ghost use Rattle.pit_edge.specs.Refused.{run_status};
-ghost use Rattle.pit_compile.specs.FaultText.{refusal_text};
+ghost use Rattle.refusals.specs.FaultText.{refusal_text};
 
-use pit_compile::refusal::Refusal;
 use pit_edge::refused::Refused;
 use pit_edge::refused::fault_line::append_line;
+use refusals::refusal::Refusal;
 use std::alloc::{AllocError, Global};
 
 /// Appends the line of a refusal, and answers the status that it ends the program with. Fails only where memory is refused, and then

@@ -6,8 +6,8 @@ use Rattle.run_threads.specs.declared.read_fault.ReadFault.TheVariants as read
 use Rattle.pit_compile.specs.inner.Behind.{IsBehindThreads}
 use Rattle.pit_compile.specs.inner.ReadAnswers.{refusal_in, refusal_of}
 use Rattle.pit_compile.specs.inner.Repeats.{IsRepeat}
-use Rattle.pit_compile.specs.declared.refusal.Refusal.{Refusal}
-use Rattle.pit_compile.specs.declared.refusal.Refusal.TheVariants.{Settings, NoThread, FeedFailed, TooLong, Row, Same, SinkFailed, OutOfMemory}
+use Rattle.refusals.specs.declared.refusal.Refusal.{Refusal}
+use Rattle.refusals.specs.declared.refusal.Refusal.TheVariants.{Settings, NoThread, FeedFailed, TooLong, Row, Same, SinkFailed, OutOfMemory}
 
 behind_reading : (file : ℕ) (fault : ReadFault) → IsBehindThreads (refusal_of file fault)
 behind_reading file read.FeedFailed = tt

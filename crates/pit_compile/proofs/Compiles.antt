@@ -16,8 +16,8 @@ use Rattle.pit_compile.specs.inner.ModelRows.{AreModelRows}
 use Rattle.pit_compile.specs.Rows.{fault_in, model_sends}
 use Rattle.pit_compile.specs.inner.ValuedRows.{RepeatsFirst, valued_rows}
 use Rattle.pit_compile.specs.inner.Repeats.{IsRepeat}
-use Rattle.pit_compile.specs.declared.refusal.Refusal.{Refusal}
-use Rattle.pit_compile.specs.declared.refusal.Refusal.TheVariants.{Same, OutOfMemory}
+use Rattle.refusals.specs.declared.refusal.Refusal.{Refusal}
+use Rattle.refusals.specs.declared.refusal.Refusal.TheVariants.{Same, OutOfMemory}
 use Rattle.pit_compile.proofs.PlainRows.{first_repeat}
 use Rattle.pit_compile.proofs.Readers.{all_read}
 use Rattle.pit_compile.proofs.RowFacts.{AreZoneFiles, are_model_rows, sent_rows}

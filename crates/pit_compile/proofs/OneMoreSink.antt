@@ -6,10 +6,11 @@ use Rattle.std.proofs.lemmas.List.Elements.{All-from_get_or, All-from_recursion,
 use Rattle.std.proofs.lemmas.List.Kept.{AllPairs-cons}
 use Rattle.mine_instance.specs.Instance.{Instance}
 use Rattle.devices.specs.sinks.SinkState.{SinkState, IsWritten, IsCutOff}
-use Rattle.minelib_writing.specs.Texts.{all_texts, text_named}
+use Rattle.minelib_lines.specs.TextNames.{all_texts}
+use Rattle.minelib_writing.specs.Texts.{text_named}
 use Rattle.devices.specs.sinks.Writes.{Writes}
-use Rattle.minelib_writing.specs.declared.text_name.TextName.{TextName}
-use Rattle.minelib_writing.specs.declared.text_name.TextName.TheVariants.{Blocks}
+use Rattle.minelib_lines.specs.declared.text_name.TextName.{TextName}
+use Rattle.minelib_lines.specs.declared.text_name.TextName.TheVariants.{Blocks}
 use Rattle.devices.specs.declared.sinks.sink.SinkFault.{SinkFault}
 use Rattle.pit_units.specs.declared.or_memory.OrMemory.{OrMemory}
 use Rattle.pit_units.specs.declared.or_memory.OrMemory.TheVariants as write
@@ -17,8 +18,8 @@ use Rattle.pit_compile.specs.SinkAnswers.{AreCutOff}
 use Rattle.pit_compile.specs.inner.SinkWriting.{in_sink}
 use Rattle.pit_compile.specs.SinkLent.{with_sink}
 use Rattle.pit_compile.specs.Sinks.{all_told, AreCutOffAt}
-use Rattle.pit_compile.specs.declared.refusal.Refusal.{Refusal}
-use Rattle.pit_compile.specs.declared.refusal.Refusal.TheVariants.{SinkFailed, OutOfMemory}
+use Rattle.refusals.specs.declared.refusal.Refusal.{Refusal}
+use Rattle.refusals.specs.declared.refusal.Refusal.TheVariants.{SinkFailed, OutOfMemory}
 use Rattle.pit_compile.specs.declared.sinks.Sinks.{Sinks}
 
 -- the text at a place in the order of writing

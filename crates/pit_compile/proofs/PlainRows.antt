@@ -13,7 +13,7 @@ use Rattle.rows.specs.declared.item.Valued.{Valued}
 use Rattle.zone_csv.specs.Zone.{blocks_of}
 use Rattle.pit_compile.specs.Rows.{model_blocks, model_rows, rows_from, rows_in}
 use Rattle.pit_compile.specs.Verdict.{IsFirstRepeat}
-use Rattle.pit_compile.specs.declared.refusal.RowAt.{RowAt}
+use Rattle.refusals.specs.declared.refusal.RowAt.{RowAt}
 use Rattle.pit_compile.specs.inner.ValuedRows.{IsValuedAt, RepeatsFirst, at_of, valued_from, valued_in, valued_rows}
 
 -- a row without its worths

@@ -20,9 +20,9 @@ use Rattle.pit_compile.specs.inner.ReadAnswers.{refusal_in, refusal_of}
 use Rattle.pit_compile.specs.ZoneFiles.{AreGiven}
 use Rattle.pit_compile.specs.Compiling.{IsNotCompiled}
 use Rattle.pit_compile.specs.Rows.{fault_in, file_fault, files_send}
-use Rattle.pit_compile.specs.declared.settings.SettingsFault.{SettingsFault}
-use Rattle.pit_compile.specs.declared.refusal.Refusal.{Refusal}
-use Rattle.pit_compile.specs.declared.refusal.Refusal.TheVariants.{Settings, TooLong, Row}
+use Rattle.refusals.specs.declared.settings_fault.SettingsFault.{SettingsFault}
+use Rattle.refusals.specs.declared.refusal.Refusal.{Refusal}
+use Rattle.refusals.specs.declared.refusal.Refusal.TheVariants.{Settings, TooLong, Row}
 
 -- a file that was read is not too long, and has the fault of its rows
 fault_read : (grid : Grid) (n : ℕ) (left : Option (List ℕ)) (fault : Option RowFault) (sent : List Taken)

@@ -6,12 +6,12 @@ use Rattle.pit_compile.specs.Run.{IsRefused}
 use Rattle.pit_compile.specs.SinkAnswers.{AreCutOff}
 use Rattle.pit_compile.specs.Sinks.{AreCutOffAt}
 use Rattle.devices.specs.sinks.SinkState.{SinkState}
-use Rattle.minelib_writing.specs.declared.text_name.TextName.{TextName}
+use Rattle.minelib_lines.specs.declared.text_name.TextName.{TextName}
 use Rattle.mine_instance.specs.Instance.{Instance}
 use Rattle.pit_compile.specs.declared.compiling.Compiled.{Compiled}
-use Rattle.pit_compile.specs.declared.refusal.Refusal.{Refusal}
-use Rattle.pit_compile.specs.declared.refusal.Refusal.TheVariants.{Settings, NoThread, FeedFailed, TooLong, Row, Same, SinkFailed, OutOfMemory}
-use Rattle.pit_compile.specs.declared.settings.SettingsFault.{SettingsFault}
+use Rattle.refusals.specs.declared.refusal.Refusal.{Refusal}
+use Rattle.refusals.specs.declared.refusal.Refusal.TheVariants.{Settings, NoThread, FeedFailed, TooLong, Row, Same, SinkFailed, OutOfMemory}
+use Rattle.refusals.specs.declared.settings_fault.SettingsFault.{SettingsFault}
 
 -- a run that is refused before it writes
 pub not_compiled : (plan : PlanParts) (lefts : List (Option (List ℕ))) (Failed : ℕ → Type 0) (told : TextName → SinkState) (refusal : Refusal)

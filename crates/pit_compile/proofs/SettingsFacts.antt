@@ -5,8 +5,8 @@ use Rattle.pit_parts.specs.declared.formulas.formula.Formula.{Formula}
 use Rattle.pit_compile.specs.Settings.{IsSettingsFault}
 use Rattle.pit_compile.specs.Suits.{Suits}
 use Rattle.pit_parts.specs.declared.settings.Settings.{Settings}
-use Rattle.pit_compile.specs.declared.settings.SettingsFault.{SettingsFault}
-use Rattle.pit_compile.specs.declared.settings.SettingsFault.TheVariants.{Files, Valuers, Capacity, Destinations}
+use Rattle.refusals.specs.declared.settings_fault.SettingsFault.{SettingsFault}
+use Rattle.refusals.specs.declared.settings_fault.SettingsFault.TheVariants.{Files, Valuers, Capacity, Destinations}
 
 pub only_one : (plan : PlanParts) (files : ℕ) (formulas : List Formula) (settings : Settings) (a b : SettingsFault)
     → IsSettingsFault plan files formulas settings a → IsSettingsFault plan files formulas settings b → a ≡ b

@@ -1,5 +1,4 @@
 pub mod Compiling
-pub mod FaultText
 pub mod Rows
 pub mod Run
 pub mod Settings

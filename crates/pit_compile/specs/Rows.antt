@@ -8,9 +8,9 @@ use Rattle.pit_parts.specs.declared.block.Block.{Block}
 use Rattle.pit_parts.specs.declared.grid.Grid.{Grid}
 use Rattle.run_threads.specs.MostBytes.{most_bytes}
 use Rattle.zone_csv.specs.Zone.{blocks_of, fault_of}
-use Rattle.pit_compile.specs.declared.refusal.Refusal.{Refusal}
-use Rattle.pit_compile.specs.declared.refusal.Refusal.TheVariants.{TooLong, Row}
-use Rattle.pit_compile.specs.declared.refusal.RowAt.{RowAt}
+use Rattle.refusals.specs.declared.refusal.Refusal.{Refusal}
+use Rattle.refusals.specs.declared.refusal.Refusal.TheVariants.{TooLong, Row}
+use Rattle.refusals.specs.declared.refusal.RowAt.{RowAt}
 
 -- the rows of these blocks of a file: each with the number of the file and of its record, from this one on
 abbrev pub rows_from : List Block → ℕ → ℕ → List (RowAt × Block)

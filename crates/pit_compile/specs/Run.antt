@@ -6,13 +6,13 @@ use Rattle.pit_parts.specs.declared.formulas.formula.Formula.{Formula}
 use Rattle.pit_parts.specs.declared.settings.Settings.{Settings as Chosen}
 use Rattle.pit_compile.specs.ZoneFiles.{AreGiven, HasPassed, IsFeedFault, IsVerdict, instance_from}
 use Rattle.devices.specs.sinks.SinkState.{SinkState}
-use Rattle.minelib_writing.specs.declared.text_name.TextName.{TextName}
+use Rattle.minelib_lines.specs.declared.text_name.TextName.{TextName}
 use Rattle.pit_compile.specs.Settings.{IsSettingsFault}
 use Rattle.pit_compile.specs.Sinks.{AreWritten, AreCutOffAt}
 use Rattle.pit_compile.specs.Verdict.{IsAccepted}
-use Rattle.pit_compile.specs.declared.refusal.Refusal.{Refusal}
-use Rattle.pit_compile.specs.declared.refusal.Refusal.TheVariants.{Settings, NoThread, FeedFailed, SinkFailed, OutOfMemory}
-use Rattle.pit_compile.specs.declared.settings.SettingsFault.{SettingsFault}
+use Rattle.refusals.specs.declared.refusal.Refusal.{Refusal}
+use Rattle.refusals.specs.declared.refusal.Refusal.TheVariants.{Settings, NoThread, FeedFailed, SinkFailed, OutOfMemory}
+use Rattle.refusals.specs.declared.settings_fault.SettingsFault.{SettingsFault}
 
 -- the zone files are accepted, every row of every file passed the lane whole, and each sink holds its text of their instance
 pub record IsDone (plan : PlanParts) (lefts : List (Option (List ℕ))) (valuers capacity : ℕ)

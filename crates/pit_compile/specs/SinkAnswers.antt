@@ -1,9 +1,9 @@
 -- The answer of a run by the sinks that it wrote to.
 use Rattle.mine_instance.specs.Instance.{Instance}
 use Rattle.devices.specs.sinks.SinkState.{SinkState}
-use Rattle.minelib_writing.specs.declared.text_name.TextName.{TextName}
-use Rattle.pit_compile.specs.declared.refusal.Refusal.{Refusal}
-use Rattle.pit_compile.specs.declared.refusal.Refusal.TheVariants.{Settings, NoThread, FeedFailed, TooLong, Row, Same, SinkFailed, OutOfMemory}
+use Rattle.minelib_lines.specs.declared.text_name.TextName.{TextName}
+use Rattle.refusals.specs.declared.refusal.Refusal.{Refusal}
+use Rattle.refusals.specs.declared.refusal.Refusal.TheVariants.{Settings, NoThread, FeedFailed, TooLong, Row, Same, SinkFailed, OutOfMemory}
 use Rattle.pit_compile.specs.Sinks.{AreCutOffAt}
 
 -- the sinks were cut off at the one that failed, or at some one for want of memory

@@ -1,7 +1,7 @@
 -- What sinks end as, where the sink of a text is lent to be written to. Callers of `of_mut` and proofs alone need this page.
 use Rattle.std.specs.Borrow.{Lends, Fml, RattleType, MutBor}
-use Rattle.minelib_writing.specs.declared.text_name.TextName.{TextName}
-use Rattle.minelib_writing.specs.declared.text_name.TextName.TheVariants as text
+use Rattle.minelib_lines.specs.declared.text_name.TextName.{TextName}
+use Rattle.minelib_lines.specs.declared.text_name.TextName.TheVariants as text
 use Rattle.pit_compile.specs.contracts.sinks.Sinks.{the_row}
 use Rattle.pit_compile.specs.declared.sinks.Sinks.{Sinks}
 

@@ -1,9 +1,10 @@
 -- What the sinks of a run tell, before and after the texts of an instance are written to them in turn.
 use Rattle.std.specs.Prelude.{◌≡◌, ℕ, List, ◌∷◌, ◌++◌, All}
 use Rattle.devices.specs.sinks.SinkState.{SinkState, IsWritten, IsCutOff}
-use Rattle.minelib_writing.specs.Texts.{all_texts, text_named}
-use Rattle.minelib_writing.specs.declared.text_name.TextName.{TextName}
-use Rattle.minelib_writing.specs.declared.text_name.TextName.TheVariants as text
+use Rattle.minelib_lines.specs.TextNames.{all_texts}
+use Rattle.minelib_writing.specs.Texts.{text_named}
+use Rattle.minelib_lines.specs.declared.text_name.TextName.{TextName}
+use Rattle.minelib_lines.specs.declared.text_name.TextName.TheVariants as text
 use Rattle.mine_instance.specs.Instance.{Instance}
 use Rattle.pit_compile.specs.declared.sinks.Sinks.{Sinks}
 

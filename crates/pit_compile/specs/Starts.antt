@@ -4,8 +4,8 @@ use Rattle.pit_units.specs.declared.or_memory.OrMemory.{OrMemory}
 use Rattle.pit_units.specs.declared.or_memory.OrMemory.TheVariants as hand_over
 use Rattle.run_threads.specs.Starts.{StartsView, AreSpent, AreTooFew}
 use Rattle.run_threads.specs.declared.handing_over.NoThread.{NoThread as ARefusedStart}
-use Rattle.pit_compile.specs.declared.refusal.Refusal.{Refusal}
-use Rattle.pit_compile.specs.declared.refusal.Refusal.TheVariants.{Settings, NoThread, FeedFailed, TooLong, Row, Same, SinkFailed, OutOfMemory}
+use Rattle.refusals.specs.declared.refusal.Refusal.{Refusal}
+use Rattle.refusals.specs.declared.refusal.Refusal.TheVariants.{Settings, NoThread, FeedFailed, TooLong, Row, Same, SinkFailed, OutOfMemory}
 
 -- why nothing was handed over
 abbrev pub refused_start : OrMemory ARefusedStart → Refusal

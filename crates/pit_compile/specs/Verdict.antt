@@ -5,9 +5,9 @@ use Rattle.precedence.specs.Identifier.{is_same_place, IsFirstAgain}
 use Rattle.pit_parts.specs.Plan.{PlanParts}
 use Rattle.pit_parts.specs.declared.block.Block.{Block}
 use Rattle.pit_compile.specs.Rows.{model_blocks, model_rows, fault_in}
-use Rattle.pit_compile.specs.declared.refusal.Refusal.{Refusal}
-use Rattle.pit_compile.specs.declared.refusal.Refusal.TheVariants.{TooLong, Row, Same}
-use Rattle.pit_compile.specs.declared.refusal.RowAt.{RowAt}
+use Rattle.refusals.specs.declared.refusal.Refusal.{Refusal}
+use Rattle.refusals.specs.declared.refusal.Refusal.TheVariants.{TooLong, Row, Same}
+use Rattle.refusals.specs.declared.refusal.RowAt.{RowAt}
 
 -- no two blocks of the list stand at one place of the grid
 abbrev pub AreApart : List Block → Type 0

@@ -7,7 +7,7 @@ use Rattle.mine_instance.specs.Instance.{Instance}
 use Rattle.pit_parts.specs.Plan.{PlanParts}
 use Rattle.pit_compile.specs.Rows.{model_blocks, model_sends, fault_in}
 use Rattle.pit_compile.specs.Verdict.{IsRefusedBy}
-use Rattle.pit_compile.specs.declared.refusal.Refusal.{Refusal}
+use Rattle.refusals.specs.declared.refusal.Refusal.{Refusal}
 
 -- these are the texts of the zone files: the bytes that the feeds had left, where they tell them
 abbrev pub AreGiven : List (Option (List ℕ)) → List (List ℕ) → Type 0

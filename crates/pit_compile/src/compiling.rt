@@ -4,8 +4,8 @@ ghost use Rattle.std.specs.Prelude.{◌≡◌, ◌≢◌, ◌↔◌, ◌+◌, �
 ghost use Rattle.mine_instance.specs.Valid.{IsValid};
 ghost use Rattle.pit_compile.specs.Compiling.{IsCompiled, IsNotCompiled};
 ghost use Rattle.pit_compile.specs.Settings.{IsSettingsFault};
-ghost use Rattle.pit_compile.specs.declared.settings.SettingsFault.{SettingsFault as ASettingsFault};
-ghost use Rattle.pit_compile.specs.Starts.{AreStartsOf};
+ghost use Rattle.refusals.specs.declared.settings_fault.SettingsFault.{SettingsFault as ASettingsFault};
+ghost use Rattle.pit_compile.specs.Starts.{AreStartsOf, refused_start};
 ghost use Rattle.pit_compile.specs.inner.Behind.{IsBehindThreads};
 ghost use Rattle.pit_compile.specs.inner.ReadAnswers.{refusal_in};
 ghost use Rattle.lane.specs.Whole.{IsWhole};
@@ -21,7 +21,6 @@ ghost use Rattle.valuers.specs.Valuing.{items_by};
 use crate::collecting::collect;
 use crate::instance_building::instance_of_rows;
 use crate::read_answers::require_read;
-use crate::refusal::Refusal;
 use crate::settings::{Budget, Settings, require_settings};
 use devices::feeds::feed::Feed;
 use lane::Gathered;
@@ -29,8 +28,10 @@ use mine_instance::instance::Instance;
 use mine_instance::{FoundCoefs, FoundValues};
 use pit_parts::formulas::destination::Destination;
 use pit_parts::plan::Plan;
+use pit_units::OrMemory;
 use precedence::FoundPreds;
-use run_threads::{Allowance, HandedOver, Starts, hand_over};
+use refusals::refusal::Refusal;
+use run_threads::{Allowance, HandedOver, NoThread, Starts, hand_over};
 use std::alloc::Global;
 use std::snapshot::Snapshot;
 use std::sync::Wait;
@@ -125,8 +126,21 @@ pub fn compile_with_starts<R: Threads + Wait + Sync, F: Feed + Send + Drop, G: G
         valuers: settings.valuers as u8,
         capacity: settings.capacity,
     };
-    let (handed, _given) = hand_over(alloc, feeds, plan, destinations, allowance, starts)?;
+    let handed = match hand_over(alloc, feeds, plan, destinations, allowance, starts) {
+        Ok((handed, _given)) => handed,
+        Err(fault) => return Err(refused_start(fault)),
+    };
     compiled_of(alloc, plan, given, handed)
+}
+
+// Why nothing was handed over.
+fn refused_start(fault: OrMemory<NoThread>) -> Refusal
+    ensures { result ≡ refused_start fault }
+{
+    match fault {
+        OrMemory::Fault(NoThread) => Refusal::NoThread,
+        OrMemory::OutOfMemory => Refusal::OutOfMemory,
+    }
 }
 
 // What is compiled of what the threads handed over. Where the reader of a file did not finish, the first such file's answer is given, also

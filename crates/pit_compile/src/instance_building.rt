@@ -9,11 +9,11 @@ ghost use Rattle.pit_compile.specs.inner.Repeats.{IsRepeat};
 ghost use Rattle.pit_compile.specs.Verdict.{AreApart};
 
 use crate::numbered::numbered;
-use crate::refusal::Refusal;
 use mine_instance::instance::Instance;
 use mine_instance::{FoundCoefs, FoundValues, build_with};
 use pit_parts::plan::Plan;
 use precedence::FoundPreds;
+use refusals::refusal::Refusal;
 use rows::RowLists;
 use std::alloc::Global;
 

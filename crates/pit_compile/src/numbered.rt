@@ -8,9 +8,9 @@ ghost use Rattle.pit_compile.specs.inner.Repeats.{IsRepeat};
 ghost use Rattle.pit_compile.specs.inner.ValuedRows.{IsValuedAt};
 ghost use Rattle.pit_parts.specs.declared.ranges.TheConstants.{MAX_BLOCKS};
 
-use crate::refusal::{Refusal, RowAt};
 use pit_units::OrMemory;
 use precedence::{Numbering, Same, number_blocks};
+use refusals::refusal::{Refusal, RowAt};
 use rows::RowLists;
 use std::alloc::Global;
 

@@ -4,7 +4,7 @@ ghost use Rattle.std.specs.Prelude.{◌≡◌, ◌≤◌, None, Some, length, If
 ghost use Rattle.pit_compile.specs.inner.ReadAnswers.{refusal_in, refusal_of};
 ghost use Rattle.pit_parts.specs.declared.ranges.TheConstants.{MAX_ZONES};
 
-use crate::refusal::Refusal;
+use refusals::refusal::Refusal;
 use run_threads::ReadFault;
 
 /// Fails with the answer of the first file whose reader did not finish.

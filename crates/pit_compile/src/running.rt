@@ -10,7 +10,6 @@ ghost use Rattle.run_threads.specs.Refusing.{HasFailed};
 ghost use Rattle.run_threads.specs.Starts.{none_spent, AreSettled, AreSpent};
 
 use crate::compiling::{Compiled, compile_with_starts};
-use crate::refusal::Refusal;
 use crate::settings::Settings;
 use crate::sink_writing::write_texts;
 use crate::sinks::Sinks;
@@ -20,6 +19,7 @@ use lane::Gathered;
 use pit_parts::formulas::destination::Destination;
 use pit_parts::plan::Plan;
 use pit_parts::ranges::{MAX_VALUERS, MAX_ZONES};
+use refusals::refusal::Refusal;
 use run_threads::Starts;
 use std::alloc::Global;
 use std::sync::Wait;

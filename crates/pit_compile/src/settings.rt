@@ -3,7 +3,7 @@
 ghost use Rattle.std.specs.Prelude.{◌≡◌, ◌↔◌, Err, IsTrue, IfErr, OnOk, length, map};
 ghost use Rattle.pit_compile.specs.Settings.{IsSettingsFault};
 ghost use Rattle.pit_compile.specs.Suits.{Suits};
-ghost use Rattle.pit_compile.specs.declared.settings.SettingsFault.{SettingsFault as ASettingsFault};
+ghost use Rattle.refusals.specs.declared.settings_fault.SettingsFault.{SettingsFault as ASettingsFault};
 ghost use Rattle.pit_parts.specs.Destinations.{formulas_of};
 ghost use Rattle.pit_parts.specs.PlanFormulas.{formulas_of_plan};
 
@@ -13,8 +13,7 @@ use pit_parts::laws::equal_formulas_are_the_same;
 use pit_parts::plan::Plan;
 use pit_parts::ranges::{MAX_CAPACITY, MAX_VALUERS};
 pub use pit_parts::settings::Settings;
-use std::fmt;
-use thiserror::Error;
+pub use refusals::settings_fault::SettingsFault;
 
 /// What a run may take: how it is to be made, and how many threads it may start.
 #[derive(Clone, Copy, Debug, PartialEq, Eq)]
@@ -23,35 +22,6 @@ pub struct Budget {
     pub settings: Settings,
     /// The number of thread starts: one more counts as refused.
     pub starts: u32,
-}
-
-/// What is wrong with the settings of a run. Of several kinds the first one here is meant.
-#[derive(Clone, Copy, Debug, Error, PartialEq, Eq)]
-pub enum SettingsFault {
-    /// There are not as many zone files as the plan has zones.
-    Files,
-    /// The number of valuers is not 1 to 64.
-    Valuers,
-    /// The capacity is not 1 to 4096.
-    Capacity,
-    /// The destinations' formulas are not the plan's, in order.
-    Destinations,
-}
-
-impl fmt::Display for SettingsFault {
-    ghost use Rattle.std.specs.Prelude.{Some};
-    ghost use Rattle.pit_compile.specs.FaultText.{settings_name};
-
-    ghost output = { λ kind. Some (settings_name kind) };
-
-    fn fmt<W: fmt::Write>(&self, f: &mut fmt::Formatter<W>) -> fmt::Result {
-        f.write_str(match self {
-            SettingsFault::Files => "Files",
-            SettingsFault::Valuers => "Valuers",
-            SettingsFault::Capacity => "Capacity",
-            SettingsFault::Destinations => "Destinations",
-        })
-    }
 }
 
 /// Fails with the first fault of the settings, in the order of `SettingsFault`, for so many zone files.

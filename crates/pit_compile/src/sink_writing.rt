@@ -6,17 +6,17 @@ ghost use Rattle.pit_compile.specs.SinkAnswers.{AreCutOff};
 ghost use Rattle.pit_compile.specs.inner.SinkWriting.{in_sink};
 ghost use Rattle.pit_compile.specs.Sinks.{all_told, AreWritten};
 
-use crate::refusal::Refusal;
 use crate::sinks::Sinks;
 use devices::sinks::sink::Sink;
 use devices::sinks::write_fault::WriteFault;
 use mine_instance::coefs::list::CoefList;
 use mine_instance::instance::Instance;
 use mine_instance::values::list::ValueList;
-use minelib_writing::text_name::TextName;
+use minelib_lines::text_name::TextName;
 use minelib_writing::write_named;
 use pit_units::OrMemory;
 use precedence::PredLists;
+use refusals::refusal::Refusal;
 use std::alloc::Global;
 
 /// Begins the sinks and writes the texts of an instance and its CPIT, one after the other.

@@ -2,11 +2,11 @@
 
 ghost use Rattle.std.specs.Borrow.{sem};
 ghost use Rattle.std.specs.Prelude.{◌≡◌, IfOk, Ok};
-ghost use Rattle.minelib_writing.specs.declared.text_name.TextName.{TextName as AName};
+ghost use Rattle.minelib_lines.specs.declared.text_name.TextName.{TextName as AName};
 ghost use Rattle.pit_compile.specs.SinkLent.{LendsSink};
 ghost use Rattle.pit_compile.specs.Sinks.{sink_of};
 
-use minelib_writing::text_name::TextName;
+use minelib_lines::text_name::TextName;
 
 /// A sink for each text of an instance, in the order of writing.
 #[derive(Debug, Drop)]

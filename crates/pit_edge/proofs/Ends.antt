@@ -7,7 +7,7 @@ use Rattle.pit_parts.specs.declared.plan.Plan.{Plan}
 use Rattle.pit_units.specs.OrMemory.{Gives}
 use Rattle.pit_units.specs.declared.or_memory.OrMemory.{OrMemory}
 use Rattle.pit_units.specs.declared.or_memory.OrMemory.TheVariants as or_memory
-use Rattle.pit_compile.specs.declared.refusal.Refusal.TheVariants.{OutOfMemory}
+use Rattle.refusals.specs.declared.refusal.Refusal.TheVariants.{OutOfMemory}
 use Rattle.pit_edge.specs.FaultLine.{Ends, EndsRefused, EndsWith}
 use Rattle.pit_edge.specs.PlanFile.{IsNoPlanFile}
 use Rattle.pit_edge.specs.PlanText.{IsNoPlan}

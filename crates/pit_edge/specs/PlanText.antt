@@ -1,7 +1,7 @@
 -- Why a text gives no plan.
 use Rattle.std.specs.Prelude.{◌≡◌, ℕ, ◌<◌, ◌≤◌, List, length, Err}
 use Rattle.pit_model.specs.Planned.{planned}
-use Rattle.pit_compile.specs.declared.refusal.Refusal.TheVariants.{OutOfMemory}
+use Rattle.refusals.specs.declared.refusal.Refusal.TheVariants.{OutOfMemory}
 use Rattle.pit_edge.specs.declared.refused.Refused.{Refused}
 use Rattle.pit_edge.specs.declared.refused.Refused.TheVariants.{NotUtf8, FeedFailed, TooLong, Plan, Text, Run}
 use Rattle.pit_edge.specs.declared.refused.source.Source.TheVariants as source

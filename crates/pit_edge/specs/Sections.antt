@@ -1,8 +1,8 @@
 -- What is printed of an instance: its texts, each under its section line.
 use Rattle.std.specs.Prelude.{ℕ, List, ◌∷◌, ◌++◌, codes, flat_map}
 use Rattle.mine_instance.specs.Instance.{Instance}
-use Rattle.minelib_writing.specs.Endings.{ending_of}
-use Rattle.minelib_writing.specs.Texts.{all_texts, text_named}
+use Rattle.minelib_lines.specs.TextNames.{all_texts, ending_of}
+use Rattle.minelib_writing.specs.Texts.{text_named}
 
 -- a text under its section line
 abbrev pub section : List ℕ → List ℕ → List ℕ

@@ -1,7 +1,7 @@
 -- Zone files that are opened in order, or one that cannot be opened.
 use Rattle.std.specs.Prelude.{◌≡◌, ℕ, ◌⊎◌, List, [], ◌∷◌, ◌++◌, length, slice_get, Option, Some}
 use Rattle.devices.specs.files.Opening.{Opening, Unopened, all_opened}
-use Rattle.pit_compile.specs.declared.refusal.Refusal.TheVariants.{OutOfMemory}
+use Rattle.refusals.specs.declared.refusal.Refusal.TheVariants.{OutOfMemory}
 use Rattle.pit_edge.specs.declared.refused.Refused.{Refused}
 use Rattle.pit_edge.specs.declared.refused.Refused.TheVariants.{FeedFailed, Run}
 use Rattle.pit_edge.specs.declared.refused.source.Source.TheVariants.{Zone}

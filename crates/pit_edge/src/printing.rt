@@ -2,7 +2,7 @@
 
 ghost use Rattle.std.specs.Prelude.{◌≡◌, ◌++◌, length, take, OnErr, OnOk};
 ghost use Rattle.mine_instance.specs.Valid.{IsValid};
-ghost use Rattle.minelib_writing.specs.Endings.{ending_of};
+ghost use Rattle.minelib_lines.specs.TextNames.{ending_of};
 ghost use Rattle.minelib_writing.specs.Texts.{text_named};
 ghost use Rattle.pit_edge.specs.Sections.{printed, section};
 
@@ -11,7 +11,7 @@ use devices::sinks::write_fault::WriteFault;
 use mine_instance::coefs::list::CoefList;
 use mine_instance::instance::Instance;
 use mine_instance::values::list::ValueList;
-use minelib_writing::text_name::TextName;
+use minelib_lines::text_name::TextName;
 use minelib_writing::write_named;
 use precedence::PredLists;
 use std::alloc::{AllocError, Global};

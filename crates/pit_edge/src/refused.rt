@@ -1,16 +1,16 @@
 //! Why the program refuses: the words of its line, and the status that it ends with.
 
 ghost use Rattle.std.specs.Prelude.{◌≡◌};
-ghost use Rattle.pit_compile.specs.declared.refusal.Refusal.TheVariants.{OutOfMemory};
+ghost use Rattle.refusals.specs.declared.refusal.Refusal.TheVariants.{OutOfMemory};
 ghost use Rattle.pit_edge.specs.Refused.{plan_refused, run_status, status_of, text_refused, unread};
 ghost use Rattle.pit_edge.specs.declared.refused.Refused.TheVariants.{Run};
 
 use crate::refused::source::Source;
 use crate::refused::status::{DEVICE, REFUSED, RESOURCES, USAGE};
 use devices::feeds::slurp::SlurpFault;
-use pit_compile::refusal::Refusal;
 use pit_model::plan_fault::PlanFault;
 use pit_units::OrMemory;
+use refusals::refusal::Refusal;
 use std::alloc::{AllocError, AllocFailed};
 use std::fmt;
 use text_lines::text_fault::TextFault;

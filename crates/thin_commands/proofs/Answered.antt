@@ -7,7 +7,7 @@ use Rattle.devices.specs.declared.sinks.sink.SinkFault.{SinkFault}
 use Rattle.fewer_arcs.specs.Fewer.{fewer}
 use Rattle.mine_instance.specs.Instance.{Instance}
 use Rattle.minelib_writing.specs.Written.{text_prec, text_preds}
-use Rattle.pit_compile.specs.declared.refusal.Refusal.{Refusal}
+use Rattle.refusals.specs.declared.refusal.Refusal.{Refusal}
 use Rattle.pit_units.specs.declared.or_memory.OrMemory.{OrMemory}
 use Rattle.pit_units.specs.declared.or_memory.OrMemory.TheVariants as write
 use Rattle.thin_commands.specs.Thin.{IsStopped, thin_text}

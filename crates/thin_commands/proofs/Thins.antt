@@ -8,9 +8,9 @@ use Rattle.pit_compile.specs.Compiling.{IsCompiled, IsNotCompiled}
 use Rattle.pit_compile.specs.Settings.{IsSettingsFault}
 use Rattle.pit_compile.specs.Starts.{AreStartsOf}
 use Rattle.pit_compile.specs.declared.compiling.Compiled.{Compiled}
-use Rattle.pit_compile.specs.declared.refusal.Refusal.{Refusal}
-use Rattle.pit_compile.specs.declared.refusal.Refusal.TheVariants.{OutOfMemory, Settings}
-use Rattle.pit_compile.specs.declared.settings.SettingsFault.{SettingsFault}
+use Rattle.refusals.specs.declared.refusal.Refusal.{Refusal}
+use Rattle.refusals.specs.declared.refusal.Refusal.TheVariants.{OutOfMemory, Settings}
+use Rattle.refusals.specs.declared.settings_fault.SettingsFault.{SettingsFault}
 use Rattle.pit_edge.specs.ZoneFeeds.{AreNotOpened, AreOpened}
 use Rattle.pit_edge.specs.declared.refused.Refused.{Refused}
 use Rattle.pit_edge.specs.declared.refused.Refused.TheVariants.{Run}

@@ -6,15 +6,15 @@ use Rattle.fewer_arcs.specs.Fewer.{fewer}
 use Rattle.lane.specs.Whole.{GatheredView}
 use Rattle.mine_instance.specs.Instance.{Instance}
 use Rattle.minelib_writing.specs.Written.{text_prec}
-use Rattle.minelib_writing.specs.declared.text_name.TextName.TheVariants.{Prec}
+use Rattle.minelib_lines.specs.declared.text_name.TextName.TheVariants.{Prec}
 use Rattle.pit_compile.specs.Compiling.{IsNotCompiled}
 use Rattle.pit_compile.specs.Settings.{IsSettingsFault}
 use Rattle.pit_compile.specs.Starts.{AreStartsOf}
 use Rattle.pit_compile.specs.Verdict.{IsAccepted}
 use Rattle.pit_compile.specs.ZoneFiles.{AreGiven, HasPassed, instance_from}
-use Rattle.pit_compile.specs.declared.refusal.Refusal.{Refusal}
-use Rattle.pit_compile.specs.declared.refusal.Refusal.TheVariants as refusal
-use Rattle.pit_compile.specs.declared.settings.SettingsFault.{SettingsFault}
+use Rattle.refusals.specs.declared.refusal.Refusal.{Refusal}
+use Rattle.refusals.specs.declared.refusal.Refusal.TheVariants as refusal
+use Rattle.refusals.specs.declared.settings_fault.SettingsFault.{SettingsFault}
 use Rattle.pit_edge.specs.ZoneFeeds.{AreNotOpened, AreOpened}
 use Rattle.pit_edge.specs.declared.refused.Refused.{Refused}
 use Rattle.pit_edge.specs.declared.refused.Refused.TheVariants.{Run}

@@ -13,11 +13,11 @@ use devices::sinks::write_fault::WriteFault;
 use fewer_arcs::FewerPreds;
 use mine_instance::instance::Instance;
 use mine_instance::{FoundCoefs, FoundValues};
-use minelib_writing::text_name::TextName;
+use minelib_lines::text_name::TextName;
 use minelib_writing::{count_arcs, write_lists};
-use pit_compile::refusal::Refusal;
 use pit_units::OrMemory;
 use precedence::FoundPreds;
+use refusals::refusal::Refusal;
 use std::alloc::{AllocError, Global};
 
 /// Begins the sink and writes what is left of the predecessors of an instance, which is used up.

@@ -1,8 +1,8 @@
 -- The refusal of a repeated block.
 use Rattle.std.specs.Prelude.{List}
 use Rattle.rows.specs.declared.item.Valued.{Valued}
-use Rattle.pit_compile.specs.declared.refusal.Refusal.{Refusal}
-use Rattle.pit_compile.specs.declared.refusal.Refusal.TheVariants.{Settings, NoThread, FeedFailed, TooLong, Row, Same, SinkFailed, OutOfMemory}
+use Rattle.refusals.specs.declared.refusal.Refusal.{Refusal}
+use Rattle.refusals.specs.declared.refusal.Refusal.TheVariants.{Settings, NoThread, FeedFailed, TooLong, Row, Same, SinkFailed, OutOfMemory}
 use Rattle.pit_compile.specs.inner.ValuedRows.{RepeatsFirst}
 
 -- the refusal names the first repetition; of memory nothing is known

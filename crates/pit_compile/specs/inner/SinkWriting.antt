@@ -1,11 +1,11 @@
 -- What comes of writing to one sink, as the answer of the run.
 use Rattle.std.specs.Prelude.{Result, Ok, Err}
-use Rattle.minelib_writing.specs.declared.text_name.TextName.{TextName}
+use Rattle.minelib_lines.specs.declared.text_name.TextName.{TextName}
 use Rattle.devices.specs.declared.sinks.sink.SinkFault.{SinkFault}
 use Rattle.pit_units.specs.declared.or_memory.OrMemory.{OrMemory}
 use Rattle.pit_units.specs.declared.or_memory.OrMemory.TheVariants as write
-use Rattle.pit_compile.specs.declared.refusal.Refusal.{Refusal}
-use Rattle.pit_compile.specs.declared.refusal.Refusal.TheVariants.{SinkFailed, OutOfMemory}
+use Rattle.refusals.specs.declared.refusal.Refusal.{Refusal}
+use Rattle.refusals.specs.declared.refusal.Refusal.TheVariants.{SinkFailed, OutOfMemory}
 
 -- what came of writing to a sink, as the answer of a run
 abbrev pub in_sink : TextName → Result (Unit {0}) (OrMemory SinkFault) → Result (Unit {0}) Refusal

@@ -9,7 +9,7 @@ use Rattle.precedence.specs.Identifier.{blocks_of_rows, IsFirstAgain}
 use Rattle.rows.specs.Valued.{row_by}
 use Rattle.rows.specs.declared.item.Valued.{Valued}
 use Rattle.zone_csv.specs.Zone.{blocks_of}
-use Rattle.pit_compile.specs.declared.refusal.RowAt.{RowAt}
+use Rattle.refusals.specs.declared.refusal.RowAt.{RowAt}
 
 -- the rows of these blocks of a file, the first of them at place n, each with its worth by each formula
 abbrev pub valued_from : List Block → List Formula → ℕ → ℕ → List Valued

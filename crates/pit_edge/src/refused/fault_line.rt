@@ -10,8 +10,8 @@ ghost use Rattle.pit_parts.specs.declared.ranges.TheConstants.{MAX_PLAN_BYTES};
 use crate::plan_text::stated_plan;
 use crate::refused::Refused;
 use crate::refused::status::RESOURCES;
-use pit_compile::refusal::Refusal;
 use pit_model::plan::Plan;
+use refusals::refusal::Refusal;
 use std::alloc::{AllocError, Global};
 
 /// The plan that a text states; or the status of its refusal, with the line of the fault appended to `lines`.

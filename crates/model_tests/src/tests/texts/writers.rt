@@ -6,7 +6,7 @@ use super::{BLOCKS, LIMITED, PREC, instance_of, write};
 use devices::sinks::mem_sink::MemSink;
 use mine_instance::build_cpit;
 use mine_instance::instance::Instance;
-use minelib_writing::text_name::TextName;
+use minelib_lines::text_name::TextName;
 use minelib_writing::write_cpit;
 use pit_units::OrMemory;
 use std::alloc::Global;

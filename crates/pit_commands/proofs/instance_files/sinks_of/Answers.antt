@@ -1,6 +1,6 @@
 use Rattle.pit_commands.proofs.Slots.{five_behind}
 use Rattle.pit_commands.proofs.instance_files.sinks_of.Goals as goal
-use Rattle.minelib_writing.specs.declared.text_name.TextName.TheVariants.{Blocks, Prec, Upit, Pcpsp, Cpit}
+use Rattle.minelib_lines.specs.declared.text_name.TextName.TheVariants.{Blocks, Prec, Upit, Pcpsp, Cpit}
 
 pub returns-clause-made : goal.returns-clause-made
 returns-clause-made g c =

@@ -3,7 +3,7 @@ use Rattle.std.proofs.Common.{◌≡◌, ◌++◌, ◌∙◌, Err, subst, sym, a
 use Rattle.pit_compile.specs.ZoneFiles.{HasPassed, instance_from}
 use Rattle.pit_compile.specs.Settings.{IsSettingsFault}
 use Rattle.pit_compile.specs.Verdict.{IsAccepted}
-use Rattle.pit_compile.specs.declared.refusal.Refusal.TheVariants.{Settings, OutOfMemory}
+use Rattle.refusals.specs.declared.refusal.Refusal.TheVariants.{Settings, OutOfMemory}
 use Rattle.pit_parts.specs.Destinations.{formulas_of}
 use Rattle.pit_commands.specs.Printed.{pipe_settings, PipeRefused}
 use Rattle.pit_edge.specs.Sections.{printed}

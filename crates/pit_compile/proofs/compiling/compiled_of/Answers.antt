@@ -8,8 +8,8 @@ use Rattle.run_threads.specs.Refusing.{HasFailed}
 use Rattle.pit_compile.specs.inner.ReadAnswers.{refusal_in}
 use Rattle.pit_compile.specs.Compiling.{IsNotCompiled}
 use Rattle.pit_compile.specs.Verdict.{AreApart}
-use Rattle.pit_compile.specs.declared.refusal.Refusal.TheVariants.{Settings}
-use Rattle.pit_compile.specs.declared.settings.SettingsFault.{SettingsFault}
+use Rattle.refusals.specs.declared.refusal.Refusal.TheVariants.{Settings}
+use Rattle.refusals.specs.declared.settings_fault.SettingsFault.{SettingsFault}
 use Rattle.pit_compile.proofs.Compiles.{Compiles, compiles, repeat_refused}
 use Rattle.pit_compile.proofs.PlainRows.{blocks_are}
 use Rattle.pit_compile.proofs.Readers.{all_read, as_many, not_read}

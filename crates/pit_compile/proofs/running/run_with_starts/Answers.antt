@@ -6,7 +6,7 @@ use Rattle.pit_parts.specs.Destinations.{formulas_of}
 use Rattle.run_threads.specs.Refusing.{HasFailed}
 use Rattle.pit_compile.specs.Settings.{IsSettingsFault}
 use Rattle.pit_compile.specs.Sinks.{all_told, AreWritten}
-use Rattle.pit_compile.specs.declared.refusal.Refusal.TheVariants.{Settings}
+use Rattle.refusals.specs.declared.refusal.Refusal.TheVariants.{Settings}
 use Rattle.pit_compile.proofs.RunFacts.{cut_off, cut_is_not_settings, not_compiled}
 use Rattle.pit_compile.proofs.running.run_with_starts.Goals as goal
 

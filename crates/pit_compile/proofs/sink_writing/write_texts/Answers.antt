@@ -1,9 +1,9 @@
 use Rattle.std.proofs.Common.{◌≡◌, ◌∙◌, All, ap, sym, subst, get_or}
 use Rattle.std.proofs.lemmas.Result.{err_from_is_err_and}
 use Rattle.std.proofs.lemmas.List.{take_all}
-use Rattle.minelib_writing.specs.declared.text_name.TextName.TheVariants.{Blocks}
+use Rattle.minelib_lines.specs.declared.text_name.TextName.TheVariants.{Blocks}
 use Rattle.pit_compile.specs.Sinks.{all_told}
-use Rattle.minelib_writing.specs.Texts.{all_texts}
+use Rattle.minelib_lines.specs.TextNames.{all_texts}
 use Rattle.pit_compile.proofs.OneMoreSink.{accepted, IsHeld, name_at, of_each, refused, wrote}
 use Rattle.pit_compile.proofs.sink_writing.write_texts.Goals as goal
 

@@ -1,7 +1,7 @@
 use Rattle.std.proofs.Common.{◌≡◌, All, take, drop}
 use Rattle.pit_compile.specs.Sinks.{all_told}
 use Rattle.pit_compile.proofs.OneMoreSink.{IsAsItWas, IsHeld}
-use Rattle.minelib_writing.specs.Texts.{all_texts}
+use Rattle.minelib_lines.specs.TextNames.{all_texts}
 use Rattle.pit_compile.proofs.sink_writing.write_texts.Given as goal
 
 abbrev pub invariant-loop-name : goal.invariant-loop-name

@@ -1,6 +1,6 @@
 use Rattle.std.proofs.Common.{◌≡◌, ◌++◌, flat_map, length, take}
-use Rattle.minelib_writing.specs.Endings.{ending_of}
-use Rattle.minelib_writing.specs.Texts.{all_texts, text_named}
+use Rattle.minelib_lines.specs.TextNames.{all_texts, ending_of}
+use Rattle.minelib_writing.specs.Texts.{text_named}
 use Rattle.pit_edge.specs.Sections.{section}
 use Rattle.pit_edge.proofs.printing.print_sections.Given as goal
 

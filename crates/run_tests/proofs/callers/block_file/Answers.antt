@@ -1,5 +1,5 @@
 use Rattle.std.proofs.Common.{rules, ◌≡◌, [], ◌∷◌, subst}
-use Rattle.minelib_writing.specs.declared.text_name.TextName.TheVariants.{Blocks}
+use Rattle.minelib_lines.specs.declared.text_name.TextName.TheVariants.{Blocks}
 use Rattle.pit_compile.specs.Verdict.{IsAccepted}
 use Rattle.run_tests.proofs.OneFile.{one_text}
 use Rattle.run_tests.proofs.callers.block_file.Goals as goal

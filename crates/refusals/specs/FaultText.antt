@@ -1,12 +1,12 @@
 -- The words that show why a run is refused.
 use Rattle.std.specs.Prelude.{ℕ, List, ◌++◌, codes, decimal}
-use Rattle.minelib_writing.specs.Endings.{ending_of}
+use Rattle.minelib_lines.specs.TextNames.{ending_of}
 use Rattle.zone_csv.specs.FaultText.{row_fault_text}
-use Rattle.pit_compile.specs.declared.refusal.Refusal.{Refusal}
-use Rattle.pit_compile.specs.declared.refusal.Refusal.TheVariants as refusal
-use Rattle.pit_compile.specs.declared.refusal.RowAt.{RowAt}
-use Rattle.pit_compile.specs.declared.settings.SettingsFault.{SettingsFault}
-use Rattle.pit_compile.specs.declared.settings.SettingsFault.TheVariants as settings
+use Rattle.refusals.specs.declared.refusal.Refusal.{Refusal}
+use Rattle.refusals.specs.declared.refusal.Refusal.TheVariants as refusal
+use Rattle.refusals.specs.declared.refusal.RowAt.{RowAt}
+use Rattle.refusals.specs.declared.settings_fault.SettingsFault.{SettingsFault}
+use Rattle.refusals.specs.declared.settings_fault.SettingsFault.TheVariants as settings
 
 abbrev pub settings_name : SettingsFault → List ℕ
 settings_name settings.Files = codes "Files"

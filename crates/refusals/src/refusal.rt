@@ -1,13 +1,10 @@
 //! Why a run is refused.
 
 ghost use Rattle.std.specs.Prelude.{◌≡◌};
-ghost use Rattle.pit_compile.specs.declared.refusal.Refusal.TheVariants.{Settings as OfSettings, OutOfMemory};
-ghost use Rattle.pit_compile.specs.Starts.{refused_start};
+ghost use Rattle.refusals.specs.declared.refusal.Refusal.TheVariants.{Settings as OfSettings, OutOfMemory};
 
-use crate::settings::SettingsFault;
-use minelib_writing::text_name::TextName;
-use pit_units::OrMemory;
-use run_threads::NoThread;
+use crate::settings_fault::SettingsFault;
+use minelib_lines::text_name::TextName;
 use std::alloc::AllocError;
 use std::fmt;
 use thiserror::Error;
@@ -24,7 +21,7 @@ pub struct RowAt {
 
 impl fmt::Display for RowAt {
     ghost use Rattle.std.specs.Prelude.{Some};
-    ghost use Rattle.pit_compile.specs.FaultText.{row_text};
+    ghost use Rattle.refusals.specs.FaultText.{row_text};
 
     ghost output = { λ at. Some (row_text at) };
 
@@ -57,7 +54,7 @@ pub enum Refusal {
 
 impl fmt::Display for Refusal {
     ghost use Rattle.std.specs.Prelude.{Some};
-    ghost use Rattle.pit_compile.specs.FaultText.{refusal_text};
+    ghost use Rattle.refusals.specs.FaultText.{refusal_text};
 
     ghost output = { λ refusal. Some (refusal_text refusal) };
 
@@ -80,17 +77,6 @@ impl From<SettingsFault> for Refusal {
 
     fn from(fault: SettingsFault) -> Refusal {
         Refusal::Settings(fault)
-    }
-}
-
-impl From<OrMemory<NoThread>> for Refusal {
-    ghost from_gives = { λ fault refusal. refusal ≡ refused_start fault };
-
-    fn from(fault: OrMemory<NoThread>) -> Refusal {
-        match fault {
-            OrMemory::Fault(NoThread) => Refusal::NoThread,
-            OrMemory::OutOfMemory => Refusal::OutOfMemory,
-        }
     }
 }
 

@@ -1,8 +1,7 @@
 //! The texts of an instance, by their names.
 
 ghost use Rattle.std.specs.Prelude.{◌≡◌};
-ghost use Rattle.minelib_writing.specs.Endings.{ending_of};
-ghost use Rattle.minelib_writing.specs.Texts.{all_texts};
+ghost use Rattle.minelib_lines.specs.TextNames.{all_texts, ending_of};
 
 use std::fmt;
 use thiserror::Error;
@@ -47,7 +46,7 @@ impl TextName {
 
 impl fmt::Display for TextName {
     ghost use Rattle.std.specs.Prelude.{Some};
-    ghost use Rattle.minelib_writing.specs.Endings.{ending_of};
+    ghost use Rattle.minelib_lines.specs.TextNames.{ending_of};
 
     ghost output = { λ name. Some (ending_of name) };
 
