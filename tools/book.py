@@ -21,12 +21,12 @@ import shared
 
 # The parts of the text, each with the calls whose contracts it is about.
 PARTS: Dict[str, List[Tuple[str, str]]] = {
-    "compile": [("crates/pit_commands/src/compile.rt", "compile_into")],
-    "thin": [("crates/thin_commands/src/thin.rt", "thin_into")],
+    "compile": [("crates/compile_command/src/compile.rt", "compile_into")],
+    "thin": [("crates/thin_command/src/thin.rt", "thin_into")],
     "run": [("crates/pit_compile/src/running.rt", "run")],
-    "pipe": [("crates/pit_commands/src/model.rt", "read_model"),
-             ("crates/pit_commands/src/pipe_form.rt", "pipe")],
-    "check": [("crates/pit_check/src/check.rt", "check")],
+    "pipe": [("crates/compile_command/src/model.rt", "read_model"),
+             ("crates/compile_command/src/pipe_form.rt", "pipe")],
+    "check": [("crates/check_command/src/check.rt", "check")],
 }
 
 WORD = r"(?:\[\]|[^\s(){}:]+)"

@@ -5,7 +5,7 @@ use Rattle.std.proofs.lemmas.Bool.{cases_eq, cond-false, eq-eqb}
 use Rattle.std.proofs.lemmas.List.Elements.{All-tail, All-weaker}
 use Rattle.rows.specs.declared.item.Item.{Item}
 use Rattle.rows.specs.declared.item.Item.TheVariants.{Row, End}
-use Rattle.pit_parts.specs.declared.ranges.TheConstants.{MAX_ROWS}
+use Rattle.plan_parts.specs.declared.ranges.TheConstants.{MAX_ROWS}
 use Rattle.collector.specs.Complete.{Fits, IsComplete}
 use Rattle.collector.specs.Found.{is_row_at, is_end_of}
 use Rattle.collector.proofs.Complete.{counted, counted-no, counted-yes}

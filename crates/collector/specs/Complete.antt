@@ -4,7 +4,7 @@ use Rattle.std.specs.List.{count_by}
 use Rattle.rows.specs.declared.item.Item.{Item}
 use Rattle.rows.specs.declared.item.Item.TheVariants.{Row, End}
 use Rattle.collector.specs.Found.{is_row_at, is_end_of}
-use Rattle.pit_parts.specs.declared.ranges.TheConstants.{MAX_ROWS}
+use Rattle.plan_parts.specs.declared.ranges.TheConstants.{MAX_ROWS}
 
 -- the item is of one of these files: a row below its count, or an end mark with its count
 abbrev pub Fits : ℕ → (ℕ → ℕ) → Item → Type 0

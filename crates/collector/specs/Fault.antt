@@ -5,7 +5,7 @@ use Rattle.rows.specs.declared.item.Item.TheVariants.{Row, End}
 use Rattle.collector.specs.declared.add_fault.AddFault.{AddFault}
 use Rattle.collector.specs.declared.add_fault.AddFault.TheVariants.{Double, Stranger, AfterEnd, SecondEnd, BadCount}
 use Rattle.collector.specs.Found.{row_at, end_at, has_past}
-use Rattle.pit_parts.specs.declared.ranges.TheConstants.{MAX_ROWS}
+use Rattle.plan_parts.specs.declared.ranges.TheConstants.{MAX_ROWS}
 
 -- there is an end mark, and the place is not below its count
 abbrev pub is_after : Option ℕ → ℕ → Bool

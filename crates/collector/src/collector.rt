@@ -5,13 +5,13 @@ ghost use Rattle.collector.specs.inner.Shelves.{rows_on_shelf, end_on_shelf, ite
 ghost use Rattle.collector.specs.inner.WithAt.{with_at};
 ghost use Rattle.collector.specs.Fault.{fault};
 ghost use Rattle.collector.specs.Lists.{AreLists, IsFinishFault};
-ghost use Rattle.pit_parts.specs.declared.ranges.TheConstants.{MAX_ROWS};
+ghost use Rattle.plan_parts.specs.declared.ranges.TheConstants.{MAX_ROWS};
 
 use crate::add_fault::AddFault;
 use crate::missing::Missing;
 use crate::shelf::Shelf;
-use pit_parts::listed::past::Past;
 use pit_units::OrMemory;
+use plan_parts::listed::past::Past;
 use rows::{Item, Rows, Valued};
 use std::alloc::{AllocError, Global};
 use std::marker::Model;

@@ -7,7 +7,7 @@ ghost use Rattle.collector.specs.Lists.{AreRows};
 ghost use Rattle.collector.specs.inner.Places.{AreFew, IsOfFile, IsPlaced, IsPut, IsPutAs};
 ghost use Rattle.rows.specs.ItemsView.{items_in};
 ghost use Rattle.rows.specs.Packed.{mark_of};
-ghost use Rattle.pit_parts.specs.declared.ranges.TheConstants.{MAX_VALUERS, MAX_ZONES};
+ghost use Rattle.plan_parts.specs.declared.ranges.TheConstants.{MAX_VALUERS, MAX_ZONES};
 ghost use Rattle.rows.specs.declared.item.Item.{Item as AnItem};
 ghost use Rattle.rows.specs.declared.spot.TheConstants.{LISTS, POSITIONS};
 

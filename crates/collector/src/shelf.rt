@@ -3,11 +3,11 @@
 ghost use Rattle.std.specs.Prelude.{◌≡◌, ℕ, ◌<◌, ◌≤◌, [], length, is_some, true, Some, None, MatchOption, OnOk, OnErr};
 ghost use Rattle.collector.specs.inner.Shelves.{slot, row_fault, end_fault, IsFilled, IsLacking};
 ghost use Rattle.collector.specs.inner.WithAt.{with_at};
-ghost use Rattle.pit_parts.specs.declared.ranges.TheConstants.{MAX_ROWS};
+ghost use Rattle.plan_parts.specs.declared.ranges.TheConstants.{MAX_ROWS};
 
 use crate::add_fault::AddFault;
 use crate::places::Places;
-use pit_parts::ranges::MAX_ROWS;
+use plan_parts::ranges::MAX_ROWS;
 use rows::Valued;
 use std::alloc::{AllocError, Global};
 

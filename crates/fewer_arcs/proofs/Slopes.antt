@@ -3,10 +3,10 @@ use Rattle.std.proofs.Common.{◌≡◌, ℕ, ◌+◌, ◌-◌, ◌*◌, ◌<◌
 use Rattle.std.specs.Int.{abs_diff}
 use Rattle.std.proofs.Math.Nat.{mul-le-mul, mul-le-mul_left, mul-le-mul_right, le_of_mul-le-mul_left}
 use Rattle.std.proofs.lemmas.Bool.{cases_lt, leb-true, le-leb, le-ltb, lt-ltb}
-use Rattle.pit_parts.specs.PlanKept.{IsCone}
-use Rattle.pit_parts.specs.declared.block.Block.{Block}
-use Rattle.pit_parts.specs.declared.cone.Cone.{Cone}
-use Rattle.pit_parts.specs.declared.grid.Grid.{Grid}
+use Rattle.plan_parts.specs.PlanKept.{IsCone}
+use Rattle.plan_parts.specs.declared.block.Block.{Block}
+use Rattle.plan_parts.specs.declared.cone.Cone.{Cone}
+use Rattle.plan_parts.specs.declared.grid.Grid.{Grid}
 use Rattle.precedence.specs.Cone.{is_within_slopes, square}
 
 -- ---- squares

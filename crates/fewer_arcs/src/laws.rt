@@ -4,10 +4,10 @@ ghost use Rattle.std.specs.Prelude.{◌≡◌, ◌↔◌, ℕ, ◌<◌, Bool, Li
 ghost use Rattle.precedence.specs.Cone.{preds};
 ghost use Rattle.precedence.specs.Zones.{HasZones};
 ghost use Rattle.precedence.specs.Numbering.{IsNumbering, NumberingView};
-ghost use Rattle.pit_parts.specs.Plan.{PlanParts};
-ghost use Rattle.pit_parts.specs.PlanKept.{IsCone};
-ghost use Rattle.pit_parts.specs.declared.block.Block.{Block};
-ghost use Rattle.pit_parts.specs.declared.cone.Cone.{Cone};
+ghost use Rattle.plan_parts.specs.Plan.{PlanParts};
+ghost use Rattle.plan_parts.specs.PlanKept.{IsCone};
+ghost use Rattle.plan_parts.specs.declared.block.Block.{Block};
+ghost use Rattle.plan_parts.specs.declared.cone.Cone.{Cone};
 ghost use Rattle.fewer_arcs.specs.Fewer.{fewer};
 ghost use Rattle.fewer_arcs.specs.Least.{AreAmong, AreClosed};
 ghost use Rattle.fewer_arcs.specs.Left.{IsLeft, Rise};

@@ -1,7 +1,7 @@
 -- What the ends keep, as they send, join and give away their parts.
 use Rattle.std.proofs.Common.{◌≡◌, ℕ, ◌+◌, ◌<◌, Bool, true, false, ◌||◌, List, [], ◌∷◌, ◌++◌, length, refl, sym, ap, ◌∙◌, subst, arith, length-append}
 use Rattle.std.proofs.lemmas.List.Folds.{list_any-append}
-use Rattle.pit_parts.specs.declared.block.Block.{Block}
+use Rattle.plan_parts.specs.declared.block.Block.{Block}
 use Rattle.lane.specs.declared.message.Taken.{Taken}
 use Rattle.lane.specs.declared.message.Taken.TheVariants.{Row, End}
 use Rattle.lane.specs.declared.part.Part.{Part}

@@ -1,11 +1,11 @@
 -- The lane as a machine: its states, its events, where each event is allowed and what it does. There are no threads in it: a run
 -- of threads is some sequence of these events.
 use Rattle.std.specs.Prelude.{◌≡◌, ◌≢◌, ℕ, ◌+◌, ◌<◌, cond, true, false, ◌==◌, List, [], ◌∷◌, ◌++◌, length}
-use Rattle.pit_parts.specs.declared.block.Block.{Block}
+use Rattle.plan_parts.specs.declared.block.Block.{Block}
 use Rattle.lane.specs.declared.message.Taken.{Taken}
 use Rattle.lane.specs.declared.message.Taken.TheVariants.{Row, End, Stop, Quit}
 use Rattle.lane.specs.MessageKinds.{has_end, is_done, row_count}
-use Rattle.pit_parts.specs.declared.ranges.TheConstants.{MAX_ROWS}
+use Rattle.plan_parts.specs.declared.ranges.TheConstants.{MAX_ROWS}
 
 -- the number of files and of takers, and how many messages the queue has room for
 pub record Size : Type 0 where

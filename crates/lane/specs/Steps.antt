@@ -7,7 +7,7 @@ use Rattle.lane.specs.declared.part.Part.{Part}
 use Rattle.lane.specs.declared.part.Part.TheVariants.{Count, Put, Take, Close}
 use Rattle.lane.specs.MessageKinds.{has_end, is_done, is_stop, is_quit, row_count}
 use Rattle.lane.specs.Rule.{Role, Closer, role_of, Has, put_parts, take_parts}
-use Rattle.pit_parts.specs.declared.ranges.TheConstants.{MAX_ROWS}
+use Rattle.plan_parts.specs.declared.ranges.TheConstants.{MAX_ROWS}
 
 -- a part after its pass sent or took the message
 abbrev pub more_part : Part → Taken → Part

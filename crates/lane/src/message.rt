@@ -1,6 +1,6 @@
 //! What goes through the lane.
 
-use pit_parts::block::Block;
+use plan_parts::block::Block;
 
 /// What a take end takes: a row or an end mark of a file, or a mark that ends the taker.
 #[derive(Clone, Copy, Debug, PartialEq, Eq)]

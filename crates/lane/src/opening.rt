@@ -7,7 +7,7 @@ ghost use Rattle.lane.specs.Ends.{ArePutsFrom, AreTakesFrom, first_puts, first_t
 ghost use Rattle.lane.specs.EndFields.{room_of};
 ghost use Rattle.lane.specs.inner.Kept.{IsChannelOf, takes_left};
 ghost use Rattle.lane.specs.Rule.{all_parts};
-ghost use Rattle.pit_parts.specs.declared.ranges.TheConstants.{MAX_CAPACITY, MAX_VALUERS, MAX_ZONES};
+ghost use Rattle.plan_parts.specs.declared.ranges.TheConstants.{MAX_CAPACITY, MAX_VALUERS, MAX_ZONES};
 
 use crate::closer::Closer;
 use crate::message::Taken;

@@ -5,13 +5,13 @@ ghost use Rattle.lane.specs.EndFields.{room_of, put_end_view};
 ghost use Rattle.lane.specs.inner.Kept.{IsClosers, IsOpenPut, IsEndedPut};
 ghost use Rattle.lane.specs.Message.{IsEndedFrom};
 ghost use Rattle.lane.specs.MessageKinds.{has_end, row_count};
-ghost use Rattle.pit_parts.specs.declared.ranges.TheConstants.{MAX_ROWS};
+ghost use Rattle.plan_parts.specs.declared.ranges.TheConstants.{MAX_ROWS};
 ghost use Rattle.lane.specs.Ends.{PutEndView};
 
 use crate::message::Taken;
 use crate::part::Part;
 use crate::seated::SeatedSender;
-use pit_parts::block::Block;
+use plan_parts::block::Block;
 use std::marker::Model;
 use std::sync::Wait;
 

@@ -3,9 +3,9 @@ use Rattle.std.proofs.Common.{◌≡◌, ℕ, ◌∙◌, Bool, true, false, cond
 use Rattle.std.specs.Prelude.{filter, if◌then◌else◌, not, ◌||◌, ◌==◌}
 use Rattle.std.specs.List.{cons_option, enumerate_from, filter_map, flat_map, range_with_len}
 use Rattle.std.proofs.lemmas.List.{map-append}
-use Rattle.pit_parts.specs.Plan.{PlanParts}
-use Rattle.pit_parts.specs.declared.block.Block.{Block}
-use Rattle.pit_parts.specs.declared.resource.Resource.{Resource}
+use Rattle.plan_parts.specs.Plan.{PlanParts}
+use Rattle.plan_parts.specs.declared.block.Block.{Block}
+use Rattle.plan_parts.specs.declared.resource.Resource.{Resource}
 use Rattle.mine_instance.specs.coefs.CoveredPairs.{block_coef, block_coefs, coefs_of, covered, covering, covers, pair_with}
 use Rattle.mine_instance.specs.OfModel.{coef_at, coefs}
 use Rattle.mine_instance.specs.declared.coefs.coef.Coef.{Coef}

@@ -2,9 +2,9 @@
 use Rattle.std.proofs.Common.{ℤ, List, [], ◌∷◌, map, arith}
 use Rattle.std.specs.List.{AllZip}
 use Rattle.std.proofs.lemmas.Int.{ints}
-use Rattle.pit_parts.specs.Plan.{PlanParts}
-use Rattle.pit_parts.specs.PlanFormulas.{formulas_of_plan}
-use Rattle.pit_parts.specs.declared.block.Block.{Block}
+use Rattle.plan_parts.specs.Plan.{PlanParts}
+use Rattle.plan_parts.specs.PlanFormulas.{formulas_of_plan}
+use Rattle.plan_parts.specs.declared.block.Block.{Block}
 use Rattle.rows.specs.Valued.{worths_by}
 use Rattle.mine_instance.specs.Hundreds.{IsWorthCents}
 use Rattle.mine_instance.specs.OfModel.{in_hundreds, values_of}

@@ -5,14 +5,14 @@ use Rattle.std.specs.List.{flat_map, enumerate_from}
 use Rattle.std.proofs.lemmas.Int.{ints}
 use Rattle.std.proofs.lemmas.List.Elements.{All-nil, All-append, All-filter, All-map, All-weaker, All-tail}
 use Rattle.pit_units.specs.DecimalRange.{IsInDecimalRange}
-use Rattle.pit_parts.specs.Name.{is_name}
-use Rattle.pit_parts.specs.Plan.{PlanParts}
-use Rattle.pit_parts.specs.PlanKept.{AreTonnes, IsPlan, IsTonnes}
-use Rattle.pit_parts.specs.formulas.WorthRange.{IsWorth}
-use Rattle.pit_parts.specs.declared.block.Block.{Block}
-use Rattle.pit_parts.specs.declared.limit.Bound.{Bound}
-use Rattle.pit_parts.specs.declared.limit.Bound.TheVariants.{AtMost, AtLeast, Between}
-use Rattle.pit_parts.proofs.WorthFacts.{worth_bound}
+use Rattle.plan_parts.specs.Name.{is_name}
+use Rattle.plan_parts.specs.Plan.{PlanParts}
+use Rattle.plan_parts.specs.PlanKept.{AreTonnes, IsPlan, IsTonnes}
+use Rattle.plan_parts.specs.formulas.WorthRange.{IsWorth}
+use Rattle.plan_parts.specs.declared.block.Block.{Block}
+use Rattle.plan_parts.specs.declared.limit.Bound.{Bound}
+use Rattle.plan_parts.specs.declared.limit.Bound.TheVariants.{AtMost, AtLeast, Between}
+use Rattle.plan_parts.proofs.WorthFacts.{worth_bound}
 use Rattle.mine_instance.specs.Greatest.{first_greatest, greatest}
 use Rattle.mine_instance.specs.Instance.{Instance}
 use Rattle.mine_instance.specs.OfModel.{by_identifier, in_hundreds, instance, instance_of, values_of}

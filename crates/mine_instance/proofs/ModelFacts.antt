@@ -7,19 +7,19 @@ use Rattle.std.proofs.lemmas.List.Kept.{AllPairs-filter, AllPairs-from_increasin
 use Rattle.std.specs.Prelude.{AllPairs, IsTrue, slice_get, filter, ◌==◌}
 use Rattle.std.specs.List.{enumerate_from, range_with_len, flat_map}
 use Rattle.std.proofs.lemmas.Bool.Decides.{nat_tests}
-use Rattle.pit_parts.specs.PlanFormulas.{formulas_of_plan}
+use Rattle.plan_parts.specs.PlanFormulas.{formulas_of_plan}
 use Rattle.precedence.specs.Cone.{above, preds}
 use Rattle.precedence.proofs.LawFacts.{lie_higher, lists_rise, range_rises}
-use Rattle.pit_parts.specs.declared.resource.Resource.{Resource}
-use Rattle.pit_parts.specs.declared.limit.Limit.{Limit}
-use Rattle.pit_parts.specs.Plan.{PlanParts}
-use Rattle.pit_parts.specs.formulas.Formula.{IsRuled}
-use Rattle.pit_parts.specs.PlanKept.{IsPlan}
-use Rattle.pit_parts.specs.formulas.Worth.{worth}
-use Rattle.pit_parts.specs.formulas.WorthRange.{IsWorth}
-use Rattle.pit_parts.specs.declared.block.Block.{Block}
-use Rattle.pit_parts.specs.declared.formulas.formula.Formula.{Formula}
-use Rattle.pit_parts.specs.declared.formulas.formula.NamedFormula.{NamedFormula}
+use Rattle.plan_parts.specs.declared.resource.Resource.{Resource}
+use Rattle.plan_parts.specs.declared.limit.Limit.{Limit}
+use Rattle.plan_parts.specs.Plan.{PlanParts}
+use Rattle.plan_parts.specs.formulas.Formula.{IsRuled}
+use Rattle.plan_parts.specs.PlanKept.{IsPlan}
+use Rattle.plan_parts.specs.formulas.Worth.{worth}
+use Rattle.plan_parts.specs.formulas.WorthRange.{IsWorth}
+use Rattle.plan_parts.specs.declared.block.Block.{Block}
+use Rattle.plan_parts.specs.declared.formulas.formula.Formula.{Formula}
+use Rattle.plan_parts.specs.declared.formulas.formula.NamedFormula.{NamedFormula}
 use Rattle.rows.specs.Valued.{worths_by}
 use Rattle.mine_instance.proofs.CoefFacts.{coefs_are}
 use Rattle.mine_instance.proofs.PairFacts.{pairs_append, pairs_map, rising_differ}

@@ -1,7 +1,7 @@
 -- What an instance is: its parts, blocks by identifier.
 use Rattle.std.specs.Prelude.{ℕ, ℤ, List}
-use Rattle.pit_parts.specs.declared.block.Block.{Block}
-use Rattle.pit_parts.specs.declared.limit.Limit.{Limit}
+use Rattle.plan_parts.specs.declared.block.Block.{Block}
+use Rattle.plan_parts.specs.declared.limit.Limit.{Limit}
 use Rattle.mine_instance.specs.declared.coefs.coef.Coef.{Coef}
 
 pub record Instance : Type 0 where

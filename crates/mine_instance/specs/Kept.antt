@@ -1,9 +1,9 @@
 -- What the types of their parts keep of every instance and of every CPIT.
 use Rattle.std.specs.Prelude.{◌≡◌, true, All}
 use Rattle.pit_units.specs.DecimalRange.{IsInDecimalRange}
-use Rattle.pit_parts.specs.Name.{is_name}
-use Rattle.pit_parts.specs.declared.limit.Bound.{Bound}
-use Rattle.pit_parts.specs.declared.limit.Bound.TheVariants.{AtMost, AtLeast, Between}
+use Rattle.plan_parts.specs.Name.{is_name}
+use Rattle.plan_parts.specs.declared.limit.Bound.{Bound}
+use Rattle.plan_parts.specs.declared.limit.Bound.TheVariants.{AtMost, AtLeast, Between}
 use Rattle.mine_instance.specs.cpit.Cpit.{CpitParts}
 use Rattle.mine_instance.specs.Instance.{Instance}
 

@@ -2,10 +2,10 @@
 -- (the parts of a MineLib instance: Espinoza, Goycoolea, Moreno and Newman 2013).
 use Rattle.std.specs.Prelude.{ℕ, ◌*◌, ◌==◌, ◌||◌, not, List, ℤ, pos, ◌*ℤ◌, Option, Some, None, length, map, find, if◌then◌else◌}
 use Rattle.std.specs.List.{list_any, filter_map, flat_map, range_with_len, enumerate_from}
-use Rattle.pit_parts.specs.PlanFormulas.{formulas_of_plan}
-use Rattle.pit_parts.specs.Plan.{PlanParts}
-use Rattle.pit_parts.specs.declared.block.Block.{Block}
-use Rattle.pit_parts.specs.declared.resource.Resource.{Resource}
+use Rattle.plan_parts.specs.PlanFormulas.{formulas_of_plan}
+use Rattle.plan_parts.specs.Plan.{PlanParts}
+use Rattle.plan_parts.specs.declared.block.Block.{Block}
+use Rattle.plan_parts.specs.declared.resource.Resource.{Resource}
 use Rattle.precedence.specs.Cone.{preds}
 use Rattle.precedence.specs.Identifier.{id}
 use Rattle.rows.specs.Valued.{worths_by}

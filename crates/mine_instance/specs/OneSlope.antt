@@ -1,7 +1,7 @@
 -- The instance of a model whose zones have one slope each.
 use Rattle.std.specs.Prelude.{List}
-use Rattle.pit_parts.specs.Plan.{PlanParts}
-use Rattle.pit_parts.specs.declared.block.Block.{Block}
+use Rattle.plan_parts.specs.Plan.{PlanParts}
+use Rattle.plan_parts.specs.declared.block.Block.{Block}
 use Rattle.precedence.specs.ConeLaws.{preds_by}
 use Rattle.mine_instance.specs.OfModel.{by_identifier, instance_of}
 use Rattle.mine_instance.specs.Instance.{Instance}

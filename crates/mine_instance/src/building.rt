@@ -2,9 +2,9 @@
 
 ghost use Rattle.std.specs.Prelude.{◌≡◌, ◌*◌, ◌≤◌, ◌==◌, ◌++◌, ◌∷◌, [], List, length, map, All, IfOk, OnOk, if◌then◌else◌};
 ghost use Rattle.std.specs.List.{list_any};
-ghost use Rattle.pit_parts.specs.PlanFormulas.{formulas_of_plan};
-ghost use Rattle.pit_parts.specs.declared.block.Block.{Block};
-ghost use Rattle.pit_parts.specs.formulas.WorthRange.{IsWorth};
+ghost use Rattle.plan_parts.specs.PlanFormulas.{formulas_of_plan};
+ghost use Rattle.plan_parts.specs.declared.block.Block.{Block};
+ghost use Rattle.plan_parts.specs.formulas.WorthRange.{IsWorth};
 ghost use Rattle.precedence.specs.Cone.{preds as cone_lists};
 ghost use Rattle.precedence.specs.Identifier.{blocks_of_rows};
 ghost use Rattle.precedence.specs.Numbering.{IsNumbering, NumberingView};
@@ -13,7 +13,7 @@ ghost use Rattle.mine_instance.specs.Kept.{IsKept};
 ghost use Rattle.mine_instance.specs.OfModel.{in_hundreds, instance, values_of};
 ghost use Rattle.mine_instance.specs.coefs.CoveredPairs.{block_coefs, coefs_of, covering, covered};
 ghost use Rattle.mine_instance.specs.Valid.{IsValid};
-ghost use Rattle.pit_parts.specs.declared.ranges.TheConstants.{MAX_BLOCKS, MAX_DESTINATIONS, MAX_RESOURCES};
+ghost use Rattle.plan_parts.specs.declared.ranges.TheConstants.{MAX_BLOCKS, MAX_DESTINATIONS, MAX_RESOURCES};
 
 use crate::blocks::Blocks;
 use crate::coefs::coef::{Coef, Coefs};
@@ -25,11 +25,11 @@ use crate::limits::Limits;
 use crate::values::Values;
 use crate::values::in_hundreds::in_hundreds;
 use crate::values::list::ValueList;
-use pit_parts::block::Block;
-use pit_parts::laws::worths_are_in_range;
-use pit_parts::plan::Plan;
-use pit_parts::resource::Resource;
 use pit_units::Dec;
+use plan_parts::block::Block;
+use plan_parts::laws::worths_are_in_range;
+use plan_parts::plan::Plan;
+use plan_parts::resource::Resource;
 use precedence::{Numbering, PredLists, Preds};
 use rows::Valued;
 use std::alloc::{AllocError, Global};

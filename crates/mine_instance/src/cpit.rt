@@ -5,9 +5,9 @@ ghost use Rattle.mine_instance.specs.cpit.CpitKept.{IsCpit};
 ghost use Rattle.mine_instance.specs.cpit.CpitOrder.{cpit_coef_before};
 
 use crate::coefs::coef::{Coef, Coefs};
-use pit_parts::limit::Limit;
-use pit_parts::name::Name;
 use pit_units::Dec;
+use plan_parts::limit::Limit;
+use plan_parts::name::Name;
 use std::marker::Model;
 
 /// An instance of the constrained pit limit problem of MineLib (Espinoza, Goycoolea, Moreno and Newman 2013): each

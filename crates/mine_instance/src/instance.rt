@@ -8,8 +8,8 @@ use crate::coefs::list::CoefList;
 use crate::limits::Limits;
 use crate::values::Values;
 use crate::values::list::ValueList;
-use pit_parts::name::Name;
 use pit_units::Dec;
+use plan_parts::name::Name;
 use precedence::{PredLists, Preds};
 use std::marker::Model;
 

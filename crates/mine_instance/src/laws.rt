@@ -2,12 +2,12 @@
 
 ghost use Rattle.std.specs.Prelude.{◌≡◌, true, List, All};
 ghost use Rattle.std.specs.List.{AllZip};
-ghost use Rattle.pit_parts.specs.Name.{is_name};
-ghost use Rattle.pit_parts.specs.Plan.{PlanParts};
-ghost use Rattle.pit_parts.specs.PlanFormulas.{formulas_of_plan};
+ghost use Rattle.plan_parts.specs.Name.{is_name};
+ghost use Rattle.plan_parts.specs.Plan.{PlanParts};
+ghost use Rattle.plan_parts.specs.PlanFormulas.{formulas_of_plan};
 ghost use Rattle.rows.specs.Valued.{worths_by};
-ghost use Rattle.pit_parts.specs.PlanKept.{IsCone, IsPlan};
-ghost use Rattle.pit_parts.specs.declared.block.Block.{Block};
+ghost use Rattle.plan_parts.specs.PlanKept.{IsCone, IsPlan};
+ghost use Rattle.plan_parts.specs.declared.block.Block.{Block};
 ghost use Rattle.precedence.specs.ConeLaws.{IsEven};
 ghost use Rattle.mine_instance.specs.cpit.CpitKept.{IsCpit};
 ghost use Rattle.mine_instance.specs.Instance.{Instance};

@@ -1,14 +1,14 @@
 //! The limits of an instance.
 
 use crate::rising::Ordered;
-use pit_parts::limit::Limit;
-use pit_parts::listed::Listed;
+use plan_parts::limit::Limit;
+use plan_parts::listed::Listed;
 
 /// Limits, in rising order of resource and period.
 pub type Limits = Listed<Limit>;
 
 impl Ordered for Limit {
-    ghost use Rattle.pit_parts.specs.PlanKept.{stands_before};
+    ghost use Rattle.plan_parts.specs.PlanKept.{stands_before};
 
     ghost before = { stands_before };
 

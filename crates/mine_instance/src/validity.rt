@@ -2,15 +2,15 @@
 
 ghost use Rattle.std.specs.Prelude.{◌≢◌, ◌≤◌, ◌↔◌, length, All, AllPairs, IsTrue};
 ghost use Rattle.mine_instance.specs.Valid.{HasLengths, ArePredsOf, ArePreds, IsHorizon, HasDestinations, AreCoefs, AreLimits, IsValid};
-ghost use Rattle.pit_parts.specs.declared.ranges.TheConstants.{MAX_BLOCKS};
+ghost use Rattle.plan_parts.specs.declared.ranges.TheConstants.{MAX_BLOCKS};
 
 use crate::coefs::coef::Coef;
 use crate::instance::Instance;
 use crate::rising::rises;
 use crate::values::Values;
-use pit_parts::limit::Limit;
-use pit_parts::ranges::{MAX_BLOCKS, MAX_DESTINATIONS, MAX_PERIODS, MAX_RATE, MAX_RESOURCES};
 use pit_units::Dec;
+use plan_parts::limit::Limit;
+use plan_parts::ranges::{MAX_BLOCKS, MAX_DESTINATIONS, MAX_PERIODS, MAX_RATE, MAX_RESOURCES};
 use precedence::Preds;
 
 /// Whether the parts of an instance fit one another and keep their ranges and orders.

@@ -1,7 +1,7 @@
 -- The value of each header key of the model files as it is written, with its line, and its field as the code has it.
 use Rattle.std.specs.Prelude.{ℕ, ◌+◌, ◌-◌, ◌*◌, ◌^◌, Bool, true, false, List, [], ◌∷◌, ◌++◌, map, unsigned_abs, codes, decimal}
 use Rattle.std.specs.List.{filter}
-use Rattle.pit_parts.specs.declared.ranges.TheConstants.{MAX_BLOCKS, MAX_DESTINATIONS, MAX_PERIODS, MAX_RATE, MAX_RESOURCES}
+use Rattle.plan_parts.specs.declared.ranges.TheConstants.{MAX_BLOCKS, MAX_DESTINATIONS, MAX_PERIODS, MAX_RATE, MAX_RESOURCES}
 use Rattle.pit_units.specs.Decimal.{shortest}
 use Rattle.minelib_lines.specs.HeaderKeys.{header_keys, key_word}
 use Rattle.minelib_lines.specs.Lines.{line_of}

@@ -7,8 +7,8 @@ ghost use Rattle.minelib_lines.specs.declared.header_key.KeyField.TheVariants as
 ghost use Rattle.minelib_lines.specs.declared.header_key.TheConstants.{KEYS};
 ghost use Rattle.minelib_lines.specs.declared.problem.Problem.TheVariants as Problem;
 
-use pit_parts::ranges::{MAX_BLOCKS, MAX_DESTINATIONS, MAX_PERIODS, MAX_RATE, MAX_RESOURCES};
 use pit_units::MILLIONTHS;
+use plan_parts::ranges::{MAX_BLOCKS, MAX_DESTINATIONS, MAX_PERIODS, MAX_RATE, MAX_RESOURCES};
 
 /// How many keys there are.
 pub const KEYS: usize = 8;

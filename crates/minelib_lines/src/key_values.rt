@@ -1,7 +1,7 @@
 //! The values of the header keys of a file.
 
 ghost use Rattle.std.specs.Prelude.{◌≡◌, length, true};
-ghost use Rattle.pit_parts.specs.Name.{is_name};
+ghost use Rattle.plan_parts.specs.Name.{is_name};
 ghost use Rattle.minelib_lines.specs.HeaderTable.{key_text};
 ghost use Rattle.minelib_lines.specs.KeyParts.{text_in, value_text};
 ghost use Rattle.minelib_lines.specs.StatedHeader.{header_of, header_of_cpit};

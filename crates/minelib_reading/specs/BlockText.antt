@@ -1,15 +1,15 @@
 -- What a line of a block file states, field by field, or the kind of its first fault; and the blocks of a file.
 use Rattle.std.specs.Prelude.{ℕ, ◌*◌, ◌/◌, ◌==◌, not, List, [], ◌∷◌, ◌++◌, length, Result, Ok, Err, if◌then◌else◌}
 use Rattle.pit_units.specs.Steps.{◌>>=◌}
-use Rattle.pit_parts.specs.Block.{block_with}
-use Rattle.pit_parts.specs.declared.block.Block.{Block}
+use Rattle.plan_parts.specs.Block.{block_with}
+use Rattle.plan_parts.specs.declared.block.Block.{Block}
 use Rattle.text_lines.specs.Reading.{read_lines}
 use Rattle.text_lines.specs.StatedFields.{below_in, field_at, size_in}
 use Rattle.text_lines.specs.TextLines.{fields_of, lines_in}
 use Rattle.text_lines.specs.declared.text_fault.LineFault.{LineFault}
 use Rattle.text_lines.specs.declared.text_fault.TextKind.{TextKind}
 use Rattle.text_lines.specs.declared.text_fault.TextKind.TheVariants.{Fields, Order}
-use Rattle.pit_parts.specs.declared.ranges.TheConstants.{GRID_CELLS, MAX_BLOCKS, MAX_GRADE, MAX_KG, MAX_ZONES}
+use Rattle.plan_parts.specs.declared.ranges.TheConstants.{GRID_CELLS, MAX_BLOCKS, MAX_GRADE, MAX_KG, MAX_ZONES}
 
 -- `id x y z tonnes grade zone` behind the lines of so many blocks: identifiers run 0, 1, 2, ..; tonnes have three decimals and grams per
 -- tonne six, and a kilogram is a thousandth of a tonne

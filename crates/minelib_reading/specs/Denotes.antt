@@ -2,7 +2,7 @@
 use Rattle.std.specs.Prelude.{◌≡◌, ℕ, List, length, pos, Result, Ok}
 use Rattle.std.specs.List.{flat_map}
 use Rattle.pit_units.specs.Steps.{◌>>=◌}
-use Rattle.pit_parts.specs.declared.block.Block.{Block}
+use Rattle.plan_parts.specs.declared.block.Block.{Block}
 use Rattle.mine_instance.specs.cpit.Cpit.{CpitParts}
 use Rattle.mine_instance.specs.cpit.CpitKept.{cpit_of}
 use Rattle.mine_instance.specs.Instance.{Instance}

@@ -4,7 +4,7 @@ use Rattle.std.specs.List.{find}
 use Rattle.std.specs.Option.{option_map}
 use Rattle.std.specs.Str.{bytes_eq}
 use Rattle.pit_units.specs.Steps.{◌>>=◌}
-use Rattle.pit_parts.specs.Name.{is_name}
+use Rattle.plan_parts.specs.Name.{is_name}
 use Rattle.minelib_lines.specs.HeaderKeys.{key_word, keys_of, type_text}
 use Rattle.minelib_lines.specs.declared.header_key.HeaderKey.{HeaderKey}
 use Rattle.minelib_lines.specs.declared.header_key.HeaderKey.TheVariants as key
@@ -16,7 +16,7 @@ use Rattle.minelib_reading.specs.declared.model.key.Section.TheVariants.{Heading
 use Rattle.text_lines.specs.StatedFields.{below_in, number_in, whole_in}
 use Rattle.text_lines.specs.declared.text_fault.TextKind.{TextKind}
 use Rattle.text_lines.specs.declared.text_fault.TextKind.TheVariants.{Count, Name}
-use Rattle.pit_parts.specs.declared.ranges.TheConstants.{MAX_BLOCKS, MAX_DESTINATIONS, MAX_PERIODS, MAX_RATE, MAX_RESOURCES}
+use Rattle.plan_parts.specs.declared.ranges.TheConstants.{MAX_BLOCKS, MAX_DESTINATIONS, MAX_PERIODS, MAX_RATE, MAX_RESOURCES}
 
 -- a colon stands behind a key
 abbrev pub is_colon : ℕ → Bool

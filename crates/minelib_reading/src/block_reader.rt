@@ -1,19 +1,19 @@
 //! Reading a block file.
 
 ghost use Rattle.std.specs.Prelude.{◌≡◌, ◌<◌, ◌≤◌, [], length, IfOk, OnOk};
-ghost use Rattle.pit_parts.specs.Block.{block_with};
-ghost use Rattle.pit_parts.specs.BlockParts.{AreInRange};
+ghost use Rattle.plan_parts.specs.Block.{block_with};
+ghost use Rattle.plan_parts.specs.BlockParts.{AreInRange};
 ghost use Rattle.minelib_reading.specs.BlockText.{block_stated, blocks_in, with_block};
 ghost use Rattle.minelib_reading.specs.inner.LinesTaken.{uncounted_block};
 ghost use Rattle.pit_units.specs.OrMemory.{Gives};
 ghost use Rattle.text_lines.specs.TextLines.{fields_of};
-ghost use Rattle.pit_parts.specs.declared.ranges.TheConstants.{MAX_BLOCKS};
+ghost use Rattle.plan_parts.specs.declared.ranges.TheConstants.{MAX_BLOCKS};
 
 use crate::taking::TakeBlocks;
 use mine_instance::blocks::Blocks;
-use pit_parts::block::Block;
-use pit_parts::ranges::{GRID_CELLS, MAX_BLOCKS, MAX_GRADE, MAX_KG, MAX_ZONES};
 use pit_units::OrMemory;
+use plan_parts::block::Block;
+use plan_parts::ranges::{GRID_CELLS, MAX_BLOCKS, MAX_GRADE, MAX_KG, MAX_ZONES};
 use std::alloc::Global;
 use std::marker::Model;
 use text_lines::line_by_line::{Admit, read_lines};
@@ -31,7 +31,7 @@ pub struct BlockDraft<B: TakeBlocks> {
 
 impl<B: TakeBlocks> Model for BlockDraft<B> {
     ghost use Rattle.std.specs.Prelude.{List};
-    ghost use Rattle.pit_parts.specs.declared.block.Block.{Block as ABlock};
+    ghost use Rattle.plan_parts.specs.declared.block.Block.{Block as ABlock};
 
     ghost Value = { List ABlock };
 

@@ -3,13 +3,13 @@
 ghost use Rattle.std.specs.Prelude.{◌≡◌, ◌<◌, ◌≤◌, [], length};
 ghost use Rattle.minelib_reading.specs.ModelDraft.{last_of};
 ghost use Rattle.minelib_reading.specs.inner.CountedItems.{last_d, last_r, most_up_to, values_in_rows};
-ghost use Rattle.pit_parts.specs.declared.ranges.TheConstants.{MAX_BLOCKS};
+ghost use Rattle.plan_parts.specs.declared.ranges.TheConstants.{MAX_BLOCKS};
 
 use crate::taking::{TakeBlocks, TakeItems};
 use mine_instance::coefs::coef::Coef;
-use pit_parts::block::Block;
-use pit_parts::listed::past::Past;
 use pit_units::Dec;
+use plan_parts::block::Block;
+use plan_parts::listed::past::Past;
 use std::alloc::AllocError;
 
 /// Blocks of which only the number is kept.

@@ -9,7 +9,7 @@ ghost use Rattle.minelib_reading.specs.Denotes.{cpit_denoted, denoted};
 ghost use Rattle.minelib_reading.specs.spelled.SpelledTexts.{SpellCpit, SpellInstance};
 ghost use Rattle.pit_units.specs.OrMemory.{Gives};
 ghost use Rattle.pit_units.specs.declared.or_memory.OrMemory.TheVariants.{OutOfMemory};
-ghost use Rattle.pit_parts.specs.declared.ranges.TheConstants.{MAX_BLOCKS};
+ghost use Rattle.plan_parts.specs.declared.ranges.TheConstants.{MAX_BLOCKS};
 
 use crate::block_reader::read_blocks;
 use crate::laws::{cpits_are_spelled, instances_are_spelled};

@@ -6,8 +6,8 @@ use crate::model::items::is_coef_behind;
 use crate::taking::{TakeBlocks, TakeItems};
 use mine_instance::coefs::coef::Coef;
 use mine_instance::values::Values;
-use pit_parts::block::Block;
 use pit_units::Dec;
+use plan_parts::block::Block;
 use std::alloc::{AllocError, Global};
 
 impl TakeBlocks for Vec<Block> {

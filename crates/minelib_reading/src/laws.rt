@@ -26,10 +26,10 @@ ghost use Rattle.text_lines.specs.Reading.{IsFirstFault};
 ghost use Rattle.text_lines.specs.TextLines.{fields_of, lines_in};
 ghost use Rattle.text_lines.specs.declared.text_fault.LineFault.{LineFault};
 ghost use Rattle.text_lines.specs.declared.text_fault.TextKind.TheVariants.{Count, Fields, Key, Missing, Order, Twice};
-ghost use Rattle.pit_parts.specs.declared.block.Block.{Block};
-ghost use Rattle.pit_parts.specs.PlanKept.{is_turned, stands_before};
-ghost use Rattle.pit_parts.specs.declared.limit.Limit.{Limit};
-ghost use Rattle.pit_parts.specs.declared.ranges.TheConstants.{MAX_BLOCKS};
+ghost use Rattle.plan_parts.specs.declared.block.Block.{Block};
+ghost use Rattle.plan_parts.specs.PlanKept.{is_turned, stands_before};
+ghost use Rattle.plan_parts.specs.declared.limit.Limit.{Limit};
+ghost use Rattle.plan_parts.specs.declared.ranges.TheConstants.{MAX_BLOCKS};
 
 /// The instance that three texts denote is valid.
 pub fn read_is_valid()

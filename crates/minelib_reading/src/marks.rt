@@ -3,7 +3,7 @@
 ghost use Rattle.std.specs.Prelude.{◌≡◌, ◌<◌, ◌≤◌, length, All, IfOk};
 ghost use Rattle.minelib_reading.specs.inner.Marks.{AreClear, AreMarked, rise_above};
 ghost use Rattle.minelib_reading.specs.PrecText.{all_differ};
-ghost use Rattle.pit_parts.specs.declared.ranges.TheConstants.{MAX_BLOCKS};
+ghost use Rattle.plan_parts.specs.declared.ranges.TheConstants.{MAX_BLOCKS};
 
 use std::alloc::{AllocError, Global};
 use std::marker::Model;
@@ -20,7 +20,7 @@ pub struct Marks {
 impl Model for Marks {
     ghost use Rattle.std.specs.Prelude.{ℕ, ◌≤◌, vec_len};
     ghost use Rattle.minelib_reading.specs.inner.Marks.{AreClear};
-    ghost use Rattle.pit_parts.specs.declared.ranges.TheConstants.{MAX_BLOCKS};
+    ghost use Rattle.plan_parts.specs.declared.ranges.TheConstants.{MAX_BLOCKS};
 
     ghost Value = { ℕ };
 

@@ -8,7 +8,7 @@ ghost use Rattle.minelib_reading.specs.PrecText.{all_differ, finish_preds, preds
 ghost use Rattle.pit_units.specs.OrMemory.{Gives};
 ghost use Rattle.text_lines.specs.Reading.{Leaves};
 ghost use Rattle.text_lines.specs.TextLines.{fields_of};
-ghost use Rattle.pit_parts.specs.declared.ranges.TheConstants.{MAX_BLOCKS};
+ghost use Rattle.plan_parts.specs.declared.ranges.TheConstants.{MAX_BLOCKS};
 
 use crate::marks::{Marks, rise_above};
 use pit_units::OrMemory;

@@ -4,12 +4,12 @@ ghost use Rattle.std.specs.Prelude.{◌≡◌, ◌<◌, ◌++◌, [], ◌∷◌,
 ghost use Rattle.mine_instance.specs.Order.{coef_before};
 ghost use Rattle.mine_instance.specs.declared.coefs.coef.Coef.{Coef as ACoef};
 ghost use Rattle.minelib_reading.specs.ModelDraft.{is_behind, last_of};
-ghost use Rattle.pit_parts.specs.declared.block.Block.{Block as ABlock};
-ghost use Rattle.pit_parts.specs.declared.ranges.TheConstants.{MAX_BLOCKS};
+ghost use Rattle.plan_parts.specs.declared.block.Block.{Block as ABlock};
+ghost use Rattle.plan_parts.specs.declared.ranges.TheConstants.{MAX_BLOCKS};
 
 use mine_instance::coefs::coef::Coef;
-use pit_parts::block::Block;
 use pit_units::Dec;
+use plan_parts::block::Block;
 use std::alloc::AllocError;
 
 /// Takes one block after the other.

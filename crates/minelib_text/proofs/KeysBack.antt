@@ -9,8 +9,8 @@ use Rattle.std.proofs.lemmas.List.Elements.{All-head, All-tail, Contains-append_
 use Rattle.std.proofs.lemmas.List.Kept.{AllPairs-filter}
 use Rattle.std.specs.List.{Contains, list_all}
 use Rattle.pit_units.specs.DecimalRange.{IsInDecimalRange}
-use Rattle.pit_parts.specs.Name.{is_name, is_name_byte}
-use Rattle.pit_parts.specs.declared.ranges.TheConstants.{MAX_BLOCKS, MAX_DESTINATIONS, MAX_PERIODS, MAX_RESOURCES}
+use Rattle.plan_parts.specs.Name.{is_name, is_name_byte}
+use Rattle.plan_parts.specs.declared.ranges.TheConstants.{MAX_BLOCKS, MAX_DESTINATIONS, MAX_PERIODS, MAX_RESOURCES}
 use Rattle.mine_instance.specs.Valid.{IsHorizon}
 use Rattle.text_lines.proofs.PlainText.{IsField, IsLine, all_parts, all_weaker, first_read, is_inner, is_plain}
 use Rattle.minelib_lines.specs.HeaderKeys.{has_key, header_keys, key_word, keys_of, place, type_text}

@@ -19,12 +19,12 @@ ghost use Rattle.text_lines.specs.TextLines.{fields_of, is_ended, lines_in, line
 ghost use Rattle.text_lines.specs.TextParts.{AreBlanks, IsFieldText, IsLineText};
 ghost use Rattle.minelib_writing.specs.Written.{text_blocks, text_prec, text_pcpsp, text_cpit};
 ghost use Rattle.minelib_lines.specs.declared.problem.Problem.{Problem};
-ghost use Rattle.pit_parts.specs.Plan.{PlanParts};
-ghost use Rattle.pit_parts.specs.PlanKept.{IsCone};
+ghost use Rattle.plan_parts.specs.Plan.{PlanParts};
+ghost use Rattle.plan_parts.specs.PlanKept.{IsCone};
 ghost use Rattle.text_lines.specs.declared.text_fault.LineFault.{LineFault};
-ghost use Rattle.pit_parts.specs.declared.block.Block.{Block};
+ghost use Rattle.plan_parts.specs.declared.block.Block.{Block};
 ghost use Rattle.precedence.specs.ConeLaws.{IsEven};
-ghost use Rattle.pit_parts.specs.declared.ranges.TheConstants.{MAX_BLOCKS};
+ghost use Rattle.plan_parts.specs.declared.ranges.TheConstants.{MAX_BLOCKS};
 
 /// The texts of a valid instance denote that instance. That it has a NAME and decimals (`IsKept`), `build` and `read_instance` say of
 /// what they answer, and `write_pcpsp` of every instance that it wrote.

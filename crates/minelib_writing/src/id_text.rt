@@ -3,7 +3,7 @@
 ghost use Rattle.std.specs.Prelude.{◌≡◌, ◌+◌, ◌-◌, ◌<◌, ◌≤◌, ◌++◌, All, IfOk, OnOk, decimal, length, take, drop};
 ghost use Rattle.precedence.specs.IdRuns.{ids_of, ids_of_run};
 ghost use Rattle.minelib_writing.specs.inner.Spaced.{spaced};
-ghost use Rattle.pit_parts.specs.declared.ranges.TheConstants.{MAX_BLOCKS};
+ghost use Rattle.plan_parts.specs.declared.ranges.TheConstants.{MAX_BLOCKS};
 
 use crate::fields::put_whole_behind;
 use precedence::IdRun;

@@ -4,7 +4,7 @@ ghost use Rattle.std.specs.Prelude.{◌≡◌, ◌<◌, ◌≤◌, ◌^◌, [], 
 ghost use Rattle.devices.specs.sinks.SinkState.{IsCutOff, IsWritten};
 ghost use Rattle.devices.specs.sinks.SinkSteps.{refusals};
 ghost use Rattle.minelib_writing.specs.Written.{text_preds};
-ghost use Rattle.pit_parts.specs.declared.ranges.TheConstants.{MAX_BLOCKS};
+ghost use Rattle.plan_parts.specs.declared.ranges.TheConstants.{MAX_BLOCKS};
 
 use crate::id_text::IdText;
 use crate::lines::preds::{count_of, write_counted};

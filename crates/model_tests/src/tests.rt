@@ -1,5 +1,5 @@
-use pit_parts::block::Block;
 use pit_units::Dec;
+use plan_parts::block::Block;
 use rows::{Valued, Worths};
 
 mod collecting;

@@ -2,7 +2,7 @@
 use Rattle.std.proofs.Common.{◌≡◌, ◌<◌, ◌&&◌, ◌||◌, ◌==◌, ℕ, List, Bool, true, false, nat_lt, refl, sym, ◌∙◌, ap, subst, arith, length, get_or, All}
 use Rattle.std.specs.Prelude.{count_by, slice_index_or}
 use Rattle.std.proofs.lemmas.Bool.{and_parts, eqb-true}
-use Rattle.pit_parts.specs.declared.block.Block.{Block}
+use Rattle.plan_parts.specs.declared.block.Block.{Block}
 use Rattle.precedence.specs.Identifier.{id, is_same_place}
 use Rattle.precedence.specs.Numbering.{NumberingView, IsNumbering}
 use Rattle.pit_compile.specs.Verdict.{AreApart}

@@ -13,7 +13,7 @@ use Rattle.lane.specs.Message.{is_at, IsEndedFrom}
 use Rattle.lane.specs.MessageKinds.{row_count}
 use Rattle.lane.specs.Whole.{GatheredView, IsSent, IsWhole}
 use Rattle.pit_compile.proofs.SentRows.{counted, rows-counted, row-sent, end-sent, ended-length}
-use Rattle.pit_parts.specs.declared.formulas.formula.Formula.{Formula}
+use Rattle.plan_parts.specs.declared.formulas.formula.Formula.{Formula}
 use Rattle.rows.specs.Valued.{row_by}
 use Rattle.valuers.specs.Valuing.{items_by, rows_by}
 use Rattle.rows.specs.declared.item.Item.{Item}

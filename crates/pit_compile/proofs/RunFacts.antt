@@ -1,6 +1,6 @@
 -- What the two halves of a run say of it.
 use Rattle.std.proofs.Common.{◌≡◌, ℕ, inl, inr, refl, List, Option, subst}
-use Rattle.pit_parts.specs.Plan.{PlanParts}
+use Rattle.plan_parts.specs.Plan.{PlanParts}
 use Rattle.pit_compile.specs.Compiling.{IsCompiled, IsNotCompiled}
 use Rattle.pit_compile.specs.Run.{IsRefused}
 use Rattle.pit_compile.specs.SinkAnswers.{AreCutOff}

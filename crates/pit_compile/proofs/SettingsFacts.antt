@@ -1,10 +1,10 @@
 -- The settings have at most one fault by kind, and none where they suit.
 use Rattle.std.proofs.Common.{◌≡◌, ◌↔◌, ℕ, List, Result, Ok, Err, IfErr, OnOk, refl, ap, subst}
-use Rattle.pit_parts.specs.Plan.{PlanParts}
-use Rattle.pit_parts.specs.declared.formulas.formula.Formula.{Formula}
+use Rattle.plan_parts.specs.Plan.{PlanParts}
+use Rattle.plan_parts.specs.declared.formulas.formula.Formula.{Formula}
 use Rattle.pit_compile.specs.Settings.{IsSettingsFault}
 use Rattle.pit_compile.specs.Suits.{Suits}
-use Rattle.pit_parts.specs.declared.settings.Settings.{Settings}
+use Rattle.plan_parts.specs.declared.settings.Settings.{Settings}
 use Rattle.refusals.specs.declared.settings_fault.SettingsFault.{SettingsFault}
 use Rattle.refusals.specs.declared.settings_fault.SettingsFault.TheVariants.{Files, Valuers, Capacity, Destinations}
 

@@ -3,9 +3,9 @@ use Rattle.std.specs.Prelude.{ℕ, ◌+◌, List, [], ◌∷◌, ◌++◌, lengt
 use Rattle.std.specs.Option.{option_map, option_or}
 use Rattle.lane.specs.Message.{sent_from}
 use Rattle.lane.specs.declared.message.Taken.{Taken}
-use Rattle.pit_parts.specs.Plan.{PlanParts}
-use Rattle.pit_parts.specs.declared.block.Block.{Block}
-use Rattle.pit_parts.specs.declared.grid.Grid.{Grid}
+use Rattle.plan_parts.specs.Plan.{PlanParts}
+use Rattle.plan_parts.specs.declared.block.Block.{Block}
+use Rattle.plan_parts.specs.declared.grid.Grid.{Grid}
 use Rattle.run_threads.specs.MostBytes.{most_bytes}
 use Rattle.zone_csv.specs.Zone.{blocks_of, fault_of}
 use Rattle.refusals.specs.declared.refusal.Refusal.{Refusal}

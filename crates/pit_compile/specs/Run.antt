@@ -1,9 +1,9 @@
 -- What a run does, by what its feeds had left, which of them failed, and what its sinks tell before and after.
 use Rattle.std.specs.Prelude.{◌≡◌, ◌↔◌, ◌+◌, ◌≤◌, ℕ, ◌⊎◌, List, length, Option, Result, Err, IfOk, IfErr}
 use Rattle.lane.specs.Whole.{GatheredView}
-use Rattle.pit_parts.specs.Plan.{PlanParts}
-use Rattle.pit_parts.specs.declared.formulas.formula.Formula.{Formula}
-use Rattle.pit_parts.specs.declared.settings.Settings.{Settings as Chosen}
+use Rattle.plan_parts.specs.Plan.{PlanParts}
+use Rattle.plan_parts.specs.declared.formulas.formula.Formula.{Formula}
+use Rattle.plan_parts.specs.declared.settings.Settings.{Settings as Chosen}
 use Rattle.pit_compile.specs.ZoneFiles.{AreGiven, HasPassed, IsFeedFault, IsVerdict, instance_from}
 use Rattle.devices.specs.sinks.SinkState.{SinkState}
 use Rattle.minelib_lines.specs.declared.text_name.TextName.{TextName}

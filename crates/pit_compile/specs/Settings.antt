@@ -1,12 +1,12 @@
 -- What is wrong with the settings of a run, for its plan, so many zone files and these formulas of the destinations.
 use Rattle.std.specs.Prelude.{◌≡◌, ◌≢◌, ℕ, ◌≤◌, List, length}
-use Rattle.pit_parts.specs.PlanFormulas.{formulas_of_plan}
-use Rattle.pit_parts.specs.Plan.{PlanParts}
-use Rattle.pit_parts.specs.declared.formulas.formula.Formula.{Formula}
-use Rattle.pit_parts.specs.declared.settings.Settings.{Settings}
+use Rattle.plan_parts.specs.PlanFormulas.{formulas_of_plan}
+use Rattle.plan_parts.specs.Plan.{PlanParts}
+use Rattle.plan_parts.specs.declared.formulas.formula.Formula.{Formula}
+use Rattle.plan_parts.specs.declared.settings.Settings.{Settings}
 use Rattle.refusals.specs.declared.settings_fault.SettingsFault.{SettingsFault}
 use Rattle.refusals.specs.declared.settings_fault.SettingsFault.TheVariants.{Files, Valuers, Capacity, Destinations}
-use Rattle.pit_parts.specs.declared.ranges.TheConstants.{MAX_CAPACITY, MAX_VALUERS}
+use Rattle.plan_parts.specs.declared.ranges.TheConstants.{MAX_CAPACITY, MAX_VALUERS}
 
 -- a number from 1 on, and not above the most
 abbrev pub IsFrom1To : ℕ → ℕ → Type 0

@@ -1,11 +1,11 @@
 -- Settings that fit a plan, for so many zone files and these formulas of the destinations.
 use Rattle.std.specs.Prelude.{◌≡◌, ℕ, ◌≤◌, List, length}
-use Rattle.pit_parts.specs.PlanFormulas.{formulas_of_plan}
-use Rattle.pit_parts.specs.Plan.{PlanParts}
-use Rattle.pit_parts.specs.declared.formulas.formula.Formula.{Formula}
-use Rattle.pit_parts.specs.declared.settings.Settings.{Settings}
+use Rattle.plan_parts.specs.PlanFormulas.{formulas_of_plan}
+use Rattle.plan_parts.specs.Plan.{PlanParts}
+use Rattle.plan_parts.specs.declared.formulas.formula.Formula.{Formula}
+use Rattle.plan_parts.specs.declared.settings.Settings.{Settings}
 use Rattle.pit_compile.specs.Settings.{IsFrom1To}
-use Rattle.pit_parts.specs.declared.ranges.TheConstants.{MAX_CAPACITY, MAX_VALUERS, MAX_ZONES}
+use Rattle.plan_parts.specs.declared.ranges.TheConstants.{MAX_CAPACITY, MAX_VALUERS, MAX_ZONES}
 
 -- nothing is wrong with them. A plan has at most 64 zones
 pub record Suits (plan : PlanParts) (files : ℕ) (formulas : List Formula) (settings : Settings) : Type 0 where

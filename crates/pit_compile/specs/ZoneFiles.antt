@@ -4,7 +4,7 @@ use Rattle.std.specs.List.{AllZip}
 use Rattle.lane.specs.Whole.{GatheredView, IsWhole}
 use Rattle.mine_instance.specs.OfModel.{instance}
 use Rattle.mine_instance.specs.Instance.{Instance}
-use Rattle.pit_parts.specs.Plan.{PlanParts}
+use Rattle.plan_parts.specs.Plan.{PlanParts}
 use Rattle.pit_compile.specs.Rows.{model_blocks, model_sends, fault_in}
 use Rattle.pit_compile.specs.Verdict.{IsRefusedBy}
 use Rattle.refusals.specs.declared.refusal.Refusal.{Refusal}

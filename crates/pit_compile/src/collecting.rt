@@ -4,15 +4,15 @@ ghost use Rattle.std.specs.Prelude.{◌≡◌, ◌≤◌, length, map, All, IfOk
 ghost use Rattle.std.specs.List.{flat_map};
 ghost use Rattle.lane.specs.MessageKinds.{row_count};
 ghost use Rattle.lane.specs.Whole.{IsWhole};
-ghost use Rattle.pit_parts.specs.PlanFormulas.{formulas_of_plan};
+ghost use Rattle.plan_parts.specs.PlanFormulas.{formulas_of_plan};
 ghost use Rattle.rows.specs.ItemsView.{items_in};
 ghost use Rattle.valuers.specs.Valuing.{items_by, rows_by};
-ghost use Rattle.pit_parts.specs.declared.ranges.TheConstants.{MAX_ROWS, MAX_VALUERS};
+ghost use Rattle.plan_parts.specs.declared.ranges.TheConstants.{MAX_ROWS, MAX_VALUERS};
 
 use collector::in_order;
 use collector::laws::found_is_held;
 use lane::Gathered;
-use pit_parts::plan::Plan;
+use plan_parts::plan::Plan;
 use rows::{PackedItems, RowLists};
 use std::alloc::{AllocError, Global};
 

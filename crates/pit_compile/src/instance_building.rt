@@ -11,7 +11,7 @@ ghost use Rattle.pit_compile.specs.Verdict.{AreApart};
 use crate::numbered::numbered;
 use mine_instance::instance::Instance;
 use mine_instance::{FoundCoefs, FoundValues, build_with};
-use pit_parts::plan::Plan;
+use plan_parts::plan::Plan;
 use precedence::FoundPreds;
 use refusals::refusal::Refusal;
 use rows::RowLists;

@@ -6,7 +6,7 @@ ghost use Rattle.precedence.specs.Numbering.{IsNumbering};
 ghost use Rattle.pit_compile.specs.inner.ModelRows.{HasPlace};
 ghost use Rattle.pit_compile.specs.inner.Repeats.{IsRepeat};
 ghost use Rattle.pit_compile.specs.inner.ValuedRows.{IsValuedAt};
-ghost use Rattle.pit_parts.specs.declared.ranges.TheConstants.{MAX_BLOCKS};
+ghost use Rattle.plan_parts.specs.declared.ranges.TheConstants.{MAX_BLOCKS};
 
 use pit_units::OrMemory;
 use precedence::{Numbering, Same, number_blocks};

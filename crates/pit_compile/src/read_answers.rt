@@ -2,7 +2,7 @@
 
 ghost use Rattle.std.specs.Prelude.{◌≡◌, ◌≤◌, None, Some, length, IfErr, OnOk};
 ghost use Rattle.pit_compile.specs.inner.ReadAnswers.{refusal_in, refusal_of};
-ghost use Rattle.pit_parts.specs.declared.ranges.TheConstants.{MAX_ZONES};
+ghost use Rattle.plan_parts.specs.declared.ranges.TheConstants.{MAX_ZONES};
 
 use refusals::refusal::Refusal;
 use run_threads::ReadFault;

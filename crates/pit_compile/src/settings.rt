@@ -4,15 +4,15 @@ ghost use Rattle.std.specs.Prelude.{◌≡◌, ◌↔◌, Err, IsTrue, IfErr, On
 ghost use Rattle.pit_compile.specs.Settings.{IsSettingsFault};
 ghost use Rattle.pit_compile.specs.Suits.{Suits};
 ghost use Rattle.refusals.specs.declared.settings_fault.SettingsFault.{SettingsFault as ASettingsFault};
-ghost use Rattle.pit_parts.specs.Destinations.{formulas_of};
-ghost use Rattle.pit_parts.specs.PlanFormulas.{formulas_of_plan};
+ghost use Rattle.plan_parts.specs.Destinations.{formulas_of};
+ghost use Rattle.plan_parts.specs.PlanFormulas.{formulas_of_plan};
 
-use pit_parts::formulas::destination::Destination;
-use pit_parts::formulas::formula::{Formula, NamedFormula};
-use pit_parts::laws::equal_formulas_are_the_same;
-use pit_parts::plan::Plan;
-use pit_parts::ranges::{MAX_CAPACITY, MAX_VALUERS};
-pub use pit_parts::settings::Settings;
+use plan_parts::formulas::destination::Destination;
+use plan_parts::formulas::formula::{Formula, NamedFormula};
+use plan_parts::laws::equal_formulas_are_the_same;
+use plan_parts::plan::Plan;
+use plan_parts::ranges::{MAX_CAPACITY, MAX_VALUERS};
+pub use plan_parts::settings::Settings;
 pub use refusals::settings_fault::SettingsFault;
 
 /// What a run may take: how it is to be made, and how many threads it may start.

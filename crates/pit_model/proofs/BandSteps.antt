@@ -5,8 +5,8 @@ use Rattle.pit_units.specs.Steps.{◌>>=◌}
 use Rattle.records.specs.RecordCells.{cell_at}
 use Rattle.pit_model.specs.DestinationRecords.{band_in, bands_in}
 use Rattle.pit_model.specs.PlanRecords.{covers_in}
-use Rattle.pit_parts.specs.declared.formulas.band.Band.{Band}
-use Rattle.pit_parts.specs.declared.formulas.formula.NamedFormula.{NamedFormula}
+use Rattle.plan_parts.specs.declared.formulas.band.Band.{Band}
+use Rattle.plan_parts.specs.declared.formulas.formula.NamedFormula.{NamedFormula}
 use Rattle.pit_model.specs.declared.plan_fault.PlanFaultKind.{PlanFaultKind}
 
 -- some things, and those that are stated behind them

@@ -10,7 +10,7 @@ use Rattle.pit_units.specs.SpelledNumbers.{SpellsBelow, SpellsNumber, SpellsWhol
 use Rattle.pit_units.specs.StandsFor.{StandsFor}
 use Rattle.pit_units.specs.declared.fault.DecFault.{DecFault}
 use Rattle.pit_units.specs.declared.fault.DecFault.TheVariants as dec
-use Rattle.pit_parts.specs.Name.{is_name}
+use Rattle.plan_parts.specs.Name.{is_name}
 use Rattle.pit_model.specs.SpelledCells.{IsNameOf, SpellsOrigin, SpellsSize, SpellsTonnes}
 use Rattle.pit_model.specs.StatedCells.{below_in, name_in, number_in, number_of, number_said, origin_in, size_in, tonnes_in, whole_in}
 use Rattle.pit_model.specs.declared.plan_fault.PlanFaultKind.{PlanFaultKind}

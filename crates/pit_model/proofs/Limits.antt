@@ -10,9 +10,9 @@ use Rattle.std.proofs.lemmas.List.Sorted.{All-permutation, IsPermutation-insert}
 use Rattle.std.specs.List.Sorted.{IsPermutation}
 use Rattle.std.proofs.lemmas.List.Sums.{prefix_len-le-length}
 use Rattle.std.proofs.lemmas.Bool.{or_parts}
-use Rattle.pit_parts.specs.PlanKept.{stands_before, RiseStrictly}
+use Rattle.plan_parts.specs.PlanKept.{stands_before, RiseStrictly}
 use Rattle.pit_model.specs.Stated.{with_limit, is_same_place}
-use Rattle.pit_parts.specs.declared.limit.Limit.{Limit}
+use Rattle.plan_parts.specs.declared.limit.Limit.{Limit}
 
 pub placed : {X : Type 0} (p : X → Bool) (xs : List X) → unwrap_or (position p xs) (length xs) ≡ position_or_len p xs
 placed p xs = by_test (nat_lt (position_or_len p xs) (length xs)) refl

@@ -10,20 +10,20 @@ use Rattle.std.specs.List.{list_any}
 use Rattle.std.specs.Str.{bytes_eq}
 use Rattle.pit_units.proofs.Exactly.{same}
 use Rattle.records.specs.RecordCells.{cell_at, cells_of}
-use Rattle.pit_parts.specs.Plan.{PlanParts}
-use Rattle.pit_parts.specs.formulas.BandsKept.{AreBands, IsBand, starts_rise}
-use Rattle.pit_parts.specs.formulas.Formula.{IsRuled}
-use Rattle.pit_parts.specs.PlanKept.{plan_of, has_repeat, AreCovers, AreTonnes, IsBound, IsCone, IsGrid, IsPlan, IsSlope, RiseStrictly}
-use Rattle.pit_parts.specs.declared.cone.Cone.{Cone}
-use Rattle.pit_parts.specs.declared.formulas.band.Band.{Band}
-use Rattle.pit_parts.specs.declared.formulas.formula.Formula.{Formula}
-use Rattle.pit_parts.specs.declared.formulas.formula.Formula.TheVariants.{Mill, Leach, Dump}
-use Rattle.pit_parts.specs.declared.formulas.formula.NamedFormula.{NamedFormula}
-use Rattle.pit_parts.specs.declared.grid.Grid.{Grid}
-use Rattle.pit_parts.specs.declared.limit.Bound.TheVariants.{AtMost, AtLeast, Between}
-use Rattle.pit_parts.specs.declared.limit.Limit.{Limit}
-use Rattle.pit_parts.specs.declared.resource.Resource.{Resource}
-use Rattle.pit_parts.specs.declared.ranges.TheConstants.{MAX_DESTINATIONS, MAX_RESOURCES, MAX_ZONES}
+use Rattle.plan_parts.specs.Plan.{PlanParts}
+use Rattle.plan_parts.specs.formulas.BandsKept.{AreBands, IsBand, starts_rise}
+use Rattle.plan_parts.specs.formulas.Formula.{IsRuled}
+use Rattle.plan_parts.specs.PlanKept.{plan_of, has_repeat, AreCovers, AreTonnes, IsBound, IsCone, IsGrid, IsPlan, IsSlope, RiseStrictly}
+use Rattle.plan_parts.specs.declared.cone.Cone.{Cone}
+use Rattle.plan_parts.specs.declared.formulas.band.Band.{Band}
+use Rattle.plan_parts.specs.declared.formulas.formula.Formula.{Formula}
+use Rattle.plan_parts.specs.declared.formulas.formula.Formula.TheVariants.{Mill, Leach, Dump}
+use Rattle.plan_parts.specs.declared.formulas.formula.NamedFormula.{NamedFormula}
+use Rattle.plan_parts.specs.declared.grid.Grid.{Grid}
+use Rattle.plan_parts.specs.declared.limit.Bound.TheVariants.{AtMost, AtLeast, Between}
+use Rattle.plan_parts.specs.declared.limit.Limit.{Limit}
+use Rattle.plan_parts.specs.declared.resource.Resource.{Resource}
+use Rattle.plan_parts.specs.declared.ranges.TheConstants.{MAX_DESTINATIONS, MAX_RESOURCES, MAX_ZONES}
 use Rattle.pit_model.proofs.CellFacts.{below, name, named, number, origin, size, tonnes, whole}
 use Rattle.pit_model.proofs.Keeps.{Keeps, answers, either, keeps, past, refuses, step, wide}
 use Rattle.pit_model.proofs.Limits.{All-with_limit, rises}

@@ -2,7 +2,7 @@
 use Rattle.std.specs.Prelude.{◌≡◌, ℕ, suc, ◌+◌, List, [], ◌∷◌, length, Result, Ok, Err, ◌⊎◌}
 use Rattle.std.proofs.Common.{refl, sym, ◌∙◌, ap, inl, inr}
 use Rattle.pit_units.specs.Steps.{◌>>=◌}
-use Rattle.pit_parts.specs.Plan.{PlanParts}
+use Rattle.plan_parts.specs.Plan.{PlanParts}
 use Rattle.pit_units.proofs.Exactly.{Exactly, done, same, then_}
 use Rattle.pit_model.specs.Planned.{at_row, finished, planned, record_at, records_from}
 use Rattle.pit_model.specs.SpelledPlan.{IsFirstFault, IsLacking, RecordsState, SpellPlan}

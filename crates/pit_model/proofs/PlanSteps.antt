@@ -3,7 +3,7 @@ use Rattle.std.proofs.Common.{◌≡◌, ◌<◌, ◌≤◌, ℕ, suc, ◌+◌, 
 use Rattle.std.proofs.lemmas.Bool.Decides.{nat_tests}
 use Rattle.pit_units.specs.Steps.{◌>>=◌}
 use Rattle.records.specs.RecordCells.{cells_of}
-use Rattle.pit_parts.specs.Plan.{PlanParts}
+use Rattle.plan_parts.specs.Plan.{PlanParts}
 use Rattle.pit_model.specs.PlanRecords.{record_of}
 use Rattle.pit_model.specs.Planned.{at_row, finished, planned, record_at, records_from}
 use Rattle.records.specs.RecordReader.{RecordReaderView, Rows, Over, GaveUp, TakesRow}

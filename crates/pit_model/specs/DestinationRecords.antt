@@ -2,17 +2,17 @@
 use Rattle.std.specs.Prelude.{ℕ, ◌%◌, ◌==◌, ◌||◌, not, nat_le, nat_lt, List, [], ◌∷◌, length, drop, pos, unsigned_abs, is_some, Result, Ok, Err, if◌then◌else◌}
 use Rattle.pit_units.specs.Steps.{◌>>=◌}
 use Rattle.records.specs.RecordCells.{cell_at}
-use Rattle.pit_parts.specs.formulas.BandsKept.{starts_rise}
+use Rattle.plan_parts.specs.formulas.BandsKept.{starts_rise}
 use Rattle.pit_model.specs.Stated.{Stated, destination_named, with_destination}
 use Rattle.pit_model.specs.StatedCells.{name_in, number_in, whole_in}
-use Rattle.pit_parts.specs.declared.formulas.band.Band.{Band}
+use Rattle.plan_parts.specs.declared.formulas.band.Band.{Band}
 use Rattle.pit_model.specs.declared.draft.formulas.FormulaKey.{FormulaKey}
 use Rattle.pit_model.specs.declared.draft.formulas.FormulaKey.TheVariants as key
-use Rattle.pit_parts.specs.declared.formulas.formula.Formula.{Formula}
-use Rattle.pit_parts.specs.declared.formulas.formula.Formula.TheVariants.{Mill, Leach, Dump}
+use Rattle.plan_parts.specs.declared.formulas.formula.Formula.{Formula}
+use Rattle.plan_parts.specs.declared.formulas.formula.Formula.TheVariants.{Mill, Leach, Dump}
 use Rattle.pit_model.specs.declared.plan_fault.PlanFaultKind.{PlanFaultKind}
 use Rattle.pit_model.specs.declared.plan_fault.PlanFaultKind.TheVariants.{Width, Twice, Order, TooMany}
-use Rattle.pit_parts.specs.declared.ranges.TheConstants.{MAX_BANDS, MAX_COST, MAX_DESTINATIONS, MAX_GRADE, MAX_PRICE, MAX_RECOVERY}
+use Rattle.plan_parts.specs.declared.ranges.TheConstants.{MAX_BANDS, MAX_COST, MAX_DESTINATIONS, MAX_GRADE, MAX_PRICE, MAX_RECOVERY}
 
 -- a recovery of 0 to 1000 per mille, a price of 0 to 10^8 cents a kilogram, a cost of 0 to 10^7 cents a tonne
 abbrev pub recovery_in : List ℕ → Result ℕ PlanFaultKind

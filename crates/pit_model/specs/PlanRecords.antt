@@ -4,23 +4,23 @@ use Rattle.std.specs.List.{list_any}
 use Rattle.std.specs.Str.{bytes_eq}
 use Rattle.pit_units.specs.Steps.{◌>>=◌}
 use Rattle.records.specs.RecordCells.{cell_at}
-use Rattle.pit_parts.specs.PlanKept.{has_repeat, is_turned}
+use Rattle.plan_parts.specs.PlanKept.{has_repeat, is_turned}
 use Rattle.pit_model.specs.DestinationRecords.{destination_record}
 use Rattle.pit_model.specs.PlanKeys.{key_of}
 use Rattle.pit_model.specs.Stated.{Stated, destination_named, resource_named, with_zone, with_resource, is_same_place, with_limit}
 use Rattle.pit_model.specs.StatedCells.{below_in, name_in, number_in, number_of, origin_in, size_in, tonnes_in, whole_in}
-use Rattle.pit_parts.specs.declared.cone.Cone.{Cone}
-use Rattle.pit_parts.specs.declared.cone.Slope.{Slope}
-use Rattle.pit_parts.specs.declared.formulas.formula.NamedFormula.{NamedFormula}
-use Rattle.pit_parts.specs.declared.grid.Grid.{Grid}
-use Rattle.pit_parts.specs.declared.limit.Bound.{Bound}
-use Rattle.pit_parts.specs.declared.limit.Bound.TheVariants.{AtMost, AtLeast, Between}
-use Rattle.pit_parts.specs.declared.limit.Limit.{Limit}
+use Rattle.plan_parts.specs.declared.cone.Cone.{Cone}
+use Rattle.plan_parts.specs.declared.cone.Slope.{Slope}
+use Rattle.plan_parts.specs.declared.formulas.formula.NamedFormula.{NamedFormula}
+use Rattle.plan_parts.specs.declared.grid.Grid.{Grid}
+use Rattle.plan_parts.specs.declared.limit.Bound.{Bound}
+use Rattle.plan_parts.specs.declared.limit.Bound.TheVariants.{AtMost, AtLeast, Between}
+use Rattle.plan_parts.specs.declared.limit.Limit.{Limit}
 use Rattle.pit_model.specs.declared.plan_fault.PlanFaultKind.{PlanFaultKind}
 use Rattle.pit_model.specs.declared.plan_fault.PlanFaultKind.TheVariants.{Key, Width, Name, Twice, Order, TooMany}
 use Rattle.pit_model.specs.declared.plan_key.PlanKey.{PlanKey}
 use Rattle.pit_model.specs.declared.plan_key.PlanKey.TheVariants as key
-use Rattle.pit_parts.specs.declared.ranges.TheConstants.{MAX_BENCHES, MAX_PERIODS, MAX_RATE, MAX_RESOURCES, MAX_SLOPE, MAX_ZONES}
+use Rattle.plan_parts.specs.declared.ranges.TheConstants.{MAX_BENCHES, MAX_PERIODS, MAX_RATE, MAX_RESOURCES, MAX_SLOPE, MAX_ZONES}
 
 -- `name, NAME`
 abbrev pub name_record : Stated → List (List ℕ) → Result Stated PlanFaultKind

@@ -3,15 +3,15 @@ use Rattle.std.specs.Prelude.{ℕ, suc, ◌+◌, ◌==◌, ◌||◌, not, nat_le
 use Rattle.pit_units.specs.Steps.{◌>>=◌}
 use Rattle.records.specs.RecordCells.{cells_of}
 use Rattle.records.specs.Records.{records_of}
-use Rattle.pit_parts.specs.Plan.{PlanParts}
-use Rattle.pit_parts.specs.PlanKept.{plan_of}
+use Rattle.plan_parts.specs.Plan.{PlanParts}
+use Rattle.plan_parts.specs.PlanKept.{plan_of}
 use Rattle.pit_model.specs.PlanRecords.{record_of}
 use Rattle.pit_model.specs.Stated.{Stated, nothing_stated}
-use Rattle.pit_parts.specs.declared.grid.Grid.{Grid}
+use Rattle.plan_parts.specs.declared.grid.Grid.{Grid}
 use Rattle.pit_model.specs.declared.plan_fault.PlanFault.{PlanFault}
 use Rattle.pit_model.specs.declared.plan_fault.PlanFaultKind.{PlanFaultKind}
 use Rattle.pit_model.specs.declared.plan_fault.PlanFaultKind.TheVariants.{Missing, TooMany}
-use Rattle.pit_parts.specs.declared.ranges.TheConstants.{MAX_PLAN_RECORDS}
+use Rattle.plan_parts.specs.declared.ranges.TheConstants.{MAX_PLAN_RECORDS}
 
 -- an answer about the record of this number, with the number where it is a fault
 abbrev pub at_row : {A : Type 0} → ℕ → Result A PlanFaultKind → Result A PlanFault

@@ -2,8 +2,8 @@
 use Rattle.std.specs.Prelude.{◌≡◌, ℕ, ◌*◌, ◌≤◌, true, List, ℤ, pos, ◌*ℤ◌, ◌≤ℤ◌}
 use Rattle.pit_units.specs.SpelledNumbers.{SpellsNumber}
 use Rattle.pit_units.specs.StandsFor.{StandsFor}
-use Rattle.pit_parts.specs.Name.{is_name}
-use Rattle.pit_parts.specs.declared.ranges.TheConstants.{MAX_ORIGIN, MAX_SIZE, MAX_TONNES, MIN_ORIGIN}
+use Rattle.plan_parts.specs.Name.{is_name}
+use Rattle.plan_parts.specs.declared.ranges.TheConstants.{MAX_ORIGIN, MAX_SIZE, MAX_TONNES, MIN_ORIGIN}
 
 -- an origin and the size of a block, in millimetres
 abbrev pub SpellsOrigin : List ℕ → ℤ → Type 0

@@ -1,13 +1,13 @@
 -- What the records of a plan state so far.
 use Rattle.std.specs.Prelude.{ℕ, ◌==◌, ◌&&◌, Bool, List, [], ◌∷◌, ◌++◌, position, ℤ, Option, None, if◌then◌else◌}
 use Rattle.std.specs.Str.{bytes_eq}
-use Rattle.pit_parts.specs.PlanKept.{stands_before}
-use Rattle.pit_parts.specs.declared.cone.Cone.{Cone}
-use Rattle.pit_parts.specs.declared.formulas.formula.Formula.{Formula}
-use Rattle.pit_parts.specs.declared.formulas.formula.NamedFormula.{NamedFormula}
-use Rattle.pit_parts.specs.declared.grid.Grid.{Grid}
-use Rattle.pit_parts.specs.declared.limit.Limit.{Limit}
-use Rattle.pit_parts.specs.declared.resource.Resource.{Resource}
+use Rattle.plan_parts.specs.PlanKept.{stands_before}
+use Rattle.plan_parts.specs.declared.cone.Cone.{Cone}
+use Rattle.plan_parts.specs.declared.formulas.formula.Formula.{Formula}
+use Rattle.plan_parts.specs.declared.formulas.formula.NamedFormula.{NamedFormula}
+use Rattle.plan_parts.specs.declared.grid.Grid.{Grid}
+use Rattle.plan_parts.specs.declared.limit.Limit.{Limit}
+use Rattle.plan_parts.specs.declared.resource.Resource.{Resource}
 
 -- the parts that were stated: those that stand once, if they do, and the others in the order of their records, but limits by resource
 -- and then by period

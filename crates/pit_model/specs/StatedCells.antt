@@ -4,10 +4,10 @@ use Rattle.pit_units.specs.Steps.{◌>>=◌}
 use Rattle.pit_units.specs.Decimal.{decimal_within}
 use Rattle.pit_units.specs.declared.fault.DecFault.{DecFault}
 use Rattle.pit_units.specs.declared.fault.DecFault.TheVariants as dec
-use Rattle.pit_parts.specs.Name.{is_name}
+use Rattle.plan_parts.specs.Name.{is_name}
 use Rattle.pit_model.specs.declared.plan_fault.PlanFaultKind.{PlanFaultKind}
 use Rattle.pit_model.specs.declared.plan_fault.PlanFaultKind.TheVariants.{Number, TooFine, Range, Name}
-use Rattle.pit_parts.specs.declared.ranges.TheConstants.{MAX_ORIGIN, MAX_SIZE, MAX_TONNES, MIN_ORIGIN}
+use Rattle.plan_parts.specs.declared.ranges.TheConstants.{MAX_ORIGIN, MAX_SIZE, MAX_TONNES, MIN_ORIGIN}
 
 -- the millionths of a decimal, or its fault
 abbrev pub number_said : Result ℤ DecFault → Result ℤ PlanFaultKind

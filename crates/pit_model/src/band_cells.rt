@@ -2,15 +2,15 @@
 
 ghost use Rattle.std.specs.Prelude.{◌≡◌, ◌+◌, ◌-◌, ◌/◌, ◌%◌, ◌^◌, ◌<◌, ◌≤◌, drop, length, All, IfOk};
 ghost use Rattle.pit_units.specs.OrMemory.{Gives};
-ghost use Rattle.pit_parts.specs.formulas.BandsKept.{IsBand};
+ghost use Rattle.plan_parts.specs.formulas.BandsKept.{IsBand};
 ghost use Rattle.pit_model.specs.DestinationRecords.{band_in, bands_in};
 
 use crate::cells::Cells;
 use crate::numbers::{number_in, whole_in};
 use crate::plan_fault::PlanFaultKind;
-use pit_parts::formulas::band::Band;
-use pit_parts::ranges::{MAX_GRADE, MAX_RECOVERY};
 use pit_units::OrMemory;
+use plan_parts::formulas::band::Band;
+use plan_parts::ranges::{MAX_GRADE, MAX_RECOVERY};
 use std::alloc::Global;
 
 // The band of two cells.

@@ -2,11 +2,11 @@
 
 ghost use Rattle.std.specs.Prelude.{◌≡◌, ◌≤◌, ◌≤ℤ◌, IfOk};
 ghost use Rattle.pit_model.specs.StatedCells.{origin_in, size_in};
-ghost use Rattle.pit_parts.specs.declared.ranges.TheConstants.{MAX_ORIGIN, MAX_SIZE, MIN_ORIGIN};
+ghost use Rattle.plan_parts.specs.declared.ranges.TheConstants.{MAX_ORIGIN, MAX_SIZE, MIN_ORIGIN};
 
 use crate::numbers::number_in;
 use crate::plan_fault::PlanFaultKind;
-use pit_parts::ranges::{MAX_ORIGIN, MAX_SIZE, MIN_ORIGIN};
+use plan_parts::ranges::{MAX_ORIGIN, MAX_SIZE, MIN_ORIGIN};
 
 /// The origin that a cell states in metres, within 10^12 mm of zero.
 pub fn origin_in(cell: &[u8]) -> Result<i64, PlanFaultKind>

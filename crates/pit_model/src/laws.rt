@@ -2,8 +2,8 @@
 
 ghost use Rattle.std.specs.Prelude.{◌≡◌, ◌↔◌, ◌⊎◌, ◌≤◌, ℕ, ℤ, List, ◌∷◌, Ok, Err};
 ghost use Rattle.std.specs.List.Sorted.{IsPermutation};
-ghost use Rattle.pit_parts.specs.Plan.{PlanParts};
-ghost use Rattle.pit_parts.specs.PlanKept.{IsPlan};
+ghost use Rattle.plan_parts.specs.Plan.{PlanParts};
+ghost use Rattle.plan_parts.specs.PlanKept.{IsPlan};
 ghost use Rattle.pit_units.specs.SpelledNumbers.{SpellsBelow, SpellsNumber, SpellsWhole};
 ghost use Rattle.pit_model.specs.Planned.{planned};
 ghost use Rattle.pit_model.specs.SpelledCells.{IsNameOf, SpellsOrigin, SpellsSize};
@@ -11,10 +11,10 @@ ghost use Rattle.pit_model.specs.SpelledPlan.{IsFirstFault, IsLacking, SpellPlan
 ghost use Rattle.records.specs.Records.{records_of};
 ghost use Rattle.pit_model.specs.Stated.{nothing_stated, with_limit};
 ghost use Rattle.pit_model.specs.StatedCells.{below_in, name_in, number_in, origin_in, size_in, whole_in};
-ghost use Rattle.pit_parts.specs.declared.limit.Limit.{Limit};
+ghost use Rattle.plan_parts.specs.declared.limit.Limit.{Limit};
 ghost use Rattle.pit_model.specs.declared.plan_fault.PlanFault.{PlanFault};
 
-pub use pit_parts::laws::{floors_go_down, worths_are_in_range};
+pub use plan_parts::laws::{floors_go_down, worths_are_in_range};
 
 /// A text states a plan exactly where its records state it, one after the other, and no part that must be there is
 /// missing.

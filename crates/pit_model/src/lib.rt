@@ -13,6 +13,6 @@ pub mod plan_fault;
 mod plan_key;
 mod plan_reader;
 
-pub use pit_parts::formulas::{band, destination, formula, worth};
-pub use pit_parts::{block, cone, grid, limit, name, plan, ranges, resource};
+pub use plan_parts::formulas::{band, destination, formula, worth};
+pub use plan_parts::{block, cone, grid, limit, name, plan, ranges, resource};
 pub use plan_reader::read_plan;

@@ -2,18 +2,18 @@
 
 ghost use Rattle.std.specs.Prelude.{◌≡◌, ◌<◌, ◌≤◌, ◌≤ℤ◌, length, pos, bytes_eq, codes, if◌then◌else◌, position, IfErr, IfOk, IfSome, OnErr, OnOk};
 ghost use Rattle.std.specs.List.{list_any, position_or_len};
-ghost use Rattle.pit_parts.specs.PlanKept.{AreTonnes, stands_before};
+ghost use Rattle.plan_parts.specs.PlanKept.{AreTonnes, stands_before};
 ghost use Rattle.pit_model.specs.PlanRecords.{bound_in, is_letter};
 ghost use Rattle.pit_model.specs.StatedCells.{below_in, tonnes_in};
 ghost use Rattle.pit_model.specs.Stated.{is_same_place, with_limit};
-ghost use Rattle.pit_parts.specs.declared.ranges.TheConstants.{MAX_TONNES};
+ghost use Rattle.plan_parts.specs.declared.ranges.TheConstants.{MAX_TONNES};
 
 use crate::cells::Cells;
 use crate::numbers::number_in;
 use crate::plan_fault::PlanFaultKind;
-use pit_parts::limit::{Bound, Limit};
-use pit_parts::ranges::MAX_TONNES;
 use pit_units::{Dec, MILLIONTHS, OrMemory};
+use plan_parts::limit::{Bound, Limit};
+use plan_parts::ranges::MAX_TONNES;
 
 fn is_letter(cell: &[u8], letter: &[u8]) -> bool
     ensures { result ≡ bytes_eq cell.now letter.now }

@@ -2,18 +2,18 @@
 
 ghost use Rattle.std.specs.Prelude.{◌≡◌, ◌-◌, ◌<◌, ◌≤◌, drop, length, is_some, All, IfOk, IfSome};
 ghost use Rattle.pit_units.specs.OrMemory.{Gives};
-ghost use Rattle.pit_parts.specs.PlanKept.{has_repeat};
+ghost use Rattle.plan_parts.specs.PlanKept.{has_repeat};
 ghost use Rattle.pit_model.specs.PlanRecords.{covers_in};
 ghost use Rattle.pit_model.specs.StatedCells.{name_in, number_of};
 ghost use Rattle.pit_model.specs.Stated.{destination_named, resource_named};
-ghost use Rattle.pit_parts.specs.declared.ranges.TheConstants.{MAX_DESTINATIONS, MAX_RESOURCES};
+ghost use Rattle.plan_parts.specs.declared.ranges.TheConstants.{MAX_DESTINATIONS, MAX_RESOURCES};
 
 use crate::cells::Cells;
 use crate::plan_fault::PlanFaultKind;
-use pit_parts::formulas::formula::NamedFormula;
-use pit_parts::name::Name;
-use pit_parts::resource::{Covers, Resource};
 use pit_units::OrMemory;
+use plan_parts::formulas::formula::NamedFormula;
+use plan_parts::name::Name;
+use plan_parts::resource::{Covers, Resource};
 use std::alloc::Global;
 
 /// The NAME that a cell spells.

@@ -5,18 +5,18 @@ ghost use Rattle.csv.specs.Records.{fields_of};
 ghost use Rattle.pit_units.specs.OrMemory.{Gives};
 ghost use Rattle.pit_model.specs.Planned.{at_row, finished, planned, record_at};
 ghost use Rattle.pit_model.specs.SpelledPlan.{SpellPlan};
-ghost use Rattle.pit_parts.specs.Plan.{PlanParts};
+ghost use Rattle.plan_parts.specs.Plan.{PlanParts};
 ghost use Rattle.pit_units.specs.declared.or_memory.OrMemory.TheVariants.{OutOfMemory};
 ghost use Rattle.records.specs.Records.{records_of};
-ghost use Rattle.pit_parts.specs.declared.ranges.TheConstants.{MAX_PLAN_RECORDS};
+ghost use Rattle.plan_parts.specs.declared.ranges.TheConstants.{MAX_PLAN_RECORDS};
 
 use crate::draft::Draft;
 use crate::laws::plans_are_spelled;
 use crate::plan_fault::{PlanFault, PlanFaultKind};
 use csv::ByteRecord;
-use pit_parts::plan::Plan;
-use pit_parts::ranges::MAX_PLAN_RECORDS;
 use pit_units::OrMemory;
+use plan_parts::plan::Plan;
+use plan_parts::ranges::MAX_PLAN_RECORDS;
 use records::RecordReader;
 use std::alloc::Global;
 

@@ -4,10 +4,17 @@
 #![tactic(auto)]
 
 ghost use Rattle.std.specs.Prelude.{◌≡◌};
-ghost use Rattle.pit_parts.specs.formulas.Formula.{IsRuled};
-ghost use Rattle.pit_parts.specs.formulas.Worth.{worth};
+ghost use Rattle.plan_parts.specs.formulas.Formula.{IsRuled};
+ghost use Rattle.plan_parts.specs.formulas.Worth.{worth};
 ghost use Rattle.run_threads.specs.Starts.{none_spent};
 
+use command_io::plan_file::read_plan_file;
+use command_io::refused::Refused;
+use command_io::refused::fault_line::tell;
+use command_io::refused::status::{USAGE, finish};
+use command_io::words::words_of;
+use command_lines::job::{JobFault, RunWords, append_error};
+use command_lines::thin_line::thin_run;
 use devices::files::file_slot::FileSlots;
 use devices::files::opener::Opener;
 use devices::files::system_files::SystemFiles;
@@ -16,24 +23,17 @@ use devices::sinks::file_sink::FileSink;
 use devices::sinks::sink::Sink;
 use devices::sinks::write_sink::WriteSink;
 use pit_compile::{MOST_STARTS, Starts};
-use pit_edge::plan_file::read_plan_file;
-use pit_edge::refused::Refused;
-use pit_edge::refused::fault_line::tell;
-use pit_edge::refused::status::{USAGE, finish};
-use pit_edge::words::words_of;
-use pit_jobs::job::{JobFault, RunWords, append_error};
-use pit_jobs::thin_line::thin_run;
 use pit_model::block::Block;
 use pit_model::destination::{Destination, Valuer};
 use pit_model::plan::Plan;
-use pit_parts::settings::Settings;
+use plan_parts::settings::Settings;
 use std::alloc::{Alloc, AllocError, Global};
 use std::env;
 use std::process::ExitCode;
 use std::rt::{Env, Files};
 use std::sync::Wait;
 use std::thread::Threads;
-use thin_commands::thin::thin;
+use thin_command::thin::thin;
 
 fn main(rt: HostRuntime) -> ExitCode {
     let alloc = rt.alloc();

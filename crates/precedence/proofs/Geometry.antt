@@ -3,10 +3,10 @@ use Rattle.std.proofs.Common.{◌≡◌, ℕ, ◌+◌, ◌-◌, ◌<◌, ◌≤�
 use Rattle.std.specs.Int.{abs_diff}
 use Rattle.std.proofs.lemmas.Bool.{lt-ltb, ltb-true, ltb-false, le-leb}
 use Rattle.std.proofs.lemmas.Bool.Decides.{nat_tests}
-use Rattle.pit_parts.specs.declared.block.Block.{Block}
-use Rattle.pit_parts.specs.declared.cone.Cone.{Cone}
-use Rattle.pit_parts.specs.declared.cone.Slope.{Slope}
-use Rattle.pit_parts.specs.declared.grid.Grid.{Grid}
+use Rattle.plan_parts.specs.declared.block.Block.{Block}
+use Rattle.plan_parts.specs.declared.cone.Cone.{Cone}
+use Rattle.plan_parts.specs.declared.cone.Slope.{Slope}
+use Rattle.plan_parts.specs.declared.grid.Grid.{Grid}
 use Rattle.precedence.specs.Codes.{place_code}
 use Rattle.precedence.specs.Cone.{is_above, is_within_slopes, slope_along_x, slope_along_y}
 use Rattle.precedence.specs.inner.Reach.{CountsRow, slope_across}

@@ -1,6 +1,6 @@
 -- One number for a block's place, in the order of identifiers.
 use Rattle.std.specs.Prelude.{ℕ, ◌+◌, ◌*◌, List, map}
-use Rattle.pit_parts.specs.declared.block.Block.{Block}
+use Rattle.plan_parts.specs.declared.block.Block.{Block}
 use Rattle.precedence.specs.declared.places.code.TheConstants.{BENCH, ROW}
 
 -- rows are so far apart that a number some thousands beside a block's belongs to no other row

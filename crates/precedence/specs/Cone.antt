@@ -1,11 +1,11 @@
 -- The predecessors of a block: the blocks of the cone that opens above it.
 use Rattle.std.specs.Prelude.{ℕ, ◌+◌, ◌-◌, ◌*◌, ◌&&◌, Bool, List, [], ◌∷◌, Option, Some, None, map, nat_lt, nat_le, slice_get, if◌then◌else◌}
 use Rattle.std.specs.Int.{abs_diff}
-use Rattle.pit_parts.specs.Plan.{PlanParts}
-use Rattle.pit_parts.specs.declared.block.Block.{Block}
-use Rattle.pit_parts.specs.declared.cone.Cone.{Cone}
-use Rattle.pit_parts.specs.declared.cone.Slope.{Slope}
-use Rattle.pit_parts.specs.declared.grid.Grid.{Grid}
+use Rattle.plan_parts.specs.Plan.{PlanParts}
+use Rattle.plan_parts.specs.declared.block.Block.{Block}
+use Rattle.plan_parts.specs.declared.cone.Cone.{Cone}
+use Rattle.plan_parts.specs.declared.cone.Slope.{Slope}
+use Rattle.plan_parts.specs.declared.grid.Grid.{Grid}
 
 -- the slope on the side where `high` lies, seen from `low`; where it lies on neither side the distance is 0 and either slope serves
 abbrev pub slope_along_x : Cone → Block → Block → Slope

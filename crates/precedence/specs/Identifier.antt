@@ -1,6 +1,6 @@
 -- The identifiers of the blocks of a list: how many blocks of the whole list lie lower, or further south, or further west.
 use Rattle.std.specs.Prelude.{◌≡◌, ℕ, ◌<◌, ◌==◌, ◌&&◌, ◌||◌, Bool, true, false, List, length, map, count_by, nat_lt, slice_index_or}
-use Rattle.pit_parts.specs.declared.block.Block.{Block}
+use Rattle.plan_parts.specs.declared.block.Block.{Block}
 use Rattle.rows.specs.declared.item.Valued.{Valued}
 
 -- the blocks of rows

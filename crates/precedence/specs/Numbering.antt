@@ -1,6 +1,6 @@
 -- The blocks of a list by identifier, with the place of each in the list.
 use Rattle.std.specs.Prelude.{◌≡◌, ℕ, ◌<◌, List, length, slice_index, slice_index_or}
-use Rattle.pit_parts.specs.declared.block.Block.{Block}
+use Rattle.plan_parts.specs.declared.block.Block.{Block}
 use Rattle.precedence.specs.Identifier.{id}
 
 -- blocks in order, and the position of each in a list

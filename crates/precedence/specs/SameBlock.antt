@@ -1,6 +1,6 @@
 -- What a refusal to number says.
 use Rattle.std.specs.Prelude.{List}
-use Rattle.pit_parts.specs.declared.block.Block.{Block}
+use Rattle.plan_parts.specs.declared.block.Block.{Block}
 use Rattle.precedence.specs.Identifier.{IsFirstAgain}
 use Rattle.precedence.specs.declared.numbering.same.Same.{Same}
 use Rattle.pit_units.specs.declared.or_memory.OrMemory.{OrMemory}

@@ -1,7 +1,7 @@
 -- Blocks whose zones a plan has.
 use Rattle.std.specs.Prelude.{◌<◌, List, All, length}
-use Rattle.pit_parts.specs.Plan.{PlanParts}
-use Rattle.pit_parts.specs.declared.block.Block.{Block}
+use Rattle.plan_parts.specs.Plan.{PlanParts}
+use Rattle.plan_parts.specs.declared.block.Block.{Block}
 
 -- the plan has each block's zone
 abbrev pub HasZones : PlanParts → List Block → Type 0

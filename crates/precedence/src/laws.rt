@@ -3,12 +3,12 @@
 ghost use Rattle.std.specs.Prelude.{◌≡◌, true, ℕ, ◌<◌, ◌≤◌, List, [], All, Contains, filter, length, slice_index_or};
 ghost use Rattle.std.specs.List.{range_with_len};
 ghost use Rattle.std.specs.List.Sorted.{IsStrictlyIncreasing};
-ghost use Rattle.pit_parts.specs.Plan.{PlanParts};
-ghost use Rattle.pit_parts.specs.PlanKept.{IsCone};
-ghost use Rattle.pit_parts.specs.declared.block.Block.{Block};
-ghost use Rattle.pit_parts.specs.declared.cone.Cone.{Cone};
-ghost use Rattle.pit_parts.specs.declared.cone.Slope.{Slope};
-ghost use Rattle.pit_parts.specs.declared.grid.Grid.{Grid};
+ghost use Rattle.plan_parts.specs.Plan.{PlanParts};
+ghost use Rattle.plan_parts.specs.PlanKept.{IsCone};
+ghost use Rattle.plan_parts.specs.declared.block.Block.{Block};
+ghost use Rattle.plan_parts.specs.declared.cone.Cone.{Cone};
+ghost use Rattle.plan_parts.specs.declared.cone.Slope.{Slope};
+ghost use Rattle.plan_parts.specs.declared.grid.Grid.{Grid};
 ghost use Rattle.precedence.specs.Cone.{is_above, preds};
 ghost use Rattle.precedence.specs.ConeLaws.{even_cone, has_pred, is_above_by, preds_by, IsEven};
 ghost use Rattle.precedence.specs.Identifier.{comes_before};

@@ -5,12 +5,12 @@ ghost use Rattle.std.specs.List.Sorted.{IsStrictlyIncreasing};
 ghost use Rattle.precedence.specs.Codes.{place_code, place_codes};
 ghost use Rattle.precedence.specs.inner.Beside.{AreSpans};
 ghost use Rattle.precedence.specs.declared.places.code.TheConstants.{CODES};
-ghost use Rattle.pit_parts.specs.declared.ranges.TheConstants.{MAX_BLOCKS};
+ghost use Rattle.plan_parts.specs.declared.ranges.TheConstants.{MAX_BLOCKS};
 
 use crate::places::code::code;
 use crate::places::span::Span;
 use crate::places::spans::{is_sparse, spans_of};
-use pit_parts::block::Block;
+use plan_parts::block::Block;
 use std::alloc::{AllocError, Global};
 
 pub mod code;

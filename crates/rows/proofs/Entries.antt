@@ -6,10 +6,10 @@ use Rattle.std.proofs.Math.Nat.{mul-le-mul_right}
 use Rattle.std.proofs.lemmas.Bool.{cond-true, lt-ltb}
 use Rattle.std.proofs.lemmas.List.{drop-drop, drop-append-le, length-replicate, take_all, take-append-le}
 use Rattle.std.proofs.lemmas.Option.{slice_get_read}
-use Rattle.pit_parts.proofs.BlockFacts.{block_again}
-use Rattle.pit_parts.specs.Block.{block_with}
-use Rattle.pit_parts.specs.declared.block.Block.{Block}
-use Rattle.pit_parts.specs.declared.ranges.TheConstants.{MAX_ZONES}
+use Rattle.plan_parts.proofs.BlockFacts.{block_again}
+use Rattle.plan_parts.specs.Block.{block_with}
+use Rattle.plan_parts.specs.declared.block.Block.{Block}
+use Rattle.plan_parts.specs.declared.ranges.TheConstants.{MAX_ZONES}
 use Rattle.rows.specs.declared.item.Item.{Item}
 use Rattle.rows.specs.declared.item.Item.TheVariants as item
 use Rattle.rows.specs.declared.item.Valued.{Valued}

@@ -1,7 +1,7 @@
 -- Rows among packed items: which item it is, and the row that stands somewhere in several lists of items.
 use Rattle.std.specs.Prelude.{◌≡◌, ℕ, ℤ, true, is_some, slice_get, length, All, List, Option, Some, None}
 use Rattle.std.specs.Option.{option_and_then}
-use Rattle.pit_parts.specs.formulas.WorthRange.{IsWorth}
+use Rattle.plan_parts.specs.formulas.WorthRange.{IsWorth}
 use Rattle.rows.specs.declared.item.Item.{Item}
 use Rattle.rows.specs.declared.item.Item.TheVariants.{Row, End}
 use Rattle.rows.specs.declared.item.Valued.{Valued}

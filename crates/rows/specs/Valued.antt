@@ -1,8 +1,8 @@
 -- What blocks are worth by the formulas of a plan, and rows with these worths.
 use Rattle.std.specs.Prelude.{ℕ, List, ℤ, map}
-use Rattle.pit_parts.specs.formulas.Worth.{worth}
-use Rattle.pit_parts.specs.declared.block.Block.{Block}
-use Rattle.pit_parts.specs.declared.formulas.formula.Formula.{Formula}
+use Rattle.plan_parts.specs.formulas.Worth.{worth}
+use Rattle.plan_parts.specs.declared.block.Block.{Block}
+use Rattle.plan_parts.specs.declared.formulas.formula.Formula.{Formula}
 use Rattle.rows.specs.declared.item.Valued.{Valued}
 
 -- the worths of a block by these formulas, in their order

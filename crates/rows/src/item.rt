@@ -1,8 +1,8 @@
 //! What a valuer hands on of the messages that it took.
 
 use crate::worths::Worths;
-use pit_parts::block::Block;
-use pit_parts::listed::Listed;
+use plan_parts::block::Block;
+use plan_parts::listed::Listed;
 
 /// A row of a zone file with its worths.
 #[derive(Clone, Copy, Debug, PartialEq, Eq)]

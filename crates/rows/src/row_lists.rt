@@ -12,7 +12,7 @@ use crate::packed::items::PackedItems;
 use crate::packed::worths::PackedWorths;
 use crate::row_worths::RowWorths;
 use crate::spot::Spot;
-use pit_parts::block::Block;
+use plan_parts::block::Block;
 use std::alloc::{AllocError, Global};
 use std::marker::Model;
 

@@ -1,9 +1,9 @@
 //! The worths of a block, one a destination.
 
 ghost use Rattle.std.specs.Prelude.{◌≡◌, ◌≤◌, ◌↔◌, length, IsSome, IfSome};
-ghost use Rattle.pit_parts.specs.declared.ranges.TheConstants.{MAX_DESTINATIONS};
+ghost use Rattle.plan_parts.specs.declared.ranges.TheConstants.{MAX_DESTINATIONS};
 
-use pit_parts::ranges::MAX_DESTINATIONS;
+use plan_parts::ranges::MAX_DESTINATIONS;
 use std::marker::Model;
 
 /// The most worths of a block: one for each destination of a plan.

@@ -6,8 +6,8 @@ use Rattle.std.proofs.lemmas.Bool.{cases_Bool, or_parts}
 use Rattle.std.proofs.lemmas.List.Elements.{All-nil, All-cons, All-head, All-rest, All-tail}
 use Rattle.lane.specs.Ends.{Lane, PutEndView, TakeEndView, ArePutsFrom, AreTakesFrom, first_puts, first_takes}
 use Rattle.lane.specs.MessageKinds.{is_done}
-use Rattle.pit_parts.specs.PlanFormulas.{formulas_of_plan}
-use Rattle.pit_parts.specs.Plan.{PlanParts}
+use Rattle.plan_parts.specs.PlanFormulas.{formulas_of_plan}
+use Rattle.plan_parts.specs.Plan.{PlanParts}
 use Rattle.valuers.specs.Valuing.{items_by}
 use Rattle.rows.specs.ItemsView.{items_in, PackedView}
 use Rattle.valuers.specs.declared.valuer.ValuerResult.{ValuerResult as ResultBy}

@@ -3,7 +3,7 @@ use Rattle.std.proofs.Common.{◌≡◌, ℕ, ◌+◌, ◌≤◌, List, [], ◌�
 use Rattle.lane.specs.Message.{sent_from}
 use Rattle.lane.specs.declared.message.Taken.{Taken}
 use Rattle.lane.specs.declared.message.Taken.TheVariants as message
-use Rattle.pit_parts.specs.declared.block.Block.{Block}
+use Rattle.plan_parts.specs.declared.block.Block.{Block}
 use Rattle.zone_csv.specs.ZoneReaderView.{ZoneReaderView, Ahead, Answers, last_answer}
 use Rattle.zone_csv.specs.declared.row_fault.RowFault.{RowFault}
 use Rattle.pit_units.specs.declared.or_memory.OrMemory.{OrMemory}

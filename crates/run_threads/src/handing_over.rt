@@ -2,8 +2,8 @@
 
 ghost use Rattle.std.specs.Prelude.{◌≡◌, ◌+◌, ◌≤◌, length, map, vec_len, IfErr, IfOk, IsFalse, IsTrue};
 ghost use Rattle.lane.specs.Whole.{IsWhole};
-ghost use Rattle.pit_parts.specs.OfPlan.{AreOfPlan};
-ghost use Rattle.pit_parts.specs.PlanFormulas.{formulas_of_plan};
+ghost use Rattle.plan_parts.specs.OfPlan.{AreOfPlan};
+ghost use Rattle.plan_parts.specs.PlanFormulas.{formulas_of_plan};
 ghost use Rattle.run_threads.specs.inner.HandingOver.{IsHandedOver};
 ghost use Rattle.run_threads.specs.Full.{IsOneFull};
 ghost use Rattle.run_threads.specs.Reading.{AreRead};
@@ -11,7 +11,7 @@ ghost use Rattle.run_threads.specs.Starts.{none_spent, AreSettled, AreShort, Are
 ghost use Rattle.pit_units.specs.declared.or_memory.OrMemory.TheVariants.{Fault};
 ghost use Rattle.rows.specs.ItemsView.{items_in};
 ghost use Rattle.valuers.specs.Valuing.{items_by};
-ghost use Rattle.pit_parts.specs.declared.ranges.TheConstants.{MAX_CAPACITY, MAX_VALUERS};
+ghost use Rattle.plan_parts.specs.declared.ranges.TheConstants.{MAX_CAPACITY, MAX_VALUERS};
 
 use crate::in_scope::giving_up::GaveUp;
 use crate::in_scope::{Settled, hand_over_in};
@@ -23,9 +23,9 @@ use crate::shared::Shared;
 use crate::starts::{GivenFeeds, Starter, Starts};
 use devices::feeds::feed::Feed;
 use lane::Gathered;
-use pit_parts::formulas::destination::Destination;
-use pit_parts::plan::Plan;
 use pit_units::OrMemory;
+use plan_parts::formulas::destination::Destination;
+use plan_parts::plan::Plan;
 use rows::PackedItems;
 use std::alloc::Global;
 use std::sync::Wait;

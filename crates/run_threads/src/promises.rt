@@ -3,7 +3,7 @@
 use crate::file_reading::FileRead;
 use devices::feeds::feed::Feed;
 use lane::{PutEnd, TakeEnd};
-use pit_parts::plan::Plan;
+use plan_parts::plan::Plan;
 use std::snapshot::Snapshot;
 use std::thread::{Promise, PromisedHandle};
 use valuers::{PackedItems, ValuerResult};
@@ -31,7 +31,7 @@ pub struct ValuedBy {
 }
 
 impl Promise<ValuerResult<PackedItems>> for ValuedBy {
-    ghost use Rattle.pit_parts.specs.PlanFormulas.{formulas_of_plan};
+    ghost use Rattle.plan_parts.specs.PlanFormulas.{formulas_of_plan};
     ghost use Rattle.run_threads.specs.inner.Promises.{KeepsValued};
 
     ghost kept_by = { λ p r. KeepsValued (formulas_of_plan p.plan.value) p.end.value

@@ -1,11 +1,11 @@
 //! What the threads of a run share.
 
 ghost use Rattle.std.specs.Prelude.{◌≤◌, length};
-ghost use Rattle.pit_parts.specs.OfPlan.{AreOfPlan};
-ghost use Rattle.pit_parts.specs.declared.ranges.TheConstants.{MAX_DESTINATIONS};
+ghost use Rattle.plan_parts.specs.OfPlan.{AreOfPlan};
+ghost use Rattle.plan_parts.specs.declared.ranges.TheConstants.{MAX_DESTINATIONS};
 
-use pit_parts::formulas::destination::Destination;
-use pit_parts::plan::Plan;
+use plan_parts::formulas::destination::Destination;
+use plan_parts::plan::Plan;
 use std::alloc::Global;
 
 /// What the threads of a run share: what they run on, and what they work by. The destinations are the plan's.

@@ -4,7 +4,7 @@
 ghost use Rattle.std.specs.Prelude.{◌≡◌, ◌+◌, ◌<◌, ◌≤◌, true, false, is_some, map, IfSome, OnSome};
 ghost use Rattle.lane.specs.Ends.{Lane};
 ghost use Rattle.run_threads.specs.Starts.{none_spent};
-ghost use Rattle.pit_parts.specs.PlanFormulas.{formulas_of_plan};
+ghost use Rattle.plan_parts.specs.PlanFormulas.{formulas_of_plan};
 ghost use Rattle.run_threads.specs.inner.Promises.{KeepsRead, KeepsValued};
 ghost use Rattle.run_threads.specs.inner.Started.{after_start, after_reader, after_join};
 ghost use Rattle.run_threads.specs.declared.starts.OnThread.{OnThread as AThread};
@@ -13,7 +13,7 @@ use crate::file_reading::FileRead;
 use crate::promises::{ReadBy, ReaderHandle, ValuedBy, ValuerHandle};
 use devices::feeds::feed::Feed;
 use lane::{Closer, GivenUp, PutEnd, SeatedSender, Stopped};
-use pit_parts::plan::Plan;
+use plan_parts::plan::Plan;
 use std::marker::{Model, PhantomData};
 use std::mem;
 use std::snapshot::Snapshot;

@@ -8,7 +8,7 @@ use Rattle.std.specs.Prelude.{All, Result, Ok, Err, OnOk, OnErr, IsFalse}
 use Rattle.std.specs.Result.{is_err}
 use Rattle.lane.specs.declared.message.Taken.{Taken}
 use Rattle.lane.specs.declared.message.Taken.TheVariants.{Row, End, Stop, Quit}
-use Rattle.pit_parts.specs.declared.formulas.formula.Formula.{Formula}
+use Rattle.plan_parts.specs.declared.formulas.formula.Formula.{Formula}
 use Rattle.rows.specs.declared.item.Item.{Item}
 use Rattle.rows.specs.declared.item.Item.TheVariants as item
 use Rattle.rows.specs.Valued.{row_by}

@@ -3,10 +3,10 @@ use Rattle.std.specs.Prelude.{ℕ, List, [], ◌∷◌, ℤ}
 use Rattle.std.specs.List.{All, AllZip}
 use Rattle.std.specs.declared.alloc.Global.{Global}
 use Rattle.std.specs.declared.dyn_box.DynBox.{DynBox}
-use Rattle.pit_parts.specs.OfPlan.{valuer_of}
-use Rattle.pit_parts.specs.declared.block.Block.{Block}
-use Rattle.pit_parts.specs.declared.formulas.destination.Destination.{Destination}
-use Rattle.pit_parts.specs.declared.formulas.formula.Formula.{Formula}
+use Rattle.plan_parts.specs.OfPlan.{valuer_of}
+use Rattle.plan_parts.specs.declared.block.Block.{Block}
+use Rattle.plan_parts.specs.declared.formulas.destination.Destination.{Destination}
+use Rattle.plan_parts.specs.declared.formulas.formula.Formula.{Formula}
 use Rattle.lane.specs.declared.message.Taken.{Taken}
 use Rattle.lane.specs.declared.message.Taken.TheVariants.{Row, End, Stop, Quit}
 use Rattle.rows.specs.Valued.{row_by}

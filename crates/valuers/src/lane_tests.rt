@@ -7,7 +7,7 @@ ghost use Rattle.lane.specs.MessageKinds.{is_done};
 ghost use Rattle.lane.specs.Ends.{Lane, AreTakesFrom, first_puts, first_takes};
 
 use lane::{Closer, EndedPut, Gathered, PutEnd, Stopped, TakeEnd, Taken, open};
-use pit_parts::block::Block;
+use plan_parts::block::Block;
 use std::alloc::{AllocError, Global};
 use std::process::Abort;
 use std::sync::Wait;

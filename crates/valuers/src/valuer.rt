@@ -2,16 +2,16 @@
 
 ghost use Rattle.std.specs.Prelude.{◌≡◌, ◌≤◌, ◌++◌, true, [], ◌∷◌, length, take, drop, OnOk, OnErr, IsFalse, IsTrue};
 ghost use Rattle.lane.specs.MessageKinds.{is_done};
-ghost use Rattle.pit_parts.specs.Destinations.{formulas_of};
+ghost use Rattle.plan_parts.specs.Destinations.{formulas_of};
 ghost use Rattle.rows.specs.ItemsView.{IsFull, IsFullFor};
 ghost use Rattle.valuers.specs.Valuing.{items_by, WereAsked, WerePassed};
-ghost use Rattle.pit_parts.specs.declared.ranges.TheConstants.{MAX_DESTINATIONS};
+ghost use Rattle.plan_parts.specs.declared.ranges.TheConstants.{MAX_DESTINATIONS};
 
 use crate::gate::Gate;
 use crate::valuing::worths_of;
 use lane::{TakeEnd, Taken};
-use pit_parts::block::Block;
-use pit_parts::formulas::destination::{Destination, Valuer};
+use plan_parts::block::Block;
+use plan_parts::formulas::destination::{Destination, Valuer};
 use rows::{Item, Items, Keeps, PackedItems, Valued};
 use std::alloc::{AllocError, Global};
 use std::sync::Wait;

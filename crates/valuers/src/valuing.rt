@@ -1,14 +1,14 @@
 //! Valuing a block by the stored closures of the destinations.
 
 ghost use Rattle.std.specs.Prelude.{◌≡◌, ◌≤◌, length, All};
-ghost use Rattle.pit_parts.specs.Destinations.{formulas_of};
-ghost use Rattle.pit_parts.specs.formulas.WorthRange.{IsWorth};
-ghost use Rattle.pit_parts.specs.declared.ranges.TheConstants.{MAX_DESTINATIONS};
+ghost use Rattle.plan_parts.specs.Destinations.{formulas_of};
+ghost use Rattle.plan_parts.specs.formulas.WorthRange.{IsWorth};
+ghost use Rattle.plan_parts.specs.declared.ranges.TheConstants.{MAX_DESTINATIONS};
 ghost use Rattle.rows.specs.Valued.{worths_by};
 ghost use Rattle.valuers.specs.Valuing.{AreAnswered};
 
-use pit_parts::block::Block;
-use pit_parts::formulas::destination::{Destination, Valuer};
+use plan_parts::block::Block;
+use plan_parts::formulas::destination::{Destination, Valuer};
 use rows::{MAX_WORTHS, Worths};
 
 /// What a block is worth at each of 1 to 8 destinations, in their order.

@@ -1,6 +1,6 @@
 -- What a reader answers once it has told its end, its fault or want of memory.
 use Rattle.std.proofs.Common.{◌≡◌, ◌∙◌, [], Option, None, Some, Result, Ok, Err, refl, subst, sym}
-use Rattle.pit_parts.specs.declared.block.Block.{Block}
+use Rattle.plan_parts.specs.declared.block.Block.{Block}
 use Rattle.zone_csv.specs.ZoneReaderView.{Ahead, Answers, NoMemory, Told, ZoneReaderView, answer_of, last_answer, rest_of}
 use Rattle.zone_csv.specs.declared.row_fault.RowFault.{RowFault}
 use Rattle.pit_units.specs.declared.or_memory.OrMemory.{OrMemory}

@@ -5,7 +5,7 @@ use Rattle.std.proofs.lemmas.Bool.{eqb-true, eq-eqb}
 use Rattle.std.proofs.lemmas.Int.{ints}
 use Rattle.std.proofs.lemmas.Nat.{div-add-mod'}
 use Rattle.std.proofs.Math.Nat.{mul-div_left, div-lt_iff_lt-mul}
-use Rattle.pit_parts.specs.declared.grid.Axis.{Axis}
+use Rattle.plan_parts.specs.declared.grid.Axis.{Axis}
 use Rattle.zone_csv.specs.Cell.{index_at, is_on_step, least}
 use Rattle.zone_csv.specs.SpelledRow.{IsInGrid, centroid}
 

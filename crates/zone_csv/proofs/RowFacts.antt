@@ -12,11 +12,11 @@ use Rattle.pit_units.specs.StandsFor.{StandsFor}
 use Rattle.pit_units.specs.Steps.{◌>>=◌}
 use Rattle.pit_units.specs.declared.fault.DecFault.{DecFault}
 use Rattle.pit_units.specs.declared.fault.DecFault.TheVariants as dec
-use Rattle.pit_parts.proofs.BlockFacts.{block_again}
-use Rattle.pit_parts.specs.Block.{block_with}
-use Rattle.pit_parts.specs.declared.block.Block.{Block}
-use Rattle.pit_parts.specs.declared.grid.Axis.{Axis}
-use Rattle.pit_parts.specs.declared.grid.Grid.{Grid}
+use Rattle.plan_parts.proofs.BlockFacts.{block_again}
+use Rattle.plan_parts.specs.Block.{block_with}
+use Rattle.plan_parts.specs.declared.block.Block.{Block}
+use Rattle.plan_parts.specs.declared.grid.Axis.{Axis}
+use Rattle.plan_parts.specs.declared.grid.Grid.{Grid}
 use Rattle.zone_csv.proofs.CentroidFacts.{centroid_in_grid, centroid_index, centroid_on_step, index_is_centroid}
 use Rattle.zone_csv.specs.Cell.{a_fault, greatest, index_at, is_on_step, least}
 use Rattle.zone_csv.specs.Row.{cell_in, index_said, number_said, row_of, size_said}

@@ -5,8 +5,8 @@ use Rattle.std.specs.Result.{ok_prefix}
 use Rattle.std.proofs.Math.Nat.{min-eq_left}
 use Rattle.std.proofs.lemmas.List.Elements.{All-nil, All-cons}
 use Rattle.records.specs.Records.{records_of}
-use Rattle.pit_parts.specs.declared.block.Block.{Block}
-use Rattle.pit_parts.specs.declared.grid.Grid.{Grid}
+use Rattle.plan_parts.specs.declared.block.Block.{Block}
+use Rattle.plan_parts.specs.declared.grid.Grid.{Grid}
 use Rattle.zone_csv.proofs.ColumnFacts.{fault_of_header, header_named}
 use Rattle.zone_csv.proofs.RowFacts.{fault_of_row, row_within, zone_of_row}
 use Rattle.zone_csv.specs.Cell.{a_fault}

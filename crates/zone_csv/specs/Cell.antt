@@ -1,11 +1,11 @@
 -- The cells of a row, and the coordinates and indices of a grid.
 use Rattle.std.specs.Prelude.{ℕ, ◌*◌, ◌/◌, ◌%◌, ◌==◌, Bool, List, [], ℤ, pos, negsuc, ◌+ℤ◌, ◌-ℤ◌, ◌*ℤ◌, unsigned_abs, slice_index_or}
 use Rattle.records.specs.Cells.{trimmed}
-use Rattle.pit_parts.specs.declared.grid.Axis.{Axis}
+use Rattle.plan_parts.specs.declared.grid.Axis.{Axis}
 use Rattle.zone_csv.specs.declared.row_fault.Column.{Column}
 use Rattle.zone_csv.specs.declared.row_fault.RowFault.{RowFault}
 use Rattle.zone_csv.specs.declared.row_fault.RowFaultKind.{RowFaultKind}
-use Rattle.pit_parts.specs.declared.ranges.TheConstants.{GRID_CELLS}
+use Rattle.plan_parts.specs.declared.ranges.TheConstants.{GRID_CELLS}
 
 -- the cell of a record at a place, without the blanks at both ends
 abbrev pub trimmed_at : List (List ℕ) → ℕ → List ℕ

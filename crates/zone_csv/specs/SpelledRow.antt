@@ -1,10 +1,10 @@
 -- What the cells of a row spell where it states a block, and the coordinates that blocks have.
 use Rattle.std.specs.Prelude.{◌≡◌, ℕ, ◌+◌, ◌*◌, ◌≤◌, List, length, ℤ, pos, ◌+ℤ◌, ◌*ℤ◌, ◌≤ℤ◌}
 use Rattle.pit_units.specs.StandsFor.{StandsFor}
-use Rattle.pit_parts.specs.declared.block.Block.{Block}
-use Rattle.pit_parts.specs.declared.grid.Axis.{Axis}
-use Rattle.pit_parts.specs.declared.grid.Grid.{Grid}
-use Rattle.pit_parts.specs.declared.ranges.TheConstants.{MAX_ROWS}
+use Rattle.plan_parts.specs.declared.block.Block.{Block}
+use Rattle.plan_parts.specs.declared.grid.Axis.{Axis}
+use Rattle.plan_parts.specs.declared.grid.Grid.{Grid}
+use Rattle.plan_parts.specs.declared.ranges.TheConstants.{MAX_ROWS}
 use Rattle.zone_csv.specs.Cell.{greatest, least}
 use Rattle.zone_csv.specs.Row.{cell_in}
 use Rattle.zone_csv.specs.declared.columns.Columns.{Columns}

@@ -1,8 +1,8 @@
 -- What the blocks and the fault of every zone file keep.
 use Rattle.std.specs.Prelude.{◌≡◌, ℕ, ◌+◌, ◌≤◌, List, [], length, All, ◌⊎◌, MatchOption}
 use Rattle.records.specs.Records.{records_of}
-use Rattle.pit_parts.specs.declared.grid.Grid.{Grid}
-use Rattle.pit_parts.specs.declared.ranges.TheConstants.{MAX_ROWS}
+use Rattle.plan_parts.specs.declared.grid.Grid.{Grid}
+use Rattle.plan_parts.specs.declared.ranges.TheConstants.{MAX_ROWS}
 use Rattle.zone_csv.specs.Zone.{blocks_of, fault_of}
 
 -- a zone file has at most a million blocks

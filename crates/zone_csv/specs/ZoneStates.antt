@@ -1,7 +1,7 @@
 -- What the records of a zone file state, as relations.
 use Rattle.std.specs.Prelude.{◌≡◌, ℕ, ◌+◌, List, [], ◌∷◌, drop, slice_index_or, Option, Some, None, Ok, Err}
-use Rattle.pit_parts.specs.declared.block.Block.{Block}
-use Rattle.pit_parts.specs.declared.grid.Grid.{Grid}
+use Rattle.plan_parts.specs.declared.block.Block.{Block}
+use Rattle.plan_parts.specs.declared.grid.Grid.{Grid}
 use Rattle.zone_csv.specs.Header.{columns_of}
 use Rattle.zone_csv.specs.NamedColumns.{NamesColumns}
 use Rattle.zone_csv.specs.Row.{row_of}

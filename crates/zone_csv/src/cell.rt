@@ -1,18 +1,18 @@
 //! What a cell of a row states.
 
 ghost use Rattle.std.specs.Prelude.{◌≡◌, ℕ, ◌*◌, ◌<◌, ◌≤◌, ◌≤ℤ◌, ◌-ℤ◌, pos, unsigned_abs, Err, IfOk};
-ghost use Rattle.pit_parts.specs.PlanKept.{IsAxis};
+ghost use Rattle.plan_parts.specs.PlanKept.{IsAxis};
 ghost use Rattle.pit_units.specs.Decimal.{decimal_within};
 ghost use Rattle.zone_csv.specs.Cell.{a_fault, greatest, least};
 ghost use Rattle.zone_csv.specs.Row.{index_said, number_said, size_said};
 ghost use Rattle.zone_csv.specs.SpelledRow.{IsInGrid};
 ghost use Rattle.zone_csv.specs.inner.RowAnswers.{in_row};
-ghost use Rattle.pit_parts.specs.declared.ranges.TheConstants.{GRID_CELLS};
+ghost use Rattle.plan_parts.specs.declared.ranges.TheConstants.{GRID_CELLS};
 
 use crate::row_fault::{Column, RowFault, RowFaultKind};
-use pit_parts::grid::Axis;
-use pit_parts::ranges::GRID_CELLS;
 use pit_units::{Dec, DecFault, parse_within};
+use plan_parts::grid::Axis;
+use plan_parts::ranges::GRID_CELLS;
 
 #[inline(always)]
 pub(crate) fn a_fault(row: u32, column: Column, kind: RowFaultKind) -> RowFault

@@ -2,10 +2,10 @@
 
 ghost use Rattle.std.specs.Prelude.{◌≡◌, ◌<◌, ◌⊎◌, ◌↔◌, ℕ, ℤ, true, List, Option, Result, Ok, Err, None, Some};
 ghost use Rattle.pit_units.specs.declared.or_memory.OrMemory.{OrMemory};
-ghost use Rattle.pit_parts.specs.declared.grid.Axis.{Axis as AnAxis};
-ghost use Rattle.pit_parts.specs.declared.grid.Grid.{Grid as AGrid};
+ghost use Rattle.plan_parts.specs.declared.grid.Axis.{Axis as AnAxis};
+ghost use Rattle.plan_parts.specs.declared.grid.Grid.{Grid as AGrid};
 ghost use Rattle.records.specs.Records.{records_of};
-ghost use Rattle.pit_parts.specs.declared.block.Block.{Block};
+ghost use Rattle.plan_parts.specs.declared.block.Block.{Block};
 ghost use Rattle.zone_csv.specs.Cell.{index_at, is_on_step};
 ghost use Rattle.zone_csv.specs.Header.{columns_of};
 ghost use Rattle.zone_csv.specs.NamedColumns.{NamesColumns};
@@ -17,7 +17,7 @@ ghost use Rattle.zone_csv.specs.ZoneReaderView.{Answers, ZoneReaderView};
 ghost use Rattle.zone_csv.specs.ZoneStates.{HeaderFails, ZoneStates};
 ghost use Rattle.zone_csv.specs.declared.columns.Columns.{Columns as FiveColumns};
 ghost use Rattle.zone_csv.specs.declared.row_fault.RowFault.{RowFault};
-ghost use Rattle.pit_parts.specs.declared.ranges.TheConstants.{GRID_CELLS, MAX_ZONES};
+ghost use Rattle.plan_parts.specs.declared.ranges.TheConstants.{GRID_CELLS, MAX_ZONES};
 
 /// A zone file has at most a million blocks, all of its own zone. Each record behind the header is a block, up to the record of
 /// the fault, if there is one.

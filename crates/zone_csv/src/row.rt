@@ -2,18 +2,18 @@
 
 ghost use Rattle.std.specs.Prelude.{◌≡◌, ◌+◌, ◌<◌, ◌≤◌, OnOk};
 ghost use Rattle.csv.specs.Records.{fields_of};
-ghost use Rattle.pit_parts.specs.PlanKept.{IsGrid};
+ghost use Rattle.plan_parts.specs.PlanKept.{IsGrid};
 ghost use Rattle.zone_csv.specs.Row.{row_of};
 ghost use Rattle.zone_csv.specs.inner.RowAnswers.{in_row};
-ghost use Rattle.pit_parts.specs.declared.ranges.TheConstants.{MAX_ROWS, MAX_ZONES};
+ghost use Rattle.plan_parts.specs.declared.ranges.TheConstants.{MAX_ROWS, MAX_ZONES};
 
 use crate::cell::{ColumnFault, index_of, millionths_in};
 use crate::columns::Columns;
 use crate::row_fault::{Column, RowFaultKind};
 use csv::ByteRecord;
-use pit_parts::block::Block;
-use pit_parts::grid::Grid;
-use pit_parts::ranges::{MAX_GRADE, MAX_KG, MAX_ROWS};
+use plan_parts::block::Block;
+use plan_parts::grid::Grid;
+use plan_parts::ranges::{MAX_GRADE, MAX_KG, MAX_ROWS};
 use records::cells::cell_at;
 
 // The number of the last record that may hold a block: the header is record 1, and a file has at most 1,000,000 blocks.

@@ -1,26 +1,26 @@
 //! The reader of a zone file.
 
 ghost use Rattle.std.specs.Prelude.{◌≡◌, ◌⊎◌, ◌↔◌, ◌+◌, ◌<◌, ◌≤◌, List, length, None, Some, Err, IfOk, IfSome};
-ghost use Rattle.pit_parts.specs.PlanKept.{IsGrid};
+ghost use Rattle.plan_parts.specs.PlanKept.{IsGrid};
 ghost use Rattle.zone_csv.specs.ZoneReaderView.{Ahead, Answers, blocks_left};
 ghost use Rattle.zone_csv.specs.Zone.{blocks_of, fault_of};
 ghost use Rattle.zone_csv.specs.ZoneKept.{HasFewBlocks, HasOwnBlocks};
 ghost use Rattle.zone_csv.specs.ZoneStates.{HeaderFails, ZoneStates};
 ghost use Rattle.zone_csv.specs.declared.row_fault.RowFault.{RowFault as ARowFault};
-ghost use Rattle.pit_parts.specs.declared.block.Block.{Block as ABlock};
+ghost use Rattle.plan_parts.specs.declared.block.Block.{Block as ABlock};
 ghost use Rattle.records.specs.Records.{records_of};
 ghost use Rattle.zone_csv.specs.inner.ReaderStages.{reader_view, IsCounted};
-ghost use Rattle.pit_parts.specs.declared.ranges.TheConstants.{MAX_ROWS, MAX_ZONES};
+ghost use Rattle.plan_parts.specs.declared.ranges.TheConstants.{MAX_ROWS, MAX_ZONES};
 
 use crate::cell::{ColumnFault, a_fault};
 use crate::columns::{Columns, columns_of};
 use crate::row::row_of;
 use crate::row_fault::{Column, RowFault, RowFaultKind};
 use csv::ByteRecord;
-use pit_parts::block::Block;
-use pit_parts::grid::Grid;
-use pit_parts::plan::Plan;
 use pit_units::OrMemory;
+use plan_parts::block::Block;
+use plan_parts::grid::Grid;
+use plan_parts::plan::Plan;
 use records::RecordReader;
 use std::alloc::Global;
 use std::io::Cursor;
@@ -54,10 +54,10 @@ pub struct ZoneReader {
 
 impl Model for ZoneReader {
     ghost use Rattle.std.specs.Prelude.{◌<◌};
-    ghost use Rattle.pit_parts.specs.PlanKept.{IsGrid};
+    ghost use Rattle.plan_parts.specs.PlanKept.{IsGrid};
     ghost use Rattle.zone_csv.specs.ZoneReaderView.{ZoneReaderView};
     ghost use Rattle.zone_csv.specs.inner.ReaderStages.{reader_view, IsCounted};
-    ghost use Rattle.pit_parts.specs.declared.ranges.TheConstants.{MAX_ZONES};
+    ghost use Rattle.plan_parts.specs.declared.ranges.TheConstants.{MAX_ZONES};
 
     ghost Value = { ZoneReaderView };
 

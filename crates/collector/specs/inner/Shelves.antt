@@ -14,7 +14,7 @@ use Rattle.collector.specs.Fault.{is_after}
 use Rattle.collector.specs.Lists.{IsOpen}
 use Rattle.collector.specs.inner.WithAt.{with_at}
 use Rattle.collector.specs.Found.{row_at, end_at, has_past}
-use Rattle.pit_parts.specs.declared.ranges.TheConstants.{MAX_ROWS}
+use Rattle.plan_parts.specs.declared.ranges.TheConstants.{MAX_ROWS}
 
 -- the row itself, if it is of this place
 abbrev pub if_at : ℕ → Valued → Option Valued

@@ -19,7 +19,7 @@ use Rattle.lane.specs.Rule.{IsLane, put_parts, take_parts}
 use Rattle.lane.specs.Steps.{full_view, IsFull}
 use Rattle.lane.specs.EndFields.{lane_at, sent_in, took_in, sent_lists, taken_lists, gathering_in}
 use Rattle.lane.specs.inner.Views.{IsOrdered, without_second, second_alone}
-use Rattle.pit_parts.specs.declared.ranges.TheConstants.{MAX_ROWS}
+use Rattle.plan_parts.specs.declared.ranges.TheConstants.{MAX_ROWS}
 
 -- the channel is the lane's
 abbrev pub IsChannelOf : {Q M L A : Type 0} → Lane → Rows (Badge (Key Taken)) (Doing Taken (List Part)) Q M (Key Taken) L A → Type 0

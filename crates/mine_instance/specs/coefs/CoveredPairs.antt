@@ -1,9 +1,9 @@
 -- The coefficients of blocks at pairs of a destination and a resource, as they are found for all blocks at once.
 use Rattle.std.specs.Prelude.{ℕ, ◌*◌, ◌==◌, Bool, List, [], ℤ, pos, length, map, filter, if◌then◌else◌}
 use Rattle.std.specs.List.{list_any, flat_map, range_with_len, enumerate_from}
-use Rattle.pit_parts.specs.Plan.{PlanParts}
-use Rattle.pit_parts.specs.declared.block.Block.{Block}
-use Rattle.pit_parts.specs.declared.resource.Resource.{Resource}
+use Rattle.plan_parts.specs.Plan.{PlanParts}
+use Rattle.plan_parts.specs.declared.block.Block.{Block}
+use Rattle.plan_parts.specs.declared.resource.Resource.{Resource}
 use Rattle.mine_instance.specs.declared.coefs.coef.Coef.{Coef}
 
 -- the resource covers the destination

@@ -1,6 +1,6 @@
 -- What a CPIT is: its parts.
 use Rattle.std.specs.Prelude.{ℕ, ℤ, List}
-use Rattle.pit_parts.specs.declared.limit.Limit.{Limit}
+use Rattle.plan_parts.specs.declared.limit.Limit.{Limit}
 use Rattle.mine_instance.specs.declared.coefs.coef.Coef.{Coef}
 
 pub record CpitParts : Type 0 where

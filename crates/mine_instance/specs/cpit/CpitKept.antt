@@ -1,9 +1,9 @@
 -- What every CPIT keeps.
 use Rattle.std.specs.Prelude.{ℕ, ◌≤◌, ℤ, List, length}
-use Rattle.pit_parts.specs.declared.limit.Limit.{Limit}
+use Rattle.plan_parts.specs.declared.limit.Limit.{Limit}
 use Rattle.mine_instance.specs.Valid.{IsHorizon, AreCoefs, AreLimits}
 use Rattle.mine_instance.specs.declared.coefs.coef.Coef.{Coef}
-use Rattle.pit_parts.specs.declared.ranges.TheConstants.{MAX_BLOCKS}
+use Rattle.plan_parts.specs.declared.ranges.TheConstants.{MAX_BLOCKS}
 use Rattle.mine_instance.specs.cpit.Cpit.{CpitParts}
 
 -- a CPIT by its parts

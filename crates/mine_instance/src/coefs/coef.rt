@@ -4,8 +4,8 @@ ghost use Rattle.std.specs.Prelude.{◌≡◌};
 ghost use Rattle.mine_instance.specs.Order.{coef_before};
 
 use crate::rising::Ordered;
-use pit_parts::listed::Listed;
 use pit_units::Dec;
+use plan_parts::listed::Listed;
 
 /// The tonnes of a block that a resource handles where the block goes to a destination.
 #[derive(Clone, Copy, Debug, PartialEq, Eq)]

@@ -3,12 +3,12 @@
 ghost use Rattle.std.specs.Prelude.{◌≡◌, ◌*◌, ◌≤◌, ◌++◌, pos, IfOk, OnOk, length};
 ghost use Rattle.mine_instance.specs.coefs.CoveredPairs.{coefs_of};
 ghost use Rattle.mine_instance.specs.inner.FoundCoefFields.{heavy_of, heavy_one};
-ghost use Rattle.pit_parts.specs.declared.ranges.TheConstants.{MAX_BLOCKS, MAX_DESTINATIONS, MAX_RESOURCES};
+ghost use Rattle.plan_parts.specs.declared.ranges.TheConstants.{MAX_BLOCKS, MAX_DESTINATIONS, MAX_RESOURCES};
 
 use crate::coefs::group::{CoefGroup, Covering, Pairs};
 use crate::coefs::list::CoefList;
-use pit_parts::block::Block;
 use pit_units::Dec;
+use plan_parts::block::Block;
 use std::alloc::{AllocError, Global};
 use std::marker::Model;
 

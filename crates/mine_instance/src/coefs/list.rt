@@ -5,7 +5,7 @@ ghost use Rattle.mine_instance.specs.coefs.Groups.{coefs_in, pairs_of};
 
 use crate::coefs::coef::Coef;
 use crate::coefs::group::{CoefGroup, Pairs};
-use pit_parts::listed::Listed;
+use plan_parts::listed::Listed;
 
 /// A list of coefficients. `Coefs` keeps them and lends them, and `FoundCoefs` finds them when they are asked for.
 pub trait CoefList {

@@ -3,7 +3,7 @@
 ghost use Rattle.std.specs.Prelude.{◌≡◌, ◌<◌, List, [], length, map, slice_index_or, All};
 ghost use Rattle.mine_instance.specs.OfModel.{in_hundreds, values_of};
 ghost use Rattle.mine_instance.specs.WorthsOf.{AreWorthsOf};
-ghost use Rattle.pit_parts.specs.Plan.{PlanParts};
+ghost use Rattle.plan_parts.specs.Plan.{PlanParts};
 ghost use Rattle.precedence.specs.Identifier.{blocks_of_rows};
 ghost use Rattle.precedence.specs.Numbering.{IsNumbering, NumberingView};
 ghost use Rattle.rows.specs.declared.item.Valued.{Valued as ARow};

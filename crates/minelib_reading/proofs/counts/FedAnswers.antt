@@ -3,7 +3,7 @@ use Rattle.std.specs.Prelude.{Err, List, Ok, Option, sum_by, ℕ}
 use Rattle.std.proofs.Common.{[], ap, length, sym, ◌∙◌, ◌≡◌}
 use Rattle.pit_units.specs.Steps.{◌>>=◌}
 use Rattle.pit_units.specs.declared.or_memory.OrMemory.TheVariants.{Fault}
-use Rattle.pit_parts.specs.declared.block.Block.{Block}
+use Rattle.plan_parts.specs.declared.block.Block.{Block}
 use Rattle.text_lines.specs.Fed.{IsFedReading}
 use Rattle.text_lines.specs.TextLines.{end_of}
 use Rattle.text_lines.specs.declared.text_fault.LineFault.{LineFault}

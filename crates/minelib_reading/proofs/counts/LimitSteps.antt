@@ -4,9 +4,9 @@ use Rattle.std.proofs.Common.{[], ap, arith, false, length, refl, true, ◌∙�
 use Rattle.std.proofs.lemmas.Bool.{eqb-true}
 use Rattle.std.specs.Str.{bytes_eq}
 use Rattle.pit_units.specs.Steps.{◌>>=◌}
-use Rattle.pit_parts.specs.declared.limit.Bound.{Bound}
-use Rattle.pit_parts.specs.declared.limit.Bound.TheVariants.{AtLeast, AtMost, Between}
-use Rattle.pit_parts.specs.declared.limit.Limit.{Limit}
+use Rattle.plan_parts.specs.declared.limit.Bound.{Bound}
+use Rattle.plan_parts.specs.declared.limit.Bound.TheVariants.{AtLeast, AtMost, Between}
+use Rattle.plan_parts.specs.declared.limit.Limit.{Limit}
 use Rattle.text_lines.specs.FieldValues.{first_by}
 use Rattle.text_lines.specs.StatedFields.{below_in, decimal_in, field_at}
 use Rattle.text_lines.specs.declared.text_fault.TextKind.{TextKind}

@@ -11,12 +11,12 @@ use Rattle.pit_units.proofs.Multiples.{stands_multiple}
 use Rattle.pit_units.specs.SpelledNumbers.{SpellsBelow, SpellsSize}
 use Rattle.pit_units.specs.StandsFor.{StandsFor}
 use Rattle.pit_units.specs.Steps.{◌>>=◌}
-use Rattle.pit_parts.proofs.BlockFacts.{block_again, block_parts}
-use Rattle.pit_parts.specs.Block.{block_with}
-use Rattle.pit_parts.specs.declared.block.Block.{Block}
-use Rattle.pit_parts.specs.declared.limit.Bound.{Bound}
-use Rattle.pit_parts.specs.declared.limit.Bound.TheVariants.{AtLeast, AtMost, Between}
-use Rattle.pit_parts.specs.declared.limit.Limit.{Limit}
+use Rattle.plan_parts.proofs.BlockFacts.{block_again, block_parts}
+use Rattle.plan_parts.specs.Block.{block_with}
+use Rattle.plan_parts.specs.declared.block.Block.{Block}
+use Rattle.plan_parts.specs.declared.limit.Bound.{Bound}
+use Rattle.plan_parts.specs.declared.limit.Bound.TheVariants.{AtLeast, AtMost, Between}
+use Rattle.plan_parts.specs.declared.limit.Limit.{Limit}
 use Rattle.mine_instance.specs.declared.coefs.coef.Coef.{Coef}
 use Rattle.text_lines.proofs.FieldFacts.{any, below, each, size}
 use Rattle.text_lines.specs.StatedFields.{decimal_in, field_at}

@@ -4,9 +4,9 @@ use Rattle.std.proofs.Common.{[], arith, false, refl, subst, sym, ◌∷◌, ◌
 use Rattle.std.specs.List.{AllZip, list_any}
 use Rattle.pit_units.specs.SpelledNumbers.{SpellsBelow}
 use Rattle.pit_units.specs.StandsFor.{StandsFor}
-use Rattle.pit_parts.specs.declared.limit.Bound.{Bound}
-use Rattle.pit_parts.specs.declared.limit.Bound.TheVariants.{AtLeast, AtMost, Between}
-use Rattle.pit_parts.specs.declared.limit.Limit.{Limit}
+use Rattle.plan_parts.specs.declared.limit.Bound.{Bound}
+use Rattle.plan_parts.specs.declared.limit.Bound.TheVariants.{AtLeast, AtMost, Between}
+use Rattle.plan_parts.specs.declared.limit.Limit.{Limit}
 use Rattle.mine_instance.specs.declared.coefs.coef.Coef.{Coef}
 use Rattle.text_lines.proofs.PlainText.{EachField, IsField, all_weaker, is_plain, none_from_all}
 use Rattle.text_lines.specs.StatedFields.{field_at}

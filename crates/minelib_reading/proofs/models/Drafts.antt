@@ -1,7 +1,7 @@
 -- What was read of a model file up to a section.
 use Rattle.std.specs.Prelude.{List, ℕ, ℤ}
 use Rattle.std.proofs.Common.{[]}
-use Rattle.pit_parts.specs.declared.limit.Limit.{Limit}
+use Rattle.plan_parts.specs.declared.limit.Limit.{Limit}
 use Rattle.mine_instance.specs.declared.coefs.coef.Coef.{Coef}
 use Rattle.minelib_lines.specs.declared.problem.Problem.{Problem}
 use Rattle.minelib_reading.specs.ModelDraft.{ModelDraftView}

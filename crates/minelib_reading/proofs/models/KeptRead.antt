@@ -6,9 +6,9 @@ use Rattle.std.proofs.lemmas.List.Elements.{All-cons, All-nil}
 use Rattle.std.specs.List.{AllZip}
 use Rattle.pit_units.specs.DecimalRange.{IsInDecimalRange}
 use Rattle.pit_units.specs.StandsFor.{StandsFor}
-use Rattle.pit_parts.specs.PlanKept.{is_turned}
-use Rattle.pit_parts.specs.declared.limit.Bound.{Bound}
-use Rattle.pit_parts.specs.declared.limit.Bound.TheVariants.{AtLeast, AtMost, Between}
+use Rattle.plan_parts.specs.PlanKept.{is_turned}
+use Rattle.plan_parts.specs.declared.limit.Bound.{Bound}
+use Rattle.plan_parts.specs.declared.limit.Bound.TheVariants.{AtLeast, AtMost, Between}
 use Rattle.mine_instance.specs.Instance.{Instance}
 use Rattle.mine_instance.specs.Kept.{HasDecimals, IsKept, IsKeptCpit}
 use Rattle.mine_instance.specs.cpit.Cpit.{CpitParts}

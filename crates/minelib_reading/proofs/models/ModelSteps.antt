@@ -3,8 +3,8 @@ use Rattle.std.specs.Prelude.{Bool, Err, List, Ok, Result, if◌then◌else◌, 
 use Rattle.std.proofs.Common.{[], arith, false, length, refl, subst, sym, true, ◌++◌, ◌∷◌, ◌≡◌}
 use Rattle.std.proofs.lemmas.List.{nil_from_length}
 use Rattle.pit_units.proofs.Exactly.{Exactly, counted, done, tested, then_}
-use Rattle.pit_parts.specs.PlanKept.{is_turned, stands_before}
-use Rattle.pit_parts.specs.declared.limit.Limit.{Limit}
+use Rattle.plan_parts.specs.PlanKept.{is_turned, stands_before}
+use Rattle.plan_parts.specs.declared.limit.Limit.{Limit}
 use Rattle.mine_instance.specs.Order.{coef_before}
 use Rattle.mine_instance.specs.declared.coefs.coef.Coef.{Coef}
 use Rattle.text_lines.specs.StatedFields.{field_at}

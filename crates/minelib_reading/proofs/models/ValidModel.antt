@@ -5,9 +5,9 @@ use Rattle.std.proofs.lemmas.List.{length-drop}
 use Rattle.std.proofs.lemmas.List.Elements.{All-contains}
 use Rattle.std.specs.List.{AllZip}
 use Rattle.pit_units.specs.StandsFor.{StandsFor}
-use Rattle.pit_parts.specs.Name.{is_name}
-use Rattle.pit_parts.specs.PlanKept.{is_turned}
-use Rattle.pit_parts.specs.declared.ranges.TheConstants.{MAX_DESTINATIONS}
+use Rattle.plan_parts.specs.Name.{is_name}
+use Rattle.plan_parts.specs.PlanKept.{is_turned}
+use Rattle.plan_parts.specs.declared.ranges.TheConstants.{MAX_DESTINATIONS}
 use Rattle.mine_instance.specs.Valid.{AreCoefs, AreLimits, HasDestinations, IsHorizon}
 use Rattle.mine_instance.specs.declared.coefs.coef.Coef.{Coef}
 use Rattle.text_lines.specs.TextLines.{Line, fields_of}

@@ -2,7 +2,7 @@
 use Rattle.std.specs.Prelude.{List, Ok, slice_index_or, ℕ}
 use Rattle.std.proofs.Common.{[], arith, length, refl, subst, sym, ◌+◌, ◌<◌, ◌∙◌, ◌∷◌, ◌≡◌, ◌≤◌}
 use Rattle.std.proofs.lemmas.List.{length-map}
-use Rattle.pit_parts.specs.declared.block.Block.{Block}
+use Rattle.plan_parts.specs.declared.block.Block.{Block}
 use Rattle.mine_instance.specs.Instance.{Instance}
 use Rattle.mine_instance.specs.Valid.{AreCoefs, ArePredsOf, IsValid}
 use Rattle.mine_instance.specs.cpit.Cpit.{CpitParts}

@@ -3,7 +3,7 @@ use Rattle.std.specs.Prelude.{List, Ok, pos, ℕ, ℤ}
 use Rattle.std.proofs.Common.{All, [], ap, arith, length, map, refl, subst, sym, ◌∙◌, ◌∷◌, ◌≡◌}
 use Rattle.std.proofs.lemmas.List.Elements.{All-head, All-tail}
 use Rattle.std.specs.List.{flat_map}
-use Rattle.pit_parts.specs.declared.block.Block.{Block}
+use Rattle.plan_parts.specs.declared.block.Block.{Block}
 use Rattle.mine_instance.specs.Instance.{Instance}
 use Rattle.mine_instance.specs.cpit.Cpit.{CpitParts}
 use Rattle.mine_instance.specs.cpit.CpitKept.{cpit_of}

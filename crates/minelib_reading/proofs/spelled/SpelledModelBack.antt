@@ -3,8 +3,8 @@ use Rattle.std.specs.Prelude.{AllPairs, List, Ok, is_some, not, pos, unwrap_or, 
 use Rattle.std.proofs.Common.{Some, [], ap, arith, false, inl, inr, length, refl, subst, suc, sym, true, ◌++◌, ◌+◌, ◌∙◌, ◌∷◌, ◌≡◌}
 use Rattle.std.proofs.lemmas.Bool.{cases_Bool, eq-eqb}
 use Rattle.std.specs.List.{Contains}
-use Rattle.pit_parts.specs.PlanKept.{is_turned, stands_before}
-use Rattle.pit_parts.specs.declared.limit.Limit.{Limit}
+use Rattle.plan_parts.specs.PlanKept.{is_turned, stands_before}
+use Rattle.plan_parts.specs.declared.limit.Limit.{Limit}
 use Rattle.mine_instance.specs.Order.{coef_before}
 use Rattle.mine_instance.specs.declared.coefs.coef.Coef.{Coef}
 use Rattle.text_lines.proofs.LinesRead.{line_then, lines_then}

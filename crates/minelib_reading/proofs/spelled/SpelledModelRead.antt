@@ -3,8 +3,8 @@ use Rattle.std.specs.Prelude.{AllPairs, Err, IsTrue, List, Ok, Result, ℕ, ℤ,
 use Rattle.std.proofs.Common.{[], ap, append-nil, append_assoc, arith, false, length, length-append, refl, subst, sym, true, ◌++◌, ◌+◌, ◌∙◌, ◌∷◌, ◌≡◌, ◌≤◌}
 use Rattle.std.proofs.lemmas.Bool.{and_parts, eqb-true}
 use Rattle.pit_units.specs.Steps.{◌>>=◌}
-use Rattle.pit_parts.specs.PlanKept.{RiseStrictly, is_turned, stands_before}
-use Rattle.pit_parts.specs.declared.limit.Limit.{Limit}
+use Rattle.plan_parts.specs.PlanKept.{RiseStrictly, is_turned, stands_before}
+use Rattle.plan_parts.specs.declared.limit.Limit.{Limit}
 use Rattle.mine_instance.proofs.OrderLaws.{coef_before_is_transitive, stands_before_is_transitive}
 use Rattle.mine_instance.specs.Order.{coef_before}
 use Rattle.mine_instance.specs.declared.coefs.coef.Coef.{Coef}

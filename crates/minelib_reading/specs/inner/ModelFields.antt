@@ -7,7 +7,7 @@ use Rattle.minelib_reading.specs.declared.model.key.Section.{Section}
 use Rattle.minelib_reading.specs.inner.ModelParts.{number_limit}
 use Rattle.minelib_lines.specs.declared.header_key.HeaderKey.{HeaderKey}
 use Rattle.minelib_lines.specs.declared.header_key.HeaderKey.TheVariants as key
-use Rattle.pit_parts.specs.declared.ranges.TheConstants.{MAX_BLOCKS}
+use Rattle.plan_parts.specs.declared.ranges.TheConstants.{MAX_BLOCKS}
 
 -- numbers are below the limits of their keys, values stand behind the header alone, and each block has one for each destination
 pub record KeepsModel (blocks : ℕ) (header : Header) (section : Section) (values : List (List ℤ)) : Type 0 where

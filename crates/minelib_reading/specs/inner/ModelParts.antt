@@ -3,7 +3,7 @@ use Rattle.std.specs.Prelude.{◌≡◌, ℕ, ◌/◌, ◌^◌, ◌==◌, ◌≤
 use Rattle.std.specs.Borrow.{Bor}
 use Rattle.std.specs.Str.{bytes_eq}
 use Rattle.pit_units.specs.Steps.{◌>>=◌}
-use Rattle.pit_parts.specs.Name.{is_name}
+use Rattle.plan_parts.specs.Name.{is_name}
 use Rattle.minelib_lines.specs.HeaderKeys.{type_text}
 use Rattle.minelib_lines.specs.declared.header_key.HeaderKey.{HeaderKey}
 use Rattle.minelib_lines.specs.declared.header_key.HeaderKey.TheVariants as key

@@ -2,9 +2,9 @@
 use Rattle.std.specs.Prelude.{ℕ, ◌==◌, not, List, [], ◌∷◌, length, ℤ, Result, Ok, Err, if◌then◌else◌, codes, slice_index_or}
 use Rattle.std.specs.Str.{bytes_eq}
 use Rattle.pit_units.specs.Steps.{◌>>=◌}
-use Rattle.pit_parts.specs.declared.limit.Bound.{Bound}
-use Rattle.pit_parts.specs.declared.limit.Bound.TheVariants.{AtMost, AtLeast, Between}
-use Rattle.pit_parts.specs.declared.limit.Limit.{Limit}
+use Rattle.plan_parts.specs.declared.limit.Bound.{Bound}
+use Rattle.plan_parts.specs.declared.limit.Bound.TheVariants.{AtMost, AtLeast, Between}
+use Rattle.plan_parts.specs.declared.limit.Limit.{Limit}
 use Rattle.mine_instance.specs.declared.coefs.coef.Coef.{Coef}
 use Rattle.text_lines.specs.FieldValues.{all_by, first_by}
 use Rattle.text_lines.specs.StatedFields.{decimal_in, below_in}

@@ -3,11 +3,11 @@ use Rattle.std.specs.Prelude.{◌≡◌, ℕ, ◌+◌, ◌*◌, ◌≤◌, List,
 use Rattle.std.specs.List.{AllZip}
 use Rattle.pit_units.specs.SpelledNumbers.{SpellsBelow, SpellsSize}
 use Rattle.pit_units.specs.StandsFor.{StandsFor}
-use Rattle.pit_parts.specs.declared.block.Block.{Block}
-use Rattle.pit_parts.specs.declared.limit.Bound.{Bound}
-use Rattle.pit_parts.specs.declared.limit.Bound.TheVariants.{AtMost, AtLeast, Between}
-use Rattle.pit_parts.specs.declared.limit.Limit.{Limit}
-use Rattle.pit_parts.specs.declared.ranges.TheConstants.{GRID_CELLS, MAX_BLOCKS, MAX_GRADE, MAX_KG, MAX_ZONES}
+use Rattle.plan_parts.specs.declared.block.Block.{Block}
+use Rattle.plan_parts.specs.declared.limit.Bound.{Bound}
+use Rattle.plan_parts.specs.declared.limit.Bound.TheVariants.{AtMost, AtLeast, Between}
+use Rattle.plan_parts.specs.declared.limit.Limit.{Limit}
+use Rattle.plan_parts.specs.declared.ranges.TheConstants.{GRID_CELLS, MAX_BLOCKS, MAX_GRADE, MAX_KG, MAX_ZONES}
 use Rattle.mine_instance.specs.Valid.{ArePredsOf}
 use Rattle.mine_instance.specs.declared.coefs.coef.Coef.{Coef}
 use Rattle.minelib_lines.specs.declared.problem.Problem.{Problem}

@@ -3,9 +3,9 @@
 use Rattle.std.specs.Prelude.{◌≡◌, ◌≢◌, ℕ, ◌+◌, true, false, List, [], ◌∷◌, ◌++◌, length, AllPairs, IsTrue, pos, Ok}
 use Rattle.std.specs.List.{Contains}
 use Rattle.pit_units.specs.SpelledNumbers.{SpellsBelow, SpellsNumber, SpellsWhole}
-use Rattle.pit_parts.specs.Name.{is_name}
-use Rattle.pit_parts.specs.PlanKept.{RiseStrictly, is_turned}
-use Rattle.pit_parts.specs.declared.ranges.TheConstants.{MAX_BLOCKS, MAX_DESTINATIONS, MAX_PERIODS, MAX_RATE, MAX_RESOURCES}
+use Rattle.plan_parts.specs.Name.{is_name}
+use Rattle.plan_parts.specs.PlanKept.{RiseStrictly, is_turned}
+use Rattle.plan_parts.specs.declared.ranges.TheConstants.{MAX_BLOCKS, MAX_DESTINATIONS, MAX_PERIODS, MAX_RATE, MAX_RESOURCES}
 use Rattle.mine_instance.specs.Order.{coef_before}
 use Rattle.text_lines.specs.Reading.{read_lines}
 use Rattle.text_lines.specs.TextLines.{Line, fields_of, lines_in, end_of}

@@ -14,8 +14,8 @@ ghost use Rattle.minelib_reading.specs.declared.model.key.Section.TheVariants as
 ghost use Rattle.pit_units.specs.OrMemory.{Gives};
 ghost use Rattle.text_lines.specs.Reading.{Leaves};
 ghost use Rattle.text_lines.specs.TextLines.{fields_of};
-ghost use Rattle.pit_parts.specs.Name.{is_name};
-ghost use Rattle.pit_parts.specs.declared.ranges.TheConstants.{MAX_BLOCKS};
+ghost use Rattle.plan_parts.specs.Name.{is_name};
+ghost use Rattle.plan_parts.specs.declared.ranges.TheConstants.{MAX_BLOCKS};
 
 use crate::kept::KeptItems;
 use crate::model::header::{blank_header, number_in};
@@ -30,9 +30,9 @@ use mine_instance::instance::Instance;
 use mine_instance::limits::Limits;
 use minelib_lines::header_key::HeaderKey;
 use minelib_lines::problem::Problem;
-use pit_parts::limit::Limit;
-use pit_parts::name::Name;
 use pit_units::{Dec, OrMemory};
+use plan_parts::limit::Limit;
+use plan_parts::name::Name;
 use precedence::Preds;
 use std::alloc::{AllocError, Global};
 use std::marker::Model;

@@ -9,8 +9,8 @@ use crate::model::key::Header;
 use crate::model::key_lines::is_exactly;
 use minelib_lines::header_key::{HeaderKey, KeyField};
 use minelib_lines::problem::Problem;
-use pit_parts::name::is_name;
 use pit_units::{MILLIONTHS, parse_within};
+use plan_parts::name::is_name;
 use text_lines::text_fault::TextKind;
 
 /// The header before its first key.

@@ -1,7 +1,7 @@
 //! The lines of a model file's sections.
 
 ghost use Rattle.std.specs.Prelude.{◌≡◌, ◌≤◌, ◌<◌, ◌+◌, ◌∷◌, [], length, drop, slice_index_or, IfOk, OnOk};
-ghost use Rattle.pit_parts.specs.PlanKept.{stands_before};
+ghost use Rattle.plan_parts.specs.PlanKept.{stands_before};
 ghost use Rattle.mine_instance.specs.Order.{coef_before};
 ghost use Rattle.text_lines.specs.FieldValues.{Takes, all_by, first_by};
 ghost use Rattle.text_lines.specs.StatedFields.{decimal_in};
@@ -12,13 +12,13 @@ ghost use Rattle.text_lines.specs.Reading.{Leaves};
 ghost use Rattle.text_lines.specs.TextLines.{fields_of};
 ghost use Rattle.text_lines.specs.inner.Taken.{AdmitsCounted};
 ghost use Rattle.minelib_reading.specs.inner.UncountedItems.{bound_in, coef_width, destination_in, interval_in, limit_width, uncounted_coef};
-ghost use Rattle.pit_parts.specs.declared.ranges.TheConstants.{MAX_BLOCKS};
+ghost use Rattle.plan_parts.specs.declared.ranges.TheConstants.{MAX_BLOCKS};
 
 use crate::model::key_lines::is_exactly;
 use mine_instance::coefs::coef::Coef;
 use minelib_lines::problem::Problem;
-use pit_parts::limit::{Bound, Limit};
 use pit_units::{Dec, OrMemory};
+use plan_parts::limit::{Bound, Limit};
 use text_lines::field_values::decimal_in;
 use text_lines::text_fault::TextKind;
 use text_lines::text_fields::{

@@ -9,9 +9,9 @@ ghost use Rattle.minelib_writing.specs.Written.{block_line, bound_fields, limit_
 
 use crate::fields::{put_decimal_to, put_text, put_whole_to};
 use crate::lines::Line;
-use pit_parts::block::Block;
-use pit_parts::limit::{Bound, Limit};
 use pit_units::Dec;
+use plan_parts::block::Block;
+use plan_parts::limit::{Bound, Limit};
 use std::alloc::{AllocError, Global};
 
 impl Line for Block {

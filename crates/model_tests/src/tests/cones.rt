@@ -5,7 +5,7 @@ ghost use Rattle.precedence.specs.Zones.{HasZones};
 
 use pit_model::plan::Plan;
 use pit_model::read_plan;
-use pit_parts::block::Block;
+use plan_parts::block::Block;
 use precedence::{Numbering, Preds, number_blocks, preds};
 use std::alloc::Global;
 use std::test::Fail;

@@ -2,13 +2,13 @@
 
 use pit_model::plan::Plan;
 use pit_model::read_plan;
-use pit_parts::cone::{Cone, Slope};
-use pit_parts::formulas::formula::{Formula, NamedFormula};
-use pit_parts::grid::{Axis, Grid};
-use pit_parts::limit::{Bound, Limit};
-use pit_parts::name::Name;
-use pit_parts::resource::Resource;
 use pit_units::Dec;
+use plan_parts::cone::{Cone, Slope};
+use plan_parts::formulas::formula::{Formula, NamedFormula};
+use plan_parts::grid::{Axis, Grid};
+use plan_parts::limit::{Bound, Limit};
+use plan_parts::name::Name;
+use plan_parts::resource::Resource;
 use std::alloc::{AllocError, Global};
 use std::test::Fail;
 

@@ -2,8 +2,8 @@
 
 use pit_model::plan::Plan;
 use pit_model::read_plan;
-use pit_parts::block::Block;
 use pit_units::OrMemory;
+use plan_parts::block::Block;
 use std::alloc::Global;
 use std::test::Fail;
 use zone_csv::row_fault::{Column, RowFault, RowFaultKind};

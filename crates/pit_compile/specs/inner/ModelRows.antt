@@ -1,10 +1,10 @@
 -- Rows as the zone files of a plan can have them.
 use Rattle.std.specs.Prelude.{◌≡◌, ◌<◌, ◌≤◌, List, length, All}
-use Rattle.pit_parts.specs.PlanFormulas.{formulas_of_plan}
-use Rattle.pit_parts.specs.Plan.{PlanParts}
+use Rattle.plan_parts.specs.PlanFormulas.{formulas_of_plan}
+use Rattle.plan_parts.specs.Plan.{PlanParts}
 use Rattle.rows.specs.Valued.{worths_by}
 use Rattle.rows.specs.declared.item.Valued.{Valued}
-use Rattle.pit_parts.specs.declared.ranges.TheConstants.{MAX_BLOCKS, MAX_ROWS}
+use Rattle.plan_parts.specs.declared.ranges.TheConstants.{MAX_BLOCKS, MAX_ROWS}
 
 -- the place of a row is one of its file's
 abbrev pub HasPlace : Valued → Type 0

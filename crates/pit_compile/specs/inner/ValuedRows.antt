@@ -1,10 +1,10 @@
 -- The rows of the zone files with their worths, as the valuers hand them on, and the first of them that repeats another.
 use Rattle.std.specs.Prelude.{◌≡◌, ℕ, ◌+◌, ◌<◌, List, [], ◌∷◌, ◌++◌, length, slice_index_or}
-use Rattle.pit_parts.specs.PlanFormulas.{formulas_of_plan}
-use Rattle.pit_parts.specs.Plan.{PlanParts}
-use Rattle.pit_parts.specs.declared.block.Block.{Block}
-use Rattle.pit_parts.specs.declared.formulas.formula.Formula.{Formula}
-use Rattle.pit_parts.specs.declared.grid.Grid.{Grid}
+use Rattle.plan_parts.specs.PlanFormulas.{formulas_of_plan}
+use Rattle.plan_parts.specs.Plan.{PlanParts}
+use Rattle.plan_parts.specs.declared.block.Block.{Block}
+use Rattle.plan_parts.specs.declared.formulas.formula.Formula.{Formula}
+use Rattle.plan_parts.specs.declared.grid.Grid.{Grid}
 use Rattle.precedence.specs.Identifier.{blocks_of_rows, IsFirstAgain}
 use Rattle.rows.specs.Valued.{row_by}
 use Rattle.rows.specs.declared.item.Valued.{Valued}

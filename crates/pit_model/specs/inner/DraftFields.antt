@@ -1,10 +1,10 @@
 -- How the fields of a plan that is being read are seen, and what they keep.
 use Rattle.std.specs.Prelude.{◌<◌, ◌≤◌, length, ◌≤ℤ◌, pos, All, IfSome, unwrap_or}
 use Rattle.pit_model.specs.declared.draft.Draft.TheInside.{Inside}
-use Rattle.pit_parts.specs.formulas.Formula.{IsRuled}
-use Rattle.pit_parts.specs.PlanKept.{IsGrid, IsCone, IsBound, AreCovers, RiseStrictly}
+use Rattle.plan_parts.specs.formulas.Formula.{IsRuled}
+use Rattle.plan_parts.specs.PlanKept.{IsGrid, IsCone, IsBound, AreCovers, RiseStrictly}
 use Rattle.pit_model.specs.Stated.{Stated}
-use Rattle.pit_parts.specs.declared.ranges.TheConstants.{MAX_DESTINATIONS, MAX_PERIODS, MAX_RATE, MAX_RESOURCES, MAX_ZONES}
+use Rattle.plan_parts.specs.declared.ranges.TheConstants.{MAX_DESTINATIONS, MAX_PERIODS, MAX_RATE, MAX_RESOURCES, MAX_ZONES}
 
 abbrev pub stated_of : Inside → Stated
 stated_of d = record {

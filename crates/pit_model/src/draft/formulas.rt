@@ -2,12 +2,12 @@
 
 ghost use Rattle.std.specs.Prelude.{◌≡◌, ◌≤◌, length, All};
 ghost use Rattle.pit_units.specs.OrMemory.{Gives};
-ghost use Rattle.pit_parts.specs.formulas.BandsKept.{IsBand};
-ghost use Rattle.pit_parts.specs.formulas.Formula.{IsRuled};
+ghost use Rattle.plan_parts.specs.formulas.BandsKept.{IsBand};
+ghost use Rattle.plan_parts.specs.formulas.Formula.{IsRuled};
 ghost use Rattle.pit_model.specs.DestinationRecords.{destination_more, destination_record, fresh_destination, fresh_leach, rising};
 ghost use Rattle.pit_model.specs.PlanKeys.{formula_key_of};
 ghost use Rattle.pit_model.specs.declared.draft.formulas.FormulaKey.TheVariants as key;
-ghost use Rattle.pit_parts.specs.declared.ranges.TheConstants.{MAX_COST, MAX_PRICE};
+ghost use Rattle.plan_parts.specs.declared.ranges.TheConstants.{MAX_COST, MAX_PRICE};
 
 use crate::band_cells::bands_in;
 use crate::cells::Cells;
@@ -15,11 +15,11 @@ use crate::draft::Draft;
 use crate::named::{has_destination, name_in};
 use crate::numbers::whole_in;
 use crate::plan_fault::PlanFaultKind;
-use pit_parts::formulas::band::{Band, Bands, starts_rise};
-use pit_parts::formulas::formula::{Formula, NamedFormula};
-use pit_parts::name::Name;
-use pit_parts::ranges::{MAX_BANDS, MAX_COST, MAX_DESTINATIONS, MAX_PRICE, MAX_RECOVERY};
 use pit_units::OrMemory;
+use plan_parts::formulas::band::{Band, Bands, starts_rise};
+use plan_parts::formulas::formula::{Formula, NamedFormula};
+use plan_parts::name::Name;
+use plan_parts::ranges::{MAX_BANDS, MAX_COST, MAX_DESTINATIONS, MAX_PRICE, MAX_RECOVERY};
 use records::cells::is_word;
 
 /// Which formula the record of a destination states.

@@ -2,16 +2,16 @@
 
 ghost use Rattle.std.specs.Prelude.{◌≡◌, IfOk};
 ghost use Rattle.pit_units.specs.OrMemory.{Gives};
-ghost use Rattle.pit_parts.specs.PlanKept.{IsCone, IsSlope};
+ghost use Rattle.plan_parts.specs.PlanKept.{IsCone, IsSlope};
 ghost use Rattle.pit_model.specs.PlanRecords.{equal_zone, sided_zone, slope_in, zone_more, zone_record};
 
 use crate::cells::Cells;
 use crate::draft::Draft;
 use crate::numbers::whole_in;
 use crate::plan_fault::PlanFaultKind;
-use pit_parts::cone::{Cone, Slope};
-use pit_parts::ranges::{MAX_BENCHES, MAX_SLOPE, MAX_ZONES};
 use pit_units::OrMemory;
+use plan_parts::cone::{Cone, Slope};
+use plan_parts::ranges::{MAX_BENCHES, MAX_SLOPE, MAX_ZONES};
 
 impl Draft {
     /// Adds the zone of a record.

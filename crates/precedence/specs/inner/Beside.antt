@@ -1,6 +1,6 @@
 -- Blocks that lie beside the rows of a cone along x.
 use Rattle.std.specs.Prelude.{◌≡◌, ℕ, ◌+◌, ◌*◌, ◌/◌, ◌%◌, ◌<◌, ◌≤◌, List, All, false, length, slice_index, slice_index_or, ◌⊎◌}
-use Rattle.pit_parts.specs.declared.ranges.TheConstants.{GRID_CELLS}
+use Rattle.plan_parts.specs.declared.ranges.TheConstants.{GRID_CELLS}
 use Rattle.precedence.specs.inner.Rows.{is_in_row}
 use Rattle.precedence.specs.declared.places.code.TheConstants.{ROW}
 use Rattle.precedence.specs.declared.places.span.Span.{Span}

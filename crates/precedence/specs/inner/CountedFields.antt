@@ -2,7 +2,7 @@
 use Rattle.std.specs.Prelude.{◌≡◌, ℕ, ◌*◌, ◌≤◌, List, length, map, sum_by}
 use Rattle.std.specs.Global.{Vec}
 use Rattle.precedence.specs.declared.lists.counted_preds.CountedPreds.TheInside.{Inside}
-use Rattle.pit_parts.specs.declared.ranges.TheConstants.{MAX_BLOCKS}
+use Rattle.plan_parts.specs.declared.ranges.TheConstants.{MAX_BLOCKS}
 
 -- in the order in which they came
 abbrev pub lists_in : List (Vec ℕ) → List (List ℕ)

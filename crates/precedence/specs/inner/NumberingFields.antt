@@ -4,7 +4,7 @@ use Rattle.std.specs.List.Sorted.{IsStrictlyIncreasing}
 use Rattle.precedence.specs.Codes.{place_codes}
 use Rattle.precedence.specs.Numbering.{NumberingView}
 use Rattle.precedence.specs.declared.numbering.Numbering.TheInside.{Inside}
-use Rattle.pit_parts.specs.declared.ranges.TheConstants.{MAX_BLOCKS}
+use Rattle.plan_parts.specs.declared.ranges.TheConstants.{MAX_BLOCKS}
 
 abbrev pub numbered_of : Inside → NumberingView
 numbered_of n = record { blocks = n.blocks.items; positions = n.positions.items }

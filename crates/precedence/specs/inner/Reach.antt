@@ -1,13 +1,13 @@
 -- How many blocks of a row a cone takes in, on either side.
 use Rattle.std.specs.Prelude.{◌≡◌, ℕ, ◌+◌, ◌*◌, ◌<◌, ◌≤◌, Bool, nat_lt, nat_le, if◌then◌else◌}
 use Rattle.std.specs.Int.{abs_diff}
-use Rattle.pit_parts.specs.declared.cone.Cone.{Cone}
-use Rattle.pit_parts.specs.declared.cone.Slope.{Slope}
-use Rattle.pit_parts.specs.declared.grid.Grid.{Grid}
+use Rattle.plan_parts.specs.declared.cone.Cone.{Cone}
+use Rattle.plan_parts.specs.declared.cone.Slope.{Slope}
+use Rattle.plan_parts.specs.declared.grid.Grid.{Grid}
 use Rattle.precedence.specs.Cone.{square, is_within_slopes}
 use Rattle.precedence.specs.declared.cones.cone_rows.Counts.{Counts}
 use Rattle.precedence.specs.declared.cones.cone_rows.Reach.{Reach}
-use Rattle.pit_parts.specs.declared.ranges.TheConstants.{GRID_CELLS}
+use Rattle.plan_parts.specs.declared.ranges.TheConstants.{GRID_CELLS}
 
 -- what is left of the reach takes in the distance d
 abbrev pub takes_in : ℕ → Reach → Bool

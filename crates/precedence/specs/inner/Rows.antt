@@ -2,10 +2,10 @@
 use Rattle.std.specs.Prelude.{◌≡◌, ℕ, ◌+◌, ◌-◌, ◌*◌, ◌<◌, ◌≤◌, ◌&&◌, ◌||◌, Bool, false, List, [], ◌∷◌, map, nat_lt, nat_le}
 use Rattle.std.specs.Int.{abs_diff}
 use Rattle.std.specs.List.{prefix_len}
-use Rattle.pit_parts.specs.declared.block.Block.{Block}
-use Rattle.pit_parts.specs.declared.cone.Cone.{Cone}
-use Rattle.pit_parts.specs.declared.grid.Grid.{Grid}
-use Rattle.pit_parts.specs.declared.ranges.TheConstants.{GRID_CELLS}
+use Rattle.plan_parts.specs.declared.block.Block.{Block}
+use Rattle.plan_parts.specs.declared.cone.Cone.{Cone}
+use Rattle.plan_parts.specs.declared.grid.Grid.{Grid}
+use Rattle.plan_parts.specs.declared.ranges.TheConstants.{GRID_CELLS}
 use Rattle.precedence.specs.Codes.{place_code}
 use Rattle.precedence.specs.Cone.{is_above}
 use Rattle.precedence.specs.declared.places.code.TheConstants.{BENCH, ROW}

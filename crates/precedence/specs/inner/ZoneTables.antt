@@ -1,8 +1,8 @@
 -- The tables of cones, and which is whose.
 use Rattle.std.specs.Prelude.{◌≡◌, ℕ, ◌<◌, ◌≤◌, List, [], Option, Some, None, All, length, slice_get, slice_index, slice_index_or}
-use Rattle.pit_parts.specs.declared.block.Block.{Block}
-use Rattle.pit_parts.specs.declared.cone.Cone.{Cone}
-use Rattle.pit_parts.specs.declared.grid.Grid.{Grid}
+use Rattle.plan_parts.specs.declared.block.Block.{Block}
+use Rattle.plan_parts.specs.declared.cone.Cone.{Cone}
+use Rattle.plan_parts.specs.declared.grid.Grid.{Grid}
 use Rattle.precedence.specs.inner.Rows.{AreInOrder, IsTable}
 use Rattle.precedence.specs.declared.cones.bounds.Bounds.{Bounds}
 use Rattle.precedence.specs.declared.cones.cone_table.ConeTable.{ConeTable}

@@ -1,17 +1,17 @@
 //! How far the blocks above those of a zone are from them.
 
 ghost use Rattle.std.specs.Prelude.{◌≡◌, ◌<◌, ◌≤◌, ℕ, All, IfOk, length, slice_index_or};
-ghost use Rattle.pit_parts.specs.declared.block.Block.{Block};
-ghost use Rattle.pit_parts.specs.declared.cone.Cone.{Cone};
+ghost use Rattle.plan_parts.specs.declared.block.Block.{Block};
+ghost use Rattle.plan_parts.specs.declared.cone.Cone.{Cone};
 ghost use Rattle.precedence.specs.inner.Rows.{IsWithin};
 ghost use Rattle.precedence.specs.inner.ZoneTables.{Holds, IsWider};
 ghost use Rattle.precedence.specs.declared.cones.cone_rows.Extent.{Extent};
-ghost use Rattle.pit_parts.specs.declared.ranges.TheConstants.{GRID_CELLS};
+ghost use Rattle.plan_parts.specs.declared.ranges.TheConstants.{GRID_CELLS};
 
 use crate::cones::cone_rows::Extent;
-use pit_parts::block::Block;
-use pit_parts::cone::Cone;
-use pit_parts::ranges::GRID_CELLS;
+use plan_parts::block::Block;
+use plan_parts::cone::Cone;
+use plan_parts::ranges::GRID_CELLS;
 use std::alloc::{AllocError, Global};
 
 /// The least and greatest index along y of some blocks, and the greatest along z.

@@ -1,7 +1,7 @@
 //! What is told of the rows of cones. Definitions name these types, and so no function stands beside them.
 
 ghost use Rattle.std.specs.Prelude.{◌<◌, ◌≤◌, ◌^◌};
-ghost use Rattle.pit_parts.specs.declared.ranges.TheConstants.{GRID_CELLS};
+ghost use Rattle.plan_parts.specs.declared.ranges.TheConstants.{GRID_CELLS};
 
 /// The greatest distances between two blocks of a model.
 #[derive(Clone, Copy, Debug)]

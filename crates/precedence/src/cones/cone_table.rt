@@ -5,7 +5,7 @@ ghost use Rattle.precedence.specs.inner.Beside.{AreNoWider};
 ghost use Rattle.precedence.specs.inner.Rows.{pasts};
 
 use crate::cones::cone_rows::{Row, Widths};
-use pit_parts::cone::Cone;
+use plan_parts::cone::Cone;
 
 /// The rows of a cone.
 #[derive(Debug, Drop)]

@@ -1,15 +1,15 @@
 //! Counting the blocks of a row that a cone takes in.
 
 ghost use Rattle.std.specs.Prelude.{◌≡◌, ◌*◌, ◌<◌, ◌≤◌, ◌^◌, false};
-ghost use Rattle.pit_parts.specs.PlanKept.{IsCone, IsGrid, IsSlope};
+ghost use Rattle.plan_parts.specs.PlanKept.{IsCone, IsGrid, IsSlope};
 ghost use Rattle.precedence.specs.Cone.{square};
 ghost use Rattle.precedence.specs.inner.Reach.{takes_in, slope_across, CountsAll, CountsRow, CountsSide};
-ghost use Rattle.pit_parts.specs.declared.ranges.TheConstants.{GRID_CELLS, MAX_SIZE, MAX_SLOPE};
+ghost use Rattle.plan_parts.specs.declared.ranges.TheConstants.{GRID_CELLS, MAX_SIZE, MAX_SLOPE};
 
 use crate::cones::cone_rows::{Counts, Reach};
-use pit_parts::cone::{Cone, Slope};
-use pit_parts::grid::Grid;
-use pit_parts::ranges::GRID_CELLS;
+use plan_parts::cone::{Cone, Slope};
+use plan_parts::grid::Grid;
+use plan_parts::ranges::GRID_CELLS;
 
 /// How many blocks of the row `i` of the bench `dz` above lie inside the slopes, where the block's own row is `rows`.
 /// `nearby` is a guess, such as the counts of a row nearby: it changes the time and not the answer.

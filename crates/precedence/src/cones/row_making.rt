@@ -1,15 +1,15 @@
 //! The table of a cone's rows.
 
 ghost use Rattle.std.specs.Prelude.{◌≡◌, ◌+◌, ◌-◌, ◌*◌, ◌<◌, ◌≤◌, ◌++◌, [], ◌∷◌, OnOk, IfOk, max};
-ghost use Rattle.pit_parts.specs.PlanKept.{IsCone, IsGrid};
+ghost use Rattle.plan_parts.specs.PlanKept.{IsCone, IsGrid};
 ghost use Rattle.precedence.specs.inner.Rows.{center, edge, IsTable, Tells};
-ghost use Rattle.pit_parts.specs.declared.ranges.TheConstants.{GRID_CELLS};
+ghost use Rattle.plan_parts.specs.declared.ranges.TheConstants.{GRID_CELLS};
 
 use crate::cones::cone_rows::{Counts, Extent, Row};
 use crate::cones::counting::row_counts;
 use crate::places::code::{BENCH, ROW};
-use pit_parts::cone::Cone;
-use pit_parts::grid::Grid;
+use plan_parts::cone::Cone;
+use plan_parts::grid::Grid;
 use std::alloc::{AllocError, Global};
 
 /// The rows of a cone, in order, in a model no greater than `extent`: a block lies in the cone exactly where its code

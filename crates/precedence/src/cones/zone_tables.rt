@@ -1,7 +1,7 @@
 //! The tables of the cones of all zones.
 
 ghost use Rattle.std.specs.Prelude.{◌≡◌, ℕ, ◌<◌, ◌≤◌, IfOk, IfSome, OnOk, Some, All, length, slice_get, slice_index, slice_index_or};
-ghost use Rattle.pit_parts.specs.PlanKept.{IsCone, IsGrid};
+ghost use Rattle.plan_parts.specs.PlanKept.{IsCone, IsGrid};
 ghost use Rattle.precedence.specs.inner.Rows.{pasts};
 ghost use Rattle.precedence.specs.inner.ZoneTables.{HasTables, IsTold};
 ghost use Rattle.precedence.specs.declared.cones.cone_table.ConeTable.{ConeTable};
@@ -11,8 +11,8 @@ use crate::cones::cone_rows::{Extent, Row};
 use crate::cones::cone_table::ConeTable;
 use crate::cones::row_making::cone_rows;
 use crate::cones::widths::widths_of;
-use pit_parts::cone::Cone;
-use pit_parts::grid::Grid;
+use plan_parts::cone::Cone;
+use plan_parts::grid::Grid;
 use std::alloc::{AllocError, Global};
 
 /// The tables of different cones, and of each zone the place of its cone's table.

@@ -6,7 +6,7 @@ ghost use Rattle.precedence.specs.inner.Beside.{AreNoWider, IsNoWider};
 ghost use Rattle.precedence.specs.inner.Rows.{is_in_row, is_in_rows, pasts, AreInOrder};
 ghost use Rattle.precedence.specs.declared.cones.cone_rows.Row.{Row};
 ghost use Rattle.precedence.specs.declared.places.code.TheConstants.{CODES};
-ghost use Rattle.pit_parts.specs.declared.ranges.TheConstants.{MAX_BLOCKS};
+ghost use Rattle.plan_parts.specs.declared.ranges.TheConstants.{MAX_BLOCKS};
 
 use crate::cones::cone_rows::{Row, Widths};
 use crate::lists::beside::{Behind, ByChunk, PassBlocks};

@@ -7,7 +7,7 @@ ghost use Rattle.precedence.specs.inner.Arcs.{codes_with, count_in};
 ghost use Rattle.precedence.specs.inner.Lists.{in_cones};
 ghost use Rattle.precedence.specs.inner.Rows.{is_in_rows, AreInOrder};
 ghost use Rattle.precedence.specs.declared.places.code.TheConstants.{CODES};
-ghost use Rattle.pit_parts.specs.declared.ranges.TheConstants.{MAX_BLOCKS};
+ghost use Rattle.plan_parts.specs.declared.ranges.TheConstants.{MAX_BLOCKS};
 
 use crate::cones::cone_rows::Row;
 use crate::cones::zone_tables::ZoneTables;

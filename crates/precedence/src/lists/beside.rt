@@ -11,7 +11,7 @@ use crate::lists::row_runs::Hint;
 use crate::places::Places;
 use crate::places::code::ROW;
 use crate::places::spans::{CHUNK, FEW_ROWS};
-use pit_parts::ranges::GRID_CELLS;
+use plan_parts::ranges::GRID_CELLS;
 
 // Of a cone that reaches further nothing is passed over.
 const WIDE: u64 = 50_000;

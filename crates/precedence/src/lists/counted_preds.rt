@@ -3,7 +3,7 @@
 ghost use Rattle.std.specs.Prelude.{◌≡◌, []};
 
 use crate::lists::take_preds::TakePreds;
-use pit_parts::listed::past::Past;
+use plan_parts::listed::past::Past;
 use std::alloc::AllocError;
 use std::marker::Model;
 

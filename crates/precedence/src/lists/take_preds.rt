@@ -1,7 +1,7 @@
 //! Lists of predecessors that come block by block.
 
 ghost use Rattle.std.specs.Prelude.{◌≡◌, ◌<◌, ◌≤◌, ◌++◌, [], ◌∷◌, ℕ, List, OnOk, length, sum_by};
-ghost use Rattle.pit_parts.specs.declared.ranges.TheConstants.{MAX_BLOCKS};
+ghost use Rattle.plan_parts.specs.declared.ranges.TheConstants.{MAX_BLOCKS};
 
 use crate::lists::predecessors::Preds;
 use std::alloc::AllocError;

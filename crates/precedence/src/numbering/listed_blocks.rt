@@ -1,11 +1,11 @@
 //! Blocks by their positions in a list.
 
 ghost use Rattle.std.specs.Prelude.{◌≡◌, ◌<◌, ◌≤◌, List, Some, length, slice_get};
-ghost use Rattle.pit_parts.specs.declared.block.Block.{Block};
-ghost use Rattle.pit_parts.specs.declared.ranges.TheConstants.{MAX_BLOCKS};
+ghost use Rattle.plan_parts.specs.declared.block.Block.{Block};
+ghost use Rattle.plan_parts.specs.declared.ranges.TheConstants.{MAX_BLOCKS};
 ghost use Rattle.precedence.specs.Identifier.{blocks_of_rows};
 
-use pit_parts::block::Block;
+use plan_parts::block::Block;
 use rows::{RowLists, Valued};
 
 /// Blocks that can be numbered: each is asked for by its position in a list. Contracts see the list.

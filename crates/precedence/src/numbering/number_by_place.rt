@@ -5,12 +5,12 @@ ghost use Rattle.std.specs.List.{IsDistinct};
 ghost use Rattle.std.specs.List.Sorted.{IsStrictlyIncreasing};
 ghost use Rattle.std.specs.Map.{keys_of, values_of};
 ghost use Rattle.indexmap.specs.IndexMap.{get, IsUnique};
-ghost use Rattle.pit_parts.specs.declared.block.Block.{Block};
+ghost use Rattle.plan_parts.specs.declared.block.Block.{Block};
 ghost use Rattle.precedence.specs.Codes.{place_codes};
 ghost use Rattle.precedence.specs.Numbering.{IsNumbering};
 ghost use Rattle.precedence.specs.SameBlock.{IsReason};
 ghost use Rattle.precedence.specs.inner.Seen.{placed, IsSortedTable};
-ghost use Rattle.pit_parts.specs.declared.ranges.TheConstants.{MAX_BLOCKS};
+ghost use Rattle.plan_parts.specs.declared.ranges.TheConstants.{MAX_BLOCKS};
 
 use crate::numbering::Numbering;
 use crate::numbering::listed_blocks::ListedBlocks;
@@ -18,8 +18,8 @@ use crate::numbering::place_hashes::PlaceHashes;
 use crate::numbering::same::Same;
 use crate::places::code::code;
 use indexmap::IndexMap;
-use pit_parts::block::Block;
 use pit_units::OrMemory;
+use plan_parts::block::Block;
 use std::alloc::{AllocError, Global};
 
 // The place of a block, as its code, and the block's position in the list.

@@ -1,7 +1,7 @@
 //! Hashes of places, which depend on the whole list.
 
 ghost use Rattle.std.specs.Prelude.{◌≤◌, length};
-ghost use Rattle.pit_parts.specs.declared.ranges.TheConstants.{MAX_BLOCKS};
+ghost use Rattle.plan_parts.specs.declared.ranges.TheConstants.{MAX_BLOCKS};
 
 use crate::numbering::listed_blocks::ListedBlocks;
 use crate::places::code::code;

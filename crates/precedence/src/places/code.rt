@@ -4,7 +4,7 @@ ghost use Rattle.std.specs.Prelude.{◌≡◌, ◌<◌};
 ghost use Rattle.precedence.specs.Codes.{place_code};
 ghost use Rattle.precedence.specs.declared.places.code.TheConstants.{CODES};
 
-use pit_parts::block::Block;
+use plan_parts::block::Block;
 
 /// How far apart the numbers of two rows of a bench are.
 pub const ROW: u64 = 100_000;

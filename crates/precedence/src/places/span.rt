@@ -1,7 +1,7 @@
 //! Where some blocks lie along x. Definitions name this type, and so no function stands beside it.
 
 ghost use Rattle.std.specs.Prelude.{◌<◌};
-ghost use Rattle.pit_parts.specs.declared.ranges.TheConstants.{GRID_CELLS};
+ghost use Rattle.plan_parts.specs.declared.ranges.TheConstants.{GRID_CELLS};
 
 /// The least and the greatest x of some blocks.
 #[derive(Clone, Copy, Debug)]

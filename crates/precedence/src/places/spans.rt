@@ -1,14 +1,14 @@
 //! Where blocks lie along x, some identifiers at a time.
 
 ghost use Rattle.std.specs.Prelude.{◌≡◌, ◌<◌, ◌≤◌, ℕ, IfOk, length, slice_index_or};
-ghost use Rattle.pit_parts.specs.declared.block.Block.{Block};
+ghost use Rattle.plan_parts.specs.declared.block.Block.{Block};
 ghost use Rattle.precedence.specs.Codes.{place_codes};
 ghost use Rattle.precedence.specs.inner.Beside.{AreSpans};
 
 use crate::places::code::{BENCH, ROW};
 use crate::places::span::Span;
-use pit_parts::block::Block;
-use pit_parts::ranges::GRID_CELLS;
+use plan_parts::block::Block;
+use plan_parts::ranges::GRID_CELLS;
 use std::alloc::{AllocError, Global};
 
 /// So many identifiers have a span.

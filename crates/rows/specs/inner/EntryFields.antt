@@ -1,8 +1,8 @@
 -- How the fields of an entry are seen.
 use Rattle.std.specs.Prelude.{nat_lt, if◌then◌else◌, Option, Some, None}
-use Rattle.pit_parts.specs.Block.{block_with}
-use Rattle.pit_parts.specs.declared.block.Block.{Block}
-use Rattle.pit_parts.specs.declared.ranges.TheConstants.{MAX_ZONES}
+use Rattle.plan_parts.specs.Block.{block_with}
+use Rattle.plan_parts.specs.declared.block.Block.{Block}
+use Rattle.plan_parts.specs.declared.ranges.TheConstants.{MAX_ZONES}
 use Rattle.rows.specs.declared.packed.entry.Entry.TheInside.{Inside}
 
 -- the block of a row, whose zone is one of a block

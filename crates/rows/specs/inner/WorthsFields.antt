@@ -2,7 +2,7 @@
 use Rattle.std.specs.Prelude.{◌≡◌, ℕ, ◌≤◌, ◌-◌, ◌++◌, ℤ, pos, List, length, take, replicate}
 use Rattle.std.proofs.Common.{sym, ap, subst, ◌∙◌, length-take-le}
 use Rattle.rows.specs.declared.worths.Worths.TheInside.{Inside}
-use Rattle.pit_parts.specs.declared.ranges.TheConstants.{MAX_DESTINATIONS}
+use Rattle.plan_parts.specs.declared.ranges.TheConstants.{MAX_DESTINATIONS}
 
 -- the cells before the count
 abbrev pub worths_in : Inside → List ℤ

@@ -1,15 +1,15 @@
 //! Items without their worths.
 
 ghost use Rattle.std.specs.Prelude.{◌≡◌, ◌≤◌, ℕ, ℤ, List, Some, None, length};
-ghost use Rattle.pit_parts.specs.declared.ranges.TheConstants.{MAX_DESTINATIONS};
+ghost use Rattle.plan_parts.specs.declared.ranges.TheConstants.{MAX_DESTINATIONS};
 ghost use Rattle.rows.specs.Packed.{mark_of};
 ghost use Rattle.rows.specs.inner.Entries.{item_with, kept_worths};
 
 use crate::item::{Item, Valued};
 use crate::mark::Mark;
 use crate::worths::Worths;
-use pit_parts::block::Block;
-use pit_parts::ranges::MAX_ZONES;
+use plan_parts::block::Block;
+use plan_parts::ranges::MAX_ZONES;
 use std::marker::Model;
 
 /// An item without its worths, which stand in one list with those of other items. Contracts see its file, its place or count, and the
@@ -31,7 +31,7 @@ pub struct Entry {
 const _: () = prove!(size_of::<Entry>() == 24);
 
 impl Model for Entry {
-    ghost use Rattle.pit_parts.specs.BlockParts.{AreInRange};
+    ghost use Rattle.plan_parts.specs.BlockParts.{AreInRange};
     ghost use Rattle.rows.specs.inner.EntryFields.{block_in};
     ghost use Rattle.rows.specs.inner.EntryView.{EntryView};
 

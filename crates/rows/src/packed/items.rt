@@ -2,8 +2,8 @@
 
 ghost use Rattle.std.specs.Prelude.{◌≡◌, ◌+◌, ◌<◌, ◌≤◌, ◌++◌, [], All, Some, length, slice_get, vec_len, vec_capacity};
 ghost use Rattle.std.specs.Option.{option_map};
-ghost use Rattle.pit_parts.specs.formulas.WorthRange.{IsWorth};
-ghost use Rattle.pit_parts.specs.declared.ranges.TheConstants.{MAX_DESTINATIONS};
+ghost use Rattle.plan_parts.specs.formulas.WorthRange.{IsWorth};
+ghost use Rattle.plan_parts.specs.declared.ranges.TheConstants.{MAX_DESTINATIONS};
 ghost use Rattle.rows.specs.Packed.{mark_of, row_of, IsOfWidth};
 ghost use Rattle.rows.specs.ItemsView.{IsFullFor};
 ghost use Rattle.rows.specs.inner.Entries.{kept_worths};
@@ -15,7 +15,7 @@ use crate::long_lists::make_room_for;
 use crate::mark::Mark;
 use crate::packed::entry::Entry;
 use crate::packed::worths::{PackedWorths, worths_of_item};
-use pit_parts::block::Block;
+use plan_parts::block::Block;
 use std::alloc::{AllocError, Allocator, Global};
 use std::marker::Model;
 
@@ -31,7 +31,7 @@ pub struct PackedItems<A: Allocator = Global> {
 
 impl<A: Allocator> Model for PackedItems<A> {
     ghost use Rattle.std.specs.Prelude.{◌≡◌, ◌*◌, ◌-◌, ◌≤◌, vec_len, vec_capacity, length};
-    ghost use Rattle.pit_parts.specs.declared.ranges.TheConstants.{MAX_DESTINATIONS};
+    ghost use Rattle.plan_parts.specs.declared.ranges.TheConstants.{MAX_DESTINATIONS};
     ghost use Rattle.rows.specs.ItemsView.{PackedView};
     ghost use Rattle.rows.specs.inner.Entries.{items_of};
 

@@ -1,7 +1,7 @@
 //! The end of a run: what is written where, and the status.
 
+use command_io::refused::status::{DEVICE, REFUSED, RESOURCES, finish};
 use devices::sinks::write_sink::WriteSink;
-use pit_edge::refused::status::{DEVICE, REFUSED, RESOURCES, finish};
 use std::alloc::Global;
 use std::io::{self, ErrorKind, Write};
 use std::process::ExitCode;

@@ -2,10 +2,10 @@
 
 use crate::tests::models::destinations_of;
 use crate::tests::watch::{OPEN, Watch};
+use check_command::check::check_files;
+use compile_command::compile::compile_files;
 use devices::feeds::file_feed::FileFeed;
 use devices::files::system_files::SystemFiles;
-use pit_check::check::check_files;
-use pit_commands::compile::compile_files;
 use pit_compile::settings::Settings;
 use pit_model::read_plan;
 use std::alloc::Global;

@@ -1,9 +1,9 @@
 //! An input that is interrupted, ends or fails.
 
+use command_io::input::read_source;
+use command_io::refused::fault_line::tell;
+use command_io::refused::source::Source;
 use devices::feeds::read_feed::ReadFeed;
-use pit_edge::input::read_source;
-use pit_edge::refused::fault_line::tell;
-use pit_edge::refused::source::Source;
 use std::alloc::Global;
 use std::io;
 use std::io::{ErrorKind, Read};

@@ -1,8 +1,8 @@
 //! The job that the words of a command line state.
 
+use command_lines::job::{Job, JobFault};
+use command_lines::stated_job::job;
 use pit_compile::settings::Settings;
-use pit_jobs::job::{Job, JobFault};
-use pit_jobs::stated_job::job;
 use std::alloc::Global;
 use std::test::Fail;
 

@@ -3,13 +3,13 @@
 use crate::tests::headers::PRINTED;
 use crate::tests::models::destinations_of;
 use crate::tests::watch::{OPEN, Watch};
+use command_io::pieces::Piece;
+use command_io::refused::fault_line::plan_from;
+use compile_command::pipe_form::pipe;
+use compile_command::refusal_line::refusal_line;
 use minelib_text::text_name::TextName;
-use pit_commands::pipe_form::pipe;
-use pit_commands::refusal_line::refusal_line;
 use pit_compile::refusal::{Refusal, RowAt};
 use pit_compile::settings::SettingsFault;
-use pit_edge::pieces::Piece;
-use pit_edge::refused::fault_line::plan_from;
 use pit_model::read_plan;
 use std::alloc::Global;
 use std::sync::Wait;

@@ -1,8 +1,8 @@
 //! What tests of whole models share.
 
 ghost use Rattle.std.specs.Prelude.{◌≡◌};
-ghost use Rattle.pit_parts.specs.formulas.Formula.{IsRuled};
-ghost use Rattle.pit_parts.specs.formulas.Worth.{worth};
+ghost use Rattle.plan_parts.specs.formulas.Formula.{IsRuled};
+ghost use Rattle.plan_parts.specs.formulas.Worth.{worth};
 
 use crate::tests::watch::Watched;
 use pit_model::block::Block;

@@ -1,6 +1,6 @@
 //! Where the input of the pipe form is cut.
 
-use pit_edge::pieces::{Piece, cut, cut_at_most};
+use command_io::pieces::{Piece, cut, cut_at_most};
 use std::alloc::{AllocError, Global};
 use std::test::Fail;
 

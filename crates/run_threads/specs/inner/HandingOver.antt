@@ -1,8 +1,8 @@
 -- What the threads of a run hand over.
 use Rattle.std.specs.Prelude.{◌≡◌, ℕ, Bool, List, length, map, Option, IsFalse, IsTrue}
 use Rattle.lane.specs.Whole.{IsWhole}
-use Rattle.pit_parts.specs.PlanFormulas.{formulas_of_plan}
-use Rattle.pit_parts.specs.Plan.{PlanParts}
+use Rattle.plan_parts.specs.PlanFormulas.{formulas_of_plan}
+use Rattle.plan_parts.specs.Plan.{PlanParts}
 use Rattle.valuers.specs.Valuing.{items_by}
 use Rattle.rows.specs.ItemsView.{items_in}
 use Rattle.run_threads.specs.Full.{IsOneFull}

@@ -2,9 +2,9 @@
 use Rattle.std.specs.Prelude.{◌≡◌, ℕ, ◌+◌, ◌<◌, Bool, true, List, [], ◌∷◌, ◌++◌, length, drop, Option, Result, IsFalse, IsTrue}
 use Rattle.lane.specs.Ends.{PutEndView, TakeEndView}
 use Rattle.lane.specs.MessageKinds.{is_done}
-use Rattle.pit_parts.specs.declared.formulas.formula.Formula.{Formula}
-use Rattle.pit_parts.specs.Plan.{PlanParts}
-use Rattle.pit_parts.specs.declared.grid.Grid.{Grid}
+use Rattle.plan_parts.specs.declared.formulas.formula.Formula.{Formula}
+use Rattle.plan_parts.specs.Plan.{PlanParts}
+use Rattle.plan_parts.specs.declared.grid.Grid.{Grid}
 use Rattle.valuers.specs.Valuing.{items_by}
 use Rattle.rows.specs.ItemsView.{IsFullFor, PackedView}
 use Rattle.run_threads.specs.Reading.{IsRead}

@@ -15,7 +15,7 @@ use crate::result_room::ResultRoom;
 use crate::starts::{LaneEnded, Starter};
 use devices::feeds::feed::Feed;
 use lane::Closer;
-use pit_parts::plan::Plan;
+use plan_parts::plan::Plan;
 use std::sync::Wait;
 use std::thread::Threads;
 

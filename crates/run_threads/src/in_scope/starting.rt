@@ -4,13 +4,13 @@ ghost use Rattle.std.specs.Prelude.{◌≡◌, ◌<◌, ◌≤◌, ◌++◌, [],
 ghost use Rattle.std.specs.List.{All};
 ghost use Rattle.lane.specs.Ends.{Lane};
 ghost use Rattle.lane.specs.MessageKinds.{is_done};
-ghost use Rattle.pit_parts.specs.Destinations.{formulas_of};
+ghost use Rattle.plan_parts.specs.Destinations.{formulas_of};
 ghost use Rattle.run_threads.specs.Reading.{IsRead};
 ghost use Rattle.run_threads.specs.inner.Promises.{AreUnsentFrom, IsUnsent};
 ghost use Rattle.run_threads.specs.inner.Started.{after_reader, after_readers, after_start, after_starts};
 ghost use Rattle.rows.specs.ItemsView.{IsFullFor};
 ghost use Rattle.valuers.specs.Valuing.{items_by};
-ghost use Rattle.pit_parts.specs.declared.ranges.TheConstants.{MAX_DESTINATIONS, MAX_VALUERS, MAX_ZONES};
+ghost use Rattle.plan_parts.specs.declared.ranges.TheConstants.{MAX_DESTINATIONS, MAX_VALUERS, MAX_ZONES};
 
 use crate::file_reading::{FileRead, read_file};
 use crate::promises::{ReaderHandle, ValuedBy, ValuerHandle};

@@ -2,17 +2,17 @@
 
 ghost use Rattle.std.specs.Prelude.{◌≡◌, ◌≤◌, ◌^◌, true, [], IfOk, length};
 ghost use Rattle.lane.specs.MessageKinds.{is_done};
-ghost use Rattle.pit_parts.specs.formulas.Worth.{mill};
+ghost use Rattle.plan_parts.specs.formulas.Worth.{mill};
 
 use super::*;
 use crate::gate::OpenGate;
 use crate::lane_tests::{gather_one, only_put, only_take, stop_one};
 use lane::{Closer, PutEnd, Stopped, open};
 use linked_list_allocator::LocalHeap;
-use pit_parts::block::Block;
-use pit_parts::formulas::destination::Valuer;
-use pit_parts::formulas::formula::Formula;
-use pit_parts::formulas::worth::mill_worth;
+use plan_parts::block::Block;
+use plan_parts::formulas::destination::Valuer;
+use plan_parts::formulas::formula::Formula;
+use plan_parts::formulas::worth::mill_worth;
 use rows::Worths;
 use std::test::Fail;
 use std::thread;

@@ -1,13 +1,13 @@
 //! The worths that the stored closures answer.
 
 ghost use Rattle.std.specs.Prelude.{◌≡◌, ◌≤◌, ◌^◌};
-ghost use Rattle.pit_parts.specs.formulas.Worth.{dump};
+ghost use Rattle.plan_parts.specs.formulas.Worth.{dump};
 
 use super::worths_of;
-use pit_parts::block::Block;
-use pit_parts::formulas::destination::{Destination, Valuer};
-use pit_parts::formulas::formula::Formula;
-use pit_parts::formulas::worth::dump_worth;
+use plan_parts::block::Block;
+use plan_parts::formulas::destination::{Destination, Valuer};
+use plan_parts::formulas::formula::Formula;
+use plan_parts::formulas::worth::dump_worth;
 use std::alloc::Global;
 use std::sync::Arc;
 use std::sync::atomic::{AtomicU64, Ordering};

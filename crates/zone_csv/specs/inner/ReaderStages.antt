@@ -1,10 +1,10 @@
 -- How the parts of a reader of a zone file are seen as what it has still to say.
 use Rattle.std.specs.Prelude.{ℕ, ◌+◌, ◌≤◌, List, [], Some, None, Result}
 use Rattle.std.specs.Result.{ok_prefix}
-use Rattle.pit_parts.specs.declared.ranges.TheConstants.{MAX_ROWS}
+use Rattle.plan_parts.specs.declared.ranges.TheConstants.{MAX_ROWS}
 use Rattle.records.specs.RecordReader.{RecordReaderView, Rows, Over, GaveUp}
-use Rattle.pit_parts.specs.declared.block.Block.{Block}
-use Rattle.pit_parts.specs.declared.grid.Grid.{Grid}
+use Rattle.plan_parts.specs.declared.block.Block.{Block}
+use Rattle.plan_parts.specs.declared.grid.Grid.{Grid}
 use Rattle.zone_csv.specs.ZoneReaderView.{ZoneReaderView, Ahead, Told, NoMemory}
 use Rattle.zone_csv.specs.Zone.{records_say, rows_say, first_fault}
 use Rattle.zone_csv.specs.declared.row_fault.RowFault.{RowFault}

@@ -1,5 +1,5 @@
 use Rattle.std.proofs.Common.{◌≡◌, ◌∙◌, true, ap, sym, subst, length}
-use Rattle.pit_parts.specs.Name.{is_name}
+use Rattle.plan_parts.specs.Name.{is_name}
 use Rattle.mine_instance.specs.OfModel.{instance_of}
 use Rattle.mine_instance.specs.Kept.{IsKept}
 use Rattle.mine_instance.specs.Valid.{IsValid}

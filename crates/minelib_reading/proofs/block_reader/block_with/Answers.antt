@@ -1,5 +1,5 @@
 use Rattle.std.proofs.Common.{sym}
-use Rattle.pit_parts.proofs.BlockFacts.{block_again}
+use Rattle.plan_parts.proofs.BlockFacts.{block_again}
 use Rattle.minelib_reading.proofs.block_reader.block_with.Goals as goal
 
 pub returns : goal.returns

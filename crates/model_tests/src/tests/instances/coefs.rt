@@ -5,9 +5,9 @@ ghost use Rattle.std.specs.Prelude.{◌<◌, length};
 use mine_instance::FoundCoefs;
 use mine_instance::coefs::coef::{Coef, Coefs};
 use mine_instance::coefs::list::CoefList;
-use pit_parts::block::Block;
-use pit_parts::ranges::MAX_BLOCKS;
 use pit_units::Dec;
+use plan_parts::block::Block;
+use plan_parts::ranges::MAX_BLOCKS;
 use std::alloc::Global;
 use std::test::Fail;
 

@@ -1,7 +1,7 @@
 //! An instance that is built of rows in one call: the program takes its steps one by one.
 
 ghost use Rattle.std.specs.Prelude.{◌≡◌, ◌≤◌, All, length, IfOk, IfSome, IsTrue};
-ghost use Rattle.pit_parts.specs.PlanFormulas.{formulas_of_plan};
+ghost use Rattle.plan_parts.specs.PlanFormulas.{formulas_of_plan};
 ghost use Rattle.mine_instance.specs.Valid.{IsValid};
 ghost use Rattle.precedence.specs.Zones.{HasZones};
 ghost use Rattle.rows.specs.Valued.{worths_by};
@@ -13,9 +13,9 @@ use mine_instance::instance::Instance;
 use mine_instance::{build, build_cpit};
 use pit_model::plan::Plan;
 use pit_model::read_plan;
-use pit_parts::block::Block;
-use pit_parts::limit::{Bound, Limit};
 use pit_units::Dec;
+use plan_parts::block::Block;
+use plan_parts::limit::{Bound, Limit};
 use precedence::{Numbering, number, preds};
 use rows::{Valued, Worths};
 use std::alloc::Global;

@@ -11,9 +11,9 @@ use mine_instance::instance::Instance;
 use minelib_lines::text_name::TextName;
 use minelib_reading::read_cpit;
 use minelib_writing::write_cpit;
-use pit_parts::block::Block;
-use pit_parts::limit::{Bound, Limit};
 use pit_units::Dec;
+use plan_parts::block::Block;
+use plan_parts::limit::{Bound, Limit};
 use std::alloc::Global;
 use std::test::Fail;
 

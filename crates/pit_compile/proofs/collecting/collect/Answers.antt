@@ -3,7 +3,7 @@ use Rattle.std.proofs.lemmas.List.{length-map}
 use Rattle.pit_compile.proofs.Collected.{FoundIsHeld, to-order, collected}
 use Rattle.rows.specs.ItemsView.{items_in, PackedView}
 use Rattle.pit_compile.proofs.collecting.collect.Goals as goal
-use Rattle.pit_parts.specs.PlanFormulas.{formulas_of_plan}
+use Rattle.plan_parts.specs.PlanFormulas.{formulas_of_plan}
 use Rattle.valuers.specs.Valuing.{items_by}
 
 pub in_order-requires : goal.in_order-requires

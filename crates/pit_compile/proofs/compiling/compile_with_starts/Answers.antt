@@ -1,5 +1,5 @@
 use Rattle.std.proofs.Common.{◌≡◌, subst, arith, length}
-use Rattle.pit_parts.specs.Destinations.{formulas_of}
+use Rattle.plan_parts.specs.Destinations.{formulas_of}
 use Rattle.pit_compile.specs.Suits.{Suits}
 use Rattle.pit_compile.proofs.SettingsFacts.{none_where_suits}
 use Rattle.pit_compile.proofs.compiling.compile_with_starts.Goals as goal

@@ -2,7 +2,7 @@ use Rattle.std.proofs.Common.{◌≡◌, arith, map, subst, sym}
 use Rattle.std.proofs.lemmas.List.{length-map}
 use Rattle.std.proofs.lemmas.Result.{err_from_is_err_and}
 use Rattle.mine_instance.specs.Instance.{Instance}
-use Rattle.pit_parts.specs.Destinations.{formulas_of}
+use Rattle.plan_parts.specs.Destinations.{formulas_of}
 use Rattle.run_threads.specs.Refusing.{HasFailed}
 use Rattle.pit_compile.specs.Settings.{IsSettingsFault}
 use Rattle.pit_compile.specs.Sinks.{all_told, AreWritten}

@@ -1,7 +1,7 @@
 use Rattle.std.proofs.Common.{◌≡◌, ◌<◌, ◌+◌, ◌++◌, ◌∙◌, ℕ, List, [], ◌∷◌, refl, sym, ap, length, get_or, take, map, arith}
 use Rattle.std.proofs.lemmas.List.{take_more, get_or-map, map-append}
-use Rattle.pit_parts.specs.Destinations.{formula_of}
-use Rattle.pit_parts.specs.declared.formulas.formula.NamedFormula.{NamedFormula}
+use Rattle.plan_parts.specs.Destinations.{formula_of}
+use Rattle.plan_parts.specs.declared.formulas.formula.NamedFormula.{NamedFormula}
 use Rattle.pit_compile.proofs.settings.are_same.Goals as goal
 
 -- two lists that are compared through what their elements show

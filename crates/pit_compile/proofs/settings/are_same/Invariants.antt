@@ -1,5 +1,5 @@
 use Rattle.std.proofs.Common.{◌≡◌, take, map}
-use Rattle.pit_parts.specs.Destinations.{formulas_of}
+use Rattle.plan_parts.specs.Destinations.{formulas_of}
 use Rattle.pit_compile.proofs.settings.are_same.Given as goal
 
 abbrev pub invariant-loop-i : goal.invariant-loop-i

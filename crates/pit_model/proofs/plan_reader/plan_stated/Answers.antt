@@ -1,7 +1,7 @@
 use Rattle.std.proofs.Common.{rules, arith, Err}
 use Rattle.csv.specs.Records.{fields_of}
 use Rattle.pit_model.specs.Planned.{planned}
-use Rattle.pit_parts.specs.Plan.{PlanParts}
+use Rattle.plan_parts.specs.Plan.{PlanParts}
 use Rattle.pit_units.specs.OrMemory.{Gives}
 use Rattle.pit_model.proofs.PlanSteps.{ended, admitted, refused}
 use Rattle.pit_model.proofs.plan_reader.plan_stated.Goals as goal

@@ -1,5 +1,5 @@
 use Rattle.std.proofs.Common.{arith, ◌≡◌, length}
-use Rattle.pit_parts.specs.Destinations.{formula_of}
+use Rattle.plan_parts.specs.Destinations.{formula_of}
 use Rattle.run_threads.proofs.Joined.{same_lengths}
 use Rattle.run_threads.proofs.handing_over.hand_over.Goals as goal
 

@@ -1,5 +1,5 @@
 use Rattle.std.proofs.Common.{rules, ◌++◌, [], ◌∷◌, ◌≡◌, drop, length}
-use Rattle.pit_parts.specs.Destinations.{formulas_of}
+use Rattle.plan_parts.specs.Destinations.{formulas_of}
 use Rattle.valuers.specs.Valuing.{items_by, AreAnswered, OfRow}
 use Rattle.valuers.proofs.Taking.{took_more, front_stays, items_more, all_where_pushed, front_where_pushed, all_stay}
 use Rattle.valuers.proofs.valuer.take_all.Goals as goal

@@ -1,6 +1,6 @@
 use Rattle.std.proofs.Common.{◌≡◌, ◌++◌, take, drop, length}
 use Rattle.std.specs.Prelude.{IsFalse, IsTrue}
-use Rattle.pit_parts.specs.Destinations.{formulas_of}
+use Rattle.plan_parts.specs.Destinations.{formulas_of}
 use Rattle.valuers.specs.Valuing.{items_by, WereAsked, WerePassed}
 use Rattle.valuers.proofs.valuer.take_all.Given as goal
 

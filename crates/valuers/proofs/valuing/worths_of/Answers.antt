@@ -1,6 +1,6 @@
 use Rattle.std.proofs.Common.{rules, arith}
 use Rattle.std.proofs.lemmas.Grind.{common_steps}
-use Rattle.pit_parts.specs.formulas.WorthRange.{IsWorth}
+use Rattle.plan_parts.specs.formulas.WorthRange.{IsWorth}
 use Rattle.valuers.proofs.Answered.{all_next, answered_next}
 use Rattle.valuers.proofs.valuing.worths_of.Goals as goal
 

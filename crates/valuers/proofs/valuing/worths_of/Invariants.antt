@@ -1,6 +1,6 @@
 use Rattle.std.proofs.Common.{◌≡◌, take, length, All}
-use Rattle.pit_parts.specs.Destinations.{formulas_of}
-use Rattle.pit_parts.specs.formulas.WorthRange.{IsWorth}
+use Rattle.plan_parts.specs.Destinations.{formulas_of}
+use Rattle.plan_parts.specs.formulas.WorthRange.{IsWorth}
 use Rattle.rows.specs.Valued.{worths_by}
 use Rattle.valuers.specs.Valuing.{AreAnswered}
 use Rattle.valuers.proofs.valuing.worths_of.Given as goal

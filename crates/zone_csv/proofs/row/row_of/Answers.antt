@@ -1,6 +1,6 @@
 use Rattle.std.proofs.Common.{rules, arith, Ok, ap, sym, ◌∙◌}
 use Rattle.csv.specs.Records.{fields_of}
-use Rattle.pit_parts.proofs.BlockFacts.{block_again}
+use Rattle.plan_parts.proofs.BlockFacts.{block_again}
 use Rattle.zone_csv.proofs.RowFacts.{row_read}
 use Rattle.zone_csv.proofs.row.row_of.Goals as goal
 

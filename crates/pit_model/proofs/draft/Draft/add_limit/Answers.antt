@@ -1,6 +1,6 @@
 use Rattle.std.proofs.Common.{◌≡◌, ◌<◌, sym, ◌∙◌, ap, length, unwrap_or, false}
 use Rattle.std.specs.List.{list_any}
-use Rattle.pit_parts.specs.PlanKept.{IsBound}
+use Rattle.plan_parts.specs.PlanKept.{IsBound}
 use Rattle.pit_model.specs.Stated.{Stated, is_same_place}
 use Rattle.pit_model.proofs.PlanKept.{limit_kept}
 use Rattle.pit_model.proofs.draft.Draft.add_limit.Goals as goal

@@ -1,5 +1,5 @@
 use Rattle.std.proofs.Common.{◌≡◌, ℕ, ◌<◌, ◌≤◌, get_or}
-use Rattle.pit_parts.specs.declared.cone.Cone.{Cone}
+use Rattle.plan_parts.specs.declared.cone.Cone.{Cone}
 use Rattle.precedence.specs.declared.cones.cone_rows.Extent.{Extent}
 use Rattle.precedence.proofs.cones.bounds.extent_for.Given as goal
 

@@ -1,5 +1,5 @@
 use Rattle.std.proofs.Common.{◌≡◌, ℕ, ◌<◌, All, length, get_or}
-use Rattle.pit_parts.specs.declared.cone.Cone.{Cone}
+use Rattle.plan_parts.specs.declared.cone.Cone.{Cone}
 use Rattle.precedence.specs.inner.ZoneTables.{IsTold}
 use Rattle.precedence.specs.declared.cones.cone_table.ConeTable.{ConeTable}
 use Rattle.precedence.proofs.cones.zone_tables.tables_of.Given as goal

@@ -1,7 +1,7 @@
 use Rattle.std.proofs.Common.{◌≡◌, ◌+◌, ◌*◌, ◌<◌, ◌≤◌, ℕ, List, length, get_or, slice_get, subst, sym, ap, ◌∙◌, arith}
 use Rattle.std.specs.Prelude.{sum_by}
 use Rattle.std.proofs.lemmas.Option.{slice_get-get_or}
-use Rattle.pit_parts.specs.declared.ranges.TheConstants.{MAX_BLOCKS}
+use Rattle.plan_parts.specs.declared.ranges.TheConstants.{MAX_BLOCKS}
 use Rattle.precedence.specs.Cone.{places_where}
 use Rattle.precedence.specs.inner.Arcs.{arcs_before, codes_with}
 use Rattle.precedence.specs.inner.Lists.{in_cone}

@@ -1,7 +1,7 @@
 use Rattle.std.proofs.Common.{◌≡◌, ◌*◌, ◌-◌, ◌≤◌, length, take}
 use Rattle.std.specs.Prelude.{sum_by}
 use Rattle.precedence.specs.inner.Arcs.{count_in}
-use Rattle.pit_parts.specs.declared.ranges.TheConstants.{MAX_BLOCKS}
+use Rattle.plan_parts.specs.declared.ranges.TheConstants.{MAX_BLOCKS}
 use Rattle.precedence.proofs.lists.arc_counts.arcs_in_row.Given as goal
 
 abbrev pub invariant-loop-k : goal.invariant-loop-k

@@ -1,5 +1,5 @@
 use Rattle.std.proofs.Common.{◌≡◌, length, map, take, get_or}
-use Rattle.pit_parts.specs.declared.block.Block.{Block}
+use Rattle.plan_parts.specs.declared.block.Block.{Block}
 use Rattle.precedence.proofs.numbering.number_by_place.blocks_at.Given as goal
 
 abbrev pub invariant-loop-position : goal.invariant-loop-position

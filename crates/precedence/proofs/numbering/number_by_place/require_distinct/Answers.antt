@@ -3,7 +3,7 @@ use Rattle.std.specs.List.{IsDistinct}
 use Rattle.std.specs.Map.{keys_of}
 use Rattle.std.proofs.lemmas.List.{take_all}
 use Rattle.std.proofs.lemmas.Option.{get_or_from_slice_get}
-use Rattle.pit_parts.specs.declared.block.Block.{Block}
+use Rattle.plan_parts.specs.declared.block.Block.{Block}
 use Rattle.precedence.specs.Codes.{place_code, place_codes}
 use Rattle.precedence.proofs.SeenPlaces.{first_again, keys-placed, placed_on}
 use Rattle.precedence.proofs.numbering.number_by_place.require_distinct.Goals as goal

@@ -1,0 +1,134 @@
+-- Counting one file after the other counts the texts of all.
+use Rattle.std.specs.Prelude.{◌≡◌, ℕ, ◌≤◌, List, [], length, Option, None, Some, IfSome, Result, Ok, Err}
+use Rattle.std.proofs.Common.{refl, ap, arith}
+use Rattle.pit_units.specs.Steps.{◌>>=◌}
+use Rattle.minelib_reading.specs.BlockText.{blocks_in}
+use Rattle.minelib_reading.specs.Denotes.{cpit_denoted, denoted}
+use Rattle.minelib_reading.specs.FedCounts.{IsFedAnswer, arcs_counted, blocks_counted, model_counted}
+use Rattle.minelib_reading.specs.ModelDraft.{ModelDraftView}
+use Rattle.minelib_reading.specs.ModelText.{model_in}
+use Rattle.minelib_reading.specs.PrecText.{preds_in}
+use Rattle.minelib_lines.specs.declared.problem.Problem.TheVariants as problem
+use Rattle.plan_parts.specs.declared.block.Block.{Block}
+use Rattle.text_lines.specs.Reading.{in_file}
+use Rattle.text_lines.specs.declared.text_fault.LineFault.{LineFault}
+use Rattle.text_lines.specs.declared.text_fault.TextFault.{TextFault}
+use Rattle.text_lines.specs.declared.text_fault.TextFile.{TextFile}
+use Rattle.text_lines.specs.declared.text_fault.TextFile.TheVariants.{Blocks, Prec, Pcpsp, Cpit}
+use Rattle.check_command.specs.Counts.{Texts, counted, cpit_counted}
+use Rattle.check_command.specs.inner.CountSteps.{counted_in, counted_on, no_counts}
+use Rattle.check_command.specs.declared.counts.Counts.{Counts}
+
+module _ (left : Option (List ℕ)) (limit : ℕ) (c : Counts) where
+  pub blocks_told : (answer : Result ℕ LineFault) → IsFedAnswer blocks_counted left limit answer
+      → IsFedAnswer (counted_in Blocks c) left limit (answer >>= λ n. Ok (record c { blocks = n }))
+  unfolding counted_in
+  blocks_told answer fed = record {
+    text = fed.text;
+    is_text = fed.is_text;
+    answers = ap (λ r. r >>= λ n. Ok (record c { blocks = n })) fed.answers;
+  }
+
+  pub arcs_told : (answer : Result ℕ LineFault) → IsFedAnswer (arcs_counted c.blocks) left limit answer
+      → IsFedAnswer (counted_in Prec c) left limit (answer >>= λ arcs. Ok (record c { arcs = arcs }))
+  unfolding counted_in
+  arcs_told answer fed = record {
+    text = fed.text;
+    is_text = fed.is_text;
+    answers = ap (λ r. r >>= λ arcs. Ok (record c { arcs = arcs })) fed.answers;
+  }
+
+  pub model_told : (answer : Result (ℕ × ℕ) LineFault) → IsFedAnswer (model_counted problem.Pcpsp c.blocks) left limit answer
+      → IsFedAnswer (counted_in Pcpsp c) left limit (answer >>= λ x. Ok (record c { coefficients = x.0; limits = x.1 }))
+  unfolding counted_in
+  model_told answer fed = record {
+    text = fed.text;
+    is_text = fed.is_text;
+    answers = ap (λ r. r >>= λ x. Ok (record c { coefficients = x.0; limits = x.1 })) fed.answers;
+  }
+
+  pub cpit_told : (answer : Result (ℕ × ℕ) LineFault) → IsFedAnswer (model_counted problem.Cpit c.blocks) left limit answer
+      → IsFedAnswer (counted_in Cpit c) left limit (answer >>= λ x. Ok (record c { cpit = Some x.0 }))
+  unfolding counted_in
+  cpit_told answer fed = record {
+    text = fed.text;
+    is_text = fed.is_text;
+    answers = ap (λ r. r >>= λ x. Ok (record c { cpit = Some x.0 })) fed.answers;
+  }
+
+-- of a file behind good ones
+pub told : (file : TextFile) (c : Counts) (left : Option (List ℕ)) (limit : ℕ) (answer : Result Counts LineFault)
+    → IsFedAnswer (counted_in file c) left limit answer → IsFedAnswer (counted_on file (Ok c)) left limit (in_file file answer)
+unfolding counted_on
+told file c left limit answer fed = record { text = fed.text; is_text = fed.is_text; answers = ap (in_file file) fed.answers }
+
+-- and behind a faulty line
+pub passed : (file : TextFile) (fault : TextFault) (left : Option (List ℕ)) (limit : ℕ) → IfSome left (λ bytes. length bytes ≤ limit)
+    → IsFedAnswer (counted_on file (Err fault)) left limit (Err fault)
+unfolding counted_on
+passed file fault None limit short = record { text = []; is_text = record { told = tt; short = omega arith }; answers = refl }
+passed file fault (Some bytes) limit short = record { text = bytes; is_text = record { told = refl; short = short }; answers = refl }
+
+-- the counts of the three files, and then of the fourth where there is one
+abbrev pub counted_three : List ℕ → List ℕ → List ℕ → Result Counts TextFault
+counted_three blocks prec pcpsp = counted_on Pcpsp (counted_on Prec (counted_on Blocks (Ok no_counts) blocks) prec) pcpsp
+
+abbrev pub counted_four : Result Counts TextFault → Option (List ℕ) → Result Counts TextFault
+counted_four so_far None = so_far
+counted_four so_far (Some text) = counted_on Cpit so_far text
+
+-- the two ways to the counts are one
+abbrev pub AreCounted : Texts → Type 0
+AreCounted texts = counted_four (counted_three texts.blocks texts.prec texts.pcpsp) texts.cpit ≡ counted texts
+
+bad_blocks : (texts : Texts) (fault : LineFault) → blocks_in texts.blocks ≡ Err fault → AreCounted texts
+unfolding counted_on counted_in counted denoted cpit_counted cpit_denoted blocks_counted arcs_counted model_counted
+bad_blocks texts fault eb = at texts.cpit refl where
+  at : (o : Option (List ℕ)) → texts.cpit ≡ o → AreCounted texts
+  at None ec = rw (eb, ec) refl
+  at (Some text) ec = rw (eb, ec) refl
+
+bad_prec : (texts : Texts) (all : List Block) (fault : LineFault) → blocks_in texts.blocks ≡ Ok all
+    → preds_in (length all) texts.prec ≡ Err fault → AreCounted texts
+unfolding counted_on counted_in counted denoted cpit_counted cpit_denoted blocks_counted arcs_counted model_counted
+bad_prec texts all fault eb ep = at texts.cpit refl where
+  at : (o : Option (List ℕ)) → texts.cpit ≡ o → AreCounted texts
+  at None ec = rw (eb, ep, ec) refl
+  at (Some text) ec = rw (eb, ep, ec) refl
+
+bad_model : (texts : Texts) (all : List Block) (lists : List (List ℕ)) (fault : LineFault) → blocks_in texts.blocks ≡ Ok all
+    → preds_in (length all) texts.prec ≡ Ok lists → model_in problem.Pcpsp (length all) texts.pcpsp ≡ Err fault → AreCounted texts
+unfolding counted_on counted_in counted denoted cpit_counted cpit_denoted blocks_counted arcs_counted model_counted
+bad_model texts all lists fault eb ep em = at texts.cpit refl where
+  at : (o : Option (List ℕ)) → texts.cpit ≡ o → AreCounted texts
+  at None ec = rw (eb, ep, em, ec) refl
+  at (Some text) ec = rw (eb, ep, em, ec) refl
+
+good : (texts : Texts) (all : List Block) (lists : List (List ℕ)) (d : ModelDraftView) → blocks_in texts.blocks ≡ Ok all
+    → preds_in (length all) texts.prec ≡ Ok lists → model_in problem.Pcpsp (length all) texts.pcpsp ≡ Ok d → AreCounted texts
+unfolding counted_on counted_in counted denoted cpit_counted cpit_denoted blocks_counted arcs_counted model_counted
+good texts all lists d eb ep em = at texts.cpit refl where
+  last : (text : List ℕ) (r : Result ModelDraftView LineFault) → texts.cpit ≡ Some text → model_in problem.Cpit (length all) text ≡ r
+      → AreCounted texts
+  last text (Ok cpit) ec el = rw (eb, ep, em, ec, el) refl
+  last text (Err fault) ec el = rw (eb, ep, em, ec, el) refl
+
+  at : (o : Option (List ℕ)) → texts.cpit ≡ o → AreCounted texts
+  at None ec = rw (eb, ep, em, ec) refl
+  at (Some text) ec = last text (model_in problem.Cpit (length all) text) ec refl
+
+pub counted_all : (texts : Texts) → AreCounted texts
+counted_all texts = by_blocks (blocks_in texts.blocks) refl where
+  by_model : (all : List Block) (lists : List (List ℕ)) (r : Result ModelDraftView LineFault) → blocks_in texts.blocks ≡ Ok all
+      → preds_in (length all) texts.prec ≡ Ok lists → model_in problem.Pcpsp (length all) texts.pcpsp ≡ r → AreCounted texts
+  by_model all lists (Ok d) eb ep em = good texts all lists d eb ep em
+  by_model all lists (Err fault) eb ep em = bad_model texts all lists fault eb ep em
+
+  by_prec : (all : List Block) (r : Result (List (List ℕ)) LineFault) → blocks_in texts.blocks ≡ Ok all
+      → preds_in (length all) texts.prec ≡ r → AreCounted texts
+  by_prec all (Ok lists) eb ep = by_model all lists (model_in problem.Pcpsp (length all) texts.pcpsp) eb ep refl
+  by_prec all (Err fault) eb ep = bad_prec texts all fault eb ep
+
+  by_blocks : (r : Result (List Block) LineFault) → blocks_in texts.blocks ≡ r → AreCounted texts
+  by_blocks (Ok all) eb = by_prec all (preds_in (length all) texts.prec) eb refl
+  by_blocks (Err fault) eb = bad_blocks texts fault eb

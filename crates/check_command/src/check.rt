@@ -1,0 +1,166 @@
+//! The check of the files of an instance.
+
+ghost use Rattle.std.specs.Prelude.{◌≡◌, ◌≢◌, ◌≤◌, ◌⊎◌, IfErr, IfOk, IfSome, OnErr, OnOk};
+ghost use Rattle.check_command.specs.Checked.{FailsIn, IsCheckStatus, IsFoundIn, IsFoundInOpenedFiles, IsMissing, TellsFiles, TellsOpenedFiles};
+ghost use Rattle.check_command.specs.inner.CheckSteps.{CountsAll, CountsFile, CountsIfThere};
+ghost use Rattle.refusals.specs.declared.refusal.Refusal.TheVariants.{OutOfMemory};
+ghost use Rattle.plan_parts.specs.declared.ranges.TheConstants.{MAX_BLOCKS};
+ghost use Rattle.command_io.specs.FaultLine.{EndsBy};
+ghost use Rattle.command_io.specs.declared.refused.Refused.TheVariants.{Run};
+
+use crate::counting::count_on;
+use crate::counts::Counts;
+use command_io::refused::Refused;
+use command_io::refused::fault_line::tell;
+use command_io::refused::source::Source;
+use devices::files::opener::Opener;
+use devices::files::system_files::SystemFiles;
+use std::alloc::Global;
+use std::rt::Files;
+use text_lines::text_fault::{TextFault, TextFile};
+
+/// Reads the files of an instance, `BASE.blocks`, `BASE.prec` and `BASE.pcpsp`, then `BASE.cpit` if it can be opened, and
+/// counts each text while its file is read. Appends the line of their counts to `out`, or the line of the first fault to `err`; only one
+/// of the two grows. A file that cannot be opened or read, or is too long, is told before a faulty line of any file; of several the first.
+/// Opens no other file. Returns the status that the program ends with:
+///
+/// - 0: the counts were appended;
+/// - 1: a text is too long, or has a faulty line;
+/// - 3: a file cannot be opened or read;
+/// - 4: memory was refused, and both vectors are as they were.
+pub fn check<O: Opener>(
+    alloc: Global,
+    files: &mut O,
+    base: &str,
+    out: &mut Vec<u8>,
+    err: &mut Vec<u8>,
+) -> u8
+    ensures done { result ≡ 0 → TellsFiles base.now O.Opened.left O.Opened.given
+        O.Opened.failures (O.opened files.old) (O.opened files.new) out.old.items out.new.items }
+    ensures quiet { result ≡ 0 → err.new.items ≡ err.old.items }
+    ensures refused { result ≢ 0 → out.new.items ≡ out.old.items }
+    ensures status { IsCheckStatus result }
+    ensures told { result ≢ 0 → EndsBy (IsFoundIn base.now O.Opened.left O.Opened.given O.Opened.failures
+        (O.opened files.old) (O.opened files.new)) err.old.items err.new.items result }
+    ensures memory { result ≡ 4 → err.new.items ≡ err.old.items }
+{
+    match tell_counts(alloc, base, files, out) {
+        Ok(()) => 0,
+        Err(refused) => tell(alloc, &refused, err),
+    }
+}
+
+/// The same of the files of the system. No contract can say what they hold: what is told is of some files at these paths.
+pub fn check_files<R: Files>(
+    rt: &R,
+    alloc: Global,
+    base: &str,
+    out: &mut Vec<u8>,
+    err: &mut Vec<u8>,
+) -> u8
+where
+    R::File: Send,
+    ensures done { result ≡ 0 → TellsOpenedFiles base.now out.old.items out.new.items }
+    ensures quiet { result ≡ 0 → err.new.items ≡ err.old.items }
+    ensures refused { result ≢ 0 → out.new.items ≡ out.old.items }
+    ensures status { IsCheckStatus result }
+    ensures told { result ≢ 0 → EndsBy (IsFoundInOpenedFiles base.now) err.old.items err.new.items result }
+    ensures memory { result ≡ 4 → err.new.items ≡ err.old.items }
+{
+    check(alloc, &mut SystemFiles::new(rt), base, out, err)
+}
+
+// Appends the line of the counts of the files. Where it is refused `out` is as it was.
+fn tell_counts<O: Opener>(
+    alloc: Global,
+    base: &str,
+    files: &mut O,
+    out: &mut Vec<u8>,
+) -> Result<(), Refused>
+    ensures counts { OnOk result (TellsFiles base.now O.Opened.left O.Opened.given
+        O.Opened.failures (O.opened files.old) (O.opened files.new) out.old.items out.new.items) }
+    ensures kept { OnErr result (out.new.items ≡ out.old.items) }
+    ensures fault { IfErr result (IsFoundIn base.now O.Opened.left O.Opened.given O.Opened.failures
+        (O.opened files.old) (O.opened files.new)) }
+{
+    let counts = match count_all(alloc, base, files)? {
+        Ok(counts) => counts,
+        Err(fault) => return Err(Refused::Text(fault)),
+    };
+    let line = format!(in alloc; "{counts}\n")?;
+    out.extend_from_slice(line.as_bytes())?;
+    Ok(())
+}
+
+// What the texts of the files are counted as, or the first faulty line of them. Each file is read to its end in either case.
+fn count_all<O: Opener>(
+    alloc: Global,
+    base: &str,
+    files: &mut O,
+) -> Result<Result<Counts, TextFault>, Refused>
+    ensures counts { IfOk result (CountsAll base.now O.Opened.left O.Opened.given O.Opened.failures
+        (O.opened files.old) (O.opened files.new)) }
+    ensures fault { IfErr result (IsFoundIn base.now O.Opened.left O.Opened.given O.Opened.failures
+        (O.opened files.old) (O.opened files.new)) }
+{
+    let blocks = count_file(alloc, base, TextFile::Blocks, files, Ok(Counts::new()))?;
+    let prec = count_file(alloc, base, TextFile::Prec, files, blocks)?;
+    let pcpsp = count_file(alloc, base, TextFile::Pcpsp, files, prec)?;
+    match count_if_there(alloc, base, TextFile::Cpit, files, pcpsp)? {
+        Some(cpit) => Ok(cpit),
+        None => Ok(pcpsp),
+    }
+}
+
+// What a file is counted as, behind the files before. It is none that may be missing.
+fn count_file<O: Opener>(
+    alloc: Global,
+    base: &str,
+    file: TextFile,
+    files: &mut O,
+    so_far: Result<Counts, TextFault>,
+) -> Result<Result<Counts, TextFault>, Refused>
+    requires needed { file ≢ TextFile.Cpit }
+    requires few { IfOk so_far (λ counts. counts.blocks ≤ MAX_BLOCKS) }
+    ensures counts { IfOk result
+        (CountsFile base.now O.Opened.left O.Opened.given O.Opened.failures
+        file so_far (O.opened files.old) (O.opened files.new)) }
+    ensures few { IfOk result (λ answer. IfOk answer (λ counts. counts.blocks ≤ MAX_BLOCKS)) }
+    ensures fault { IfErr result (λ refused. FailsIn base.now O.Opened.left O.Opened.given O.Opened.failures file
+        (O.opened files.old) (O.opened files.new) refused
+        ⊎ (IsMissing base.now file (O.opened files.old) (O.opened files.new) refused
+        ⊎ (refused ≡ Run OutOfMemory))) }
+{
+    match count_if_there(alloc, base, file, files, so_far)? {
+        Some(answer) => Ok(answer),
+        None => Err(Refused::FeedFailed(Source::Text(file))),
+    }
+}
+
+// The same, or `None` where the file cannot be opened.
+#[tactic(auto, using(crate::proofs::Checks::unread_file, crate::proofs::Checks::counted_file))]
+fn count_if_there<O: Opener>(
+    alloc: Global,
+    base: &str,
+    file: TextFile,
+    files: &mut O,
+    so_far: Result<Counts, TextFault>,
+) -> Result<Option<Result<Counts, TextFault>>, Refused>
+    requires few { IfOk so_far (λ counts. counts.blocks ≤ MAX_BLOCKS) }
+    ensures counts { IfOk result
+        (CountsIfThere base.now O.Opened.left O.Opened.given O.Opened.failures
+        file so_far (O.opened files.old) (O.opened files.new)) }
+    ensures few { IfOk result (λ found. IfSome found (λ answer. IfOk answer
+        (λ counts. counts.blocks ≤ MAX_BLOCKS))) }
+    ensures fault { IfErr result (λ refused. FailsIn base.now O.Opened.left O.Opened.given O.Opened.failures file
+        (O.opened files.old) (O.opened files.new) refused ⊎ (refused ≡ Run OutOfMemory)) }
+{
+    let path = format!(in alloc; "{base}.{file}")?;
+    match files.open(path.as_str()) {
+        Ok(mut feed) => match count_on(alloc, file, so_far, &mut feed) {
+            Ok(answer) => Ok(Some(answer)),
+            Err(fault) => Err(Refused::unread(Source::Text(file), fault)),
+        },
+        Err(_) => Ok(None),
+    }
+}

@@ -1,0 +1,117 @@
+//! The counts of the texts of an instance, one file after the other.
+
+ghost use Rattle.std.specs.Prelude.{◌≡◌, ◌-◌, ◌≤◌, [], IfOk, IfErr, IfSome, OnOk};
+ghost use Rattle.devices.specs.feeds.FeedSteps.{left_after};
+ghost use Rattle.devices.specs.declared.feeds.slurp.TheConstants.{GREATEST_LIMIT};
+ghost use Rattle.minelib_reading.specs.FedCounts.{IsFedAnswer};
+ghost use Rattle.check_command.specs.inner.CountSteps.{counted_in, counted_on};
+ghost use Rattle.plan_parts.specs.declared.ranges.TheConstants.{MAX_BLOCKS};
+ghost use Rattle.text_lines.specs.Fed.{FailsAsFed};
+
+use crate::counts::Counts;
+use devices::feeds::feed::Feed;
+use devices::feeds::slurp::GREATEST_LIMIT;
+use minelib_lines::problem::Problem;
+use minelib_reading::{count_arcs, count_blocks, count_model};
+use std::alloc::Global;
+use text_lines::fed_lines::{FedResult, pass_text};
+use text_lines::text_fault::{TextFault, TextFile};
+
+/// What the files before and the text of this one are counted as, or the first faulty line of them. The text is read to
+/// its end in either case.
+///
+/// # Errors
+///
+/// Those of `read_fed`.
+#[tactic(auto, using(crate::proofs::CountedAll::passed, crate::proofs::CountedAll::told))]
+pub fn count_on<F: Feed>(
+    alloc: Global,
+    file: TextFile,
+    so_far: Result<Counts, TextFault>,
+    feed: &mut F,
+) -> FedResult<Counts, TextFault>
+    requires { IfOk so_far (λ counts. counts.blocks ≤ MAX_BLOCKS) }
+
+    // What an answer tells of the text.
+    ensures counts { IfOk result
+        (IsFedAnswer (counted_on file so_far) (F.left feed.old) GREATEST_LIMIT) }
+    ensures few { IfOk result (λ answer. IfOk answer (λ counts. counts.blocks ≤ MAX_BLOCKS)) }
+
+    // The feed is used up then, and refused no pull.
+    ensures used_up { OnOk result (IfSome (F.left feed.new) (λ bytes. bytes ≡ [])) }
+    ensures works { OnOk result (F.failures feed.new ≡ F.failures feed.old) }
+
+    // When each fault comes.
+    ensures refused { IfErr result (FailsAsFed (F.left feed.old) GREATEST_LIMIT (F.given feed.old)
+        (F.given feed.new) (F.failures feed.old) (F.failures feed.new)) }
+
+    // Where the feed stands, whatever was answered.
+    ensures stands { F.left feed.new
+        ≡ left_after (F.given feed.new - F.given feed.old) (F.left feed.old) }
+{
+    match so_far {
+        Ok(counts) => match count_in(alloc, file, counts, feed)? {
+            Ok(counts) => Ok(Ok(counts)),
+            Err(fault) => Ok(Err(fault.in_file(file))),
+        },
+        Err(fault) => {
+            pass_text(alloc, feed, GREATEST_LIMIT)?;
+            Ok(Err(fault))
+        }
+    }
+}
+
+// The counts with those of the text of this file, or its first faulty line.
+#[tactic(auto, using(crate::proofs::CountedAll::blocks_told, crate::proofs::CountedAll::arcs_told, crate::proofs::CountedAll::model_told, crate::proofs::CountedAll::cpit_told))]
+fn count_in<F: Feed>(
+    alloc: Global,
+    file: TextFile,
+    counts: Counts,
+    feed: &mut F,
+) -> FedResult<Counts>
+    requires { counts.blocks ≤ MAX_BLOCKS }
+
+    // What an answer tells of the text.
+    ensures counts { IfOk result
+        (IsFedAnswer (counted_in file counts) (F.left feed.old) GREATEST_LIMIT) }
+    ensures few { IfOk result (λ answer. IfOk answer (λ counts. counts.blocks ≤ MAX_BLOCKS)) }
+
+    // The feed is used up then, and refused no pull.
+    ensures used_up { OnOk result (IfSome (F.left feed.new) (λ bytes. bytes ≡ [])) }
+    ensures works { OnOk result (F.failures feed.new ≡ F.failures feed.old) }
+
+    // When each fault comes.
+    ensures refused { IfErr result (FailsAsFed (F.left feed.old) GREATEST_LIMIT (F.given feed.old)
+        (F.given feed.new) (F.failures feed.old) (F.failures feed.new)) }
+
+    // Where the feed stands, whatever was answered.
+    ensures stands { F.left feed.new
+        ≡ left_after (F.given feed.new - F.given feed.old) (F.left feed.old) }
+{
+    let n = counts.blocks;
+    match file {
+        TextFile::Blocks => match count_blocks(alloc, feed, GREATEST_LIMIT)? {
+            Ok(blocks) => Ok(Ok(Counts { blocks, ..counts })),
+            Err(fault) => Ok(Err(fault)),
+        },
+        TextFile::Prec => match count_arcs(alloc, n, feed, GREATEST_LIMIT)? {
+            Ok(arcs) => Ok(Ok(Counts { arcs, ..counts })),
+            Err(fault) => Ok(Err(fault)),
+        },
+        TextFile::Pcpsp => match count_model(alloc, Problem::Pcpsp, n, feed, GREATEST_LIMIT)? {
+            Ok((coefficients, limits)) => Ok(Ok(Counts {
+                coefficients,
+                limits,
+                ..counts
+            })),
+            Err(fault) => Ok(Err(fault)),
+        },
+        TextFile::Cpit => match count_model(alloc, Problem::Cpit, n, feed, GREATEST_LIMIT)? {
+            Ok((coefficients, _)) => Ok(Ok(Counts {
+                cpit: Some(coefficients),
+                ..counts
+            })),
+            Err(fault) => Ok(Err(fault)),
+        },
+    }
+}

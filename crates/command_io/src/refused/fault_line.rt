@@ -1,0 +1,57 @@
+//! The line that the program writes of a refusal, and the status that it ends with.
+
+ghost use Rattle.std.specs.Prelude.{◌≡◌, ◌≤◌, ◌++◌, length, Ok, IfOk, IfErr, OnOk, OnErr};
+ghost use Rattle.pit_model.specs.Planned.{planned};
+ghost use Rattle.command_io.specs.FaultLine.{Ends, EndsBy, EndsRefused, program_line};
+ghost use Rattle.command_io.specs.PlanText.{IsNoPlan};
+ghost use Rattle.command_io.specs.Refused.{refused_text};
+ghost use Rattle.plan_parts.specs.declared.ranges.TheConstants.{MAX_PLAN_BYTES};
+
+use crate::plan_text::stated_plan;
+use crate::refused::Refused;
+use crate::refused::status::RESOURCES;
+use pit_model::plan::Plan;
+use refusals::refusal::Refusal;
+use std::alloc::{AllocError, Global};
+
+/// The plan that a text states; or the status of its refusal, with the line of the fault appended to `lines`.
+///
+/// A text of more than 1,048,576 bytes is `plan: TooLong`. Where memory is refused, for the plan or for the line, the status is that of
+/// memory and `lines` is as it was.
+#[tactic(auto, using(crate::proofs::Ends::no_plan_ends))]
+pub fn plan_from(alloc: Global, text: &[u8], lines: &mut Vec<u8>) -> Result<Plan, u8>
+    ensures plan { IfOk result (λ plan. (length text.now ≤ MAX_PLAN_BYTES)
+        × (planned text.now ≡ Ok plan)) }
+    ensures quiet { OnOk result (lines.new.items ≡ lines.old.items) }
+    ensures refused { IfErr result (EndsBy (IsNoPlan text.now) lines.old.items lines.new.items) }
+    ensures ends { IfErr result (EndsRefused lines.old.items lines.new.items) }
+{
+    match stated_plan(alloc, text) {
+        Ok(plan) => Ok(plan),
+        Err(refused) => Err(tell(alloc, &refused, lines)),
+    }
+}
+
+/// Appends the line of a refusal, and answers the status that it ends the program with. Where memory is refused, before or for the line,
+/// the status is that of memory and `lines` is as it was.
+pub fn tell(alloc: Global, refused: &Refused, lines: &mut Vec<u8>) -> u8
+    ensures { Ends refused.now lines.old.items lines.new.items result }
+{
+    if *refused == Refused::Run(Refusal::OutOfMemory) {
+        return RESOURCES;
+    }
+    match append_line(alloc, refused, lines) {
+        Ok(()) => refused.status(),
+        Err(_) => RESOURCES,
+    }
+}
+
+/// Appends the line of a refusal. Where memory is refused `lines` is as it was.
+pub fn append_line(alloc: Global, refused: &Refused, lines: &mut Vec<u8>) -> Result<(), AllocError>
+    ensures ok { OnOk result
+        (lines.new.items ≡ lines.old.items ++ program_line (refused_text refused.now)) }
+    ensures err { OnErr result (lines.new.items ≡ lines.old.items) }
+{
+    let line = format!(in alloc; "pitc: {refused}\n")?;
+    lines.extend_from_slice(line.as_bytes())
+}

@@ -1,0 +1,23 @@
+//! Writing to an output, whole.
+
+ghost use Rattle.std.specs.Prelude.{OnErr, OnOk};
+ghost use Rattle.command_io.specs.WriteWhole.{TakesAll, TakesLess};
+
+use devices::sinks::sink::{Sink, SinkFault};
+
+/// Puts all these bytes to an output that goes on.
+///
+/// # Errors
+///
+/// It refused a call. It took a front of the bytes, and not all of them.
+#[tactic(auto, using(crate::proofs::Outputs::took_none, crate::proofs::Outputs::took_all))]
+pub fn write_whole<S: Sink>(output: &mut S, bytes: &[u8]) -> Result<(), SinkFault>
+    ensures whole { OnOk result (TakesAll bytes.now (S.state output.old) (S.state output.new)) }
+    ensures short { OnErr result (TakesLess bytes.now (S.state output.old) (S.state output.new)) }
+{
+    let mut taken = 0;
+    while taken < bytes.len() {
+        taken += output.put(&bytes[taken..])?;
+    }
+    Ok(())
+}

@@ -1,0 +1,106 @@
+//! The command line of pitc_thin, and the run that its words state.
+
+ghost use Rattle.std.specs.Prelude.{◌≡◌, [], map, string_bytes, IfOk, IfErr};
+ghost use Rattle.clap.specs.Words.{app_of, fault_of, matches_of};
+ghost use Rattle.command_lines.specs.CommandLine.{IsNoMemoryLine};
+ghost use Rattle.command_lines.specs.ThinLine.{RefusesThin, StatesRun, thin_program, thin_top};
+ghost use Rattle.command_lines.specs.inner.Commands.{FindsWordsIfAny, IsCommandOf};
+
+use crate::command_line::{
+    VERSION, capacity_option, out_option, plan_option, valuers_option, zones,
+};
+use crate::job::{JobFault, RunWords};
+use crate::run_words::run_words;
+use clap::Command;
+use clap::error::ErrorKind;
+use std::alloc::{AllocError, Global};
+
+const ABOUT: &str = "Writes the precedences of a model, and leaves out arcs that follow from others.
+
+From a block to another one no arc is needed where a third, for which the first waits, waits for the
+other. What is left allows the same pits and the same schedules, and a solver has fewer arcs to take.
+Where all zones have one cone, no arc that is left can be spared; where cones differ, some could be.";
+
+const AFTER: &str = "Example:
+  pitc_thin --plan march.plan --out out/march.thin north.csv south.csv
+      reads the plan and its zone files, one for each zone of the plan and in its order,
+      writes out/march.thin, replacing what is there, in the format of the file out/march.prec of pitc,
+      and prints `rows N arcs M of L`: N blocks, M arcs that are left, L arcs of the whole lists
+
+An input whose path is that of FILE is overwritten. `-` is a file of that name. `pitc check` wants the
+file that pitc writes, and not this one. Statuses and faults are those of pitc compile.";
+
+/// The run that these words state. The first word is the program's name.
+///
+/// # Errors
+///
+/// - `Line`: `clap` refuses the words, or they ask for help or the version.
+/// - `OutOfMemory`: memory was refused, here or within `clap`.
+pub fn thin_run(alloc: Global, words: &[String]) -> Result<RunWords, JobFault>
+    ensures accepted { IfOk result (λ _. fault_of thin_program (map string_bytes words.now) ≡ []) }
+    ensures stated { IfOk result (StatesRun (map string_bytes words.now)) }
+    ensures refused { IfErr result (RefusesThin (map string_bytes words.now)) }
+    ensures memory { IfErr result IsNoMemoryLine }
+{
+    let mut command = thin_command(alloc)?;
+    run_by(alloc, &mut command, words)
+}
+
+// The run that these words state by the program's command line.
+fn run_by<'a>(
+    alloc: Global,
+    command: &mut Command<'a>,
+    words: &'a [String],
+) -> Result<RunWords, JobFault>
+    requires { app_of command.old ≡ thin_program }
+    ensures accepted { IfOk result (λ _. fault_of thin_program (map string_bytes words.now) ≡ []) }
+    ensures stated { IfOk result (StatesRun (map string_bytes words.now)) }
+    ensures refused { IfErr result (RefusesThin (map string_bytes words.now)) }
+    ensures memory { IfErr result IsNoMemoryLine }
+{
+    if let Some(stated) = run_if_any(alloc, command, words)? {
+        return Ok(stated);
+    }
+    let fault = command.error(ErrorKind::MissingRequiredArgument, "a run is required")?;
+    Err(JobFault::from(fault))
+}
+
+// The run that clap finds in these words, if it finds one.
+fn run_if_any<'a>(
+    alloc: Global,
+    command: &mut Command<'a>,
+    words: &'a [String],
+) -> Result<Option<RunWords>, JobFault>
+    requires { app_of command.old ≡ thin_program }
+    ensures accepted { IfOk result (λ _. fault_of thin_program (map string_bytes words.now) ≡ []) }
+    ensures found { IfOk result
+        (FindsWordsIfAny (matches_of thin_program (map string_bytes words.now))) }
+    ensures refused { IfErr result (RefusesThin (map string_bytes words.now)) }
+    ensures memory { IfErr result IsNoMemoryLine }
+{
+    let matches = command.try_get_matches_from_mut(words)?;
+    Ok(run_words(alloc, &matches)?)
+}
+
+/// The program's command line.
+pub fn thin_command<'a>(alloc: Global) -> Result<Command<'a>, AllocError>
+    ensures { IfOk result (λ command. app_of command ≡ thin_program) }
+{
+    top_command(alloc)
+        .arg(plan_option(alloc))?
+        .arg(out_option(alloc, "FILE", "The file that is written"))?
+        .arg(valuers_option(alloc))?
+        .arg(capacity_option(alloc))?
+        .arg(zones(alloc))
+}
+
+// The program itself, without its words.
+#[tactic(auto, unfolding(crate::specs::ThinLine::thin_top))]
+fn top_command<'a>(alloc: Global) -> Command<'a>
+    ensures { IsCommandOf thin_top result }
+{
+    Command::new(alloc, "pitc_thin")
+        .about(ABOUT)
+        .after_help(AFTER)
+        .version(VERSION)
+}

@@ -1,0 +1,128 @@
+//! A model to be compiled, by the pipe form or from files to files.
+
+ghost use Rattle.std.specs.Prelude.{◌≡◌, ◌≢◌, ◌+◌, length, IfErr, OnErr, OnOk};
+ghost use Rattle.plan_parts.specs.Destinations.{formulas_of};
+ghost use Rattle.command_io.specs.FaultLine.{EndsBy};
+ghost use Rattle.run_threads.specs.Starts.{none_spent, AreSettled, AreSpent};
+ghost use Rattle.compile_command.specs.Printed.{IsNoPipe, IsPrinted};
+ghost use Rattle.compile_command.specs.Task.{IsNoTask, IsTaskDone, plan_in};
+
+use crate::compile_at::{Ended, compile_at};
+use crate::model::Model;
+use crate::pipe_form::pipe_with_starts;
+use command_io::refused::Refused;
+use command_io::refused::fault_line::tell;
+use devices::files::file_slot::FileSlots;
+use devices::files::opener::Opener;
+use pit_compile::Starts;
+use pit_compile::settings::Settings;
+use pit_model::destination::Destination;
+use pit_model::plan::Plan;
+use std::alloc::Global;
+use std::sync::Wait;
+use std::thread::Threads;
+
+/// A model to be compiled.
+#[derive(Drop)]
+pub enum Task {
+    /// The model that an input gave, whose texts are printed.
+    Pipe(Model),
+    /// A plan with the paths of its zone files, whose texts are written to the files of BASE.
+    Files {
+        plan: Plan,
+        settings: Settings,
+        base: String,
+        zones: Vec<String>,
+    },
+}
+
+impl Task {
+    /// The plan of the model.
+    pub fn plan(&self) -> &Plan
+        ensures { result.now ≡ plan_in self.now }
+    {
+        match self {
+            Task::Pipe(model) => &model.plan,
+            Task::Files { plan, .. } => plan,
+        }
+    }
+
+    /// Compiles the model with these destinations, and answers how that ended. Where the status is 0 it appends to `text` what standard
+    /// output is to have, and else to `lines` what standard error is to have. Only for files it asks for files and slots.
+    pub fn run<R: Threads + Wait + Sync, O: Opener, F: FileSlots>(
+        &self,
+        alloc: Global,
+        files: &mut O,
+        slots: &mut F,
+        destinations: &[Destination],
+        starts: &mut Starts<'_, R>,
+        text: &mut Vec<u8>,
+        lines: &mut Vec<u8>,
+    ) -> Ended<F::Slot>
+        requires unspent { starts.old ≡ none_spent starts.old.allowed }
+        ensures done { result.status ≡ 0 → IsTaskDone (O.opened files.old) (O.opened files.new)
+            (F.made slots.old) (F.made slots.new) starts.old starts.new F.Slot.tells self.now
+            result.sinks text.old.items text.new.items }
+        ensures quiet { result.status ≡ 0 → lines.new.items ≡ lines.old.items }
+        ensures kept { result.status ≢ 0 → text.new.items ≡ text.old.items }
+        ensures refused { result.status ≢ 0 → EndsBy (IsNoTask (O.opened files.old)
+            (O.opened files.new) (F.made slots.old) (F.made slots.new) starts.old starts.new
+            F.Slot.tells O.Opened.left O.Opened.is_sure O.Opened.failures self.now
+            (formulas_of destinations.now) result.sinks) lines.old.items lines.new.items result.status }
+        ensures settled { AreSettled starts.old starts.new }
+    {
+        match self {
+            Task::Pipe(model) => {
+                let status = match run_pipe(alloc, model, destinations, starts, text) {
+                    Ok(()) => 0,
+                    Err(refused) => tell(alloc, &refused, lines),
+                };
+                Ended {
+                    status,
+                    sinks: None,
+                }
+            }
+            Task::Files {
+                plan,
+                settings,
+                base,
+                zones,
+            } => compile_at(
+                alloc,
+                files,
+                slots,
+                plan,
+                destinations,
+                *settings,
+                starts,
+                base.as_str(),
+                zones.as_slice(),
+                text,
+                lines,
+            ),
+        }
+    }
+}
+
+// Appends what the pipe form prints of the model to `text`. Where it is refused `text` is as it was.
+fn run_pipe<R: Threads + Wait + Sync>(
+    alloc: Global,
+    model: &Model,
+    destinations: &[Destination],
+    starts: &mut Starts<'_, R>,
+    text: &mut Vec<u8>,
+) -> Result<(), Refused>
+    requires { starts.old ≡ none_spent starts.old.allowed }
+    ensures done { OnOk result
+        (IsPrinted model.now.plan model.now.pieces.zones text.old.items text.new.items) }
+    ensures started { OnOk result (AreSpent (4 + length model.now.pieces.zones) starts.new) }
+    ensures kept { OnErr result (text.new.items ≡ text.old.items) }
+    ensures refused { IfErr result
+        (IsNoPipe model.now.plan (formulas_of destinations.now) model.now.pieces.zones starts.old
+        starts.new) }
+    ensures settled { AreSettled starts.old starts.new }
+{
+    let zones = model.pieces.zones();
+    pipe_with_starts(alloc, zones, &model.plan, destinations, starts, text)?;
+    Ok(())
+}

@@ -1,5 +1,0 @@
-use Rattle.pit_parts.proofs.BandFacts.{recovers_by_band}
-use Rattle.pit_parts.proofs.laws.a_leach_recovers_by_the_band_of_the_grade.Goals as goal
-
-pub returns-clause-band : goal.returns-clause-band
-returns-clause-band c = recovers_by_band

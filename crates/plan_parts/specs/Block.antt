@@ -1,0 +1,26 @@
+-- A block by its fields.
+use Rattle.std.specs.Prelude.{ℕ, suc, ◌-◌, ◌<◌, min}
+use Rattle.std.proofs.Math.Nat.{min-le_right, suc-le-suc_iff}
+use Rattle.plan_parts.specs.declared.block.Block.{Block}
+use Rattle.plan_parts.specs.declared.ranges.TheConstants.{GRID_CELLS, MAX_GRADE, MAX_KG, MAX_ZONES}
+
+-- the least of a number and the most that is in range is in range
+pub least_below : (n most : ℕ) → min n most < suc most
+least_below n most = suc-le-suc_iff.1 (min-le_right n most)
+
+-- the block of these fields; of one that is out of its range, the greatest that is in it
+unfoldable pub block_with : (x y z kg grade zone : ℕ) → Block
+block_with x y z kg grade zone = record {
+  x = min x (GRID_CELLS - 1);
+  y = min y (GRID_CELLS - 1);
+  z = min z (GRID_CELLS - 1);
+  kg = min kg MAX_KG;
+  grade = min grade MAX_GRADE;
+  zone = min zone (MAX_ZONES - 1);
+  x_in_grid = least_below x (GRID_CELLS - 1);
+  y_in_grid = least_below y (GRID_CELLS - 1);
+  z_in_grid = least_below z (GRID_CELLS - 1);
+  kg_in_range = min-le_right kg MAX_KG;
+  grade_in_range = min-le_right grade MAX_GRADE;
+  zone_in_range = least_below zone (MAX_ZONES - 1);
+}

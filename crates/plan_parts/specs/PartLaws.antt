@@ -1,0 +1,65 @@
+-- Other words for NAMEs, bands, worths and limits, which laws compare with their definitions.
+use Rattle.std.specs.Prelude.{ℕ, ◌+◌, ◌*◌, ◌≤◌, List, All, ℤ, pos, ◌+ℤ◌, ◌*ℤ◌, ◌≤ℤ◌, codes}
+use Rattle.std.specs.List.{Contains}
+use Rattle.plan_parts.specs.formulas.Bands.{recovery_at}
+use Rattle.plan_parts.specs.declared.formulas.band.Band.{Band}
+use Rattle.plan_parts.specs.declared.block.Block.{Block}
+use Rattle.plan_parts.specs.declared.formulas.formula.Formula.{Formula}
+use Rattle.plan_parts.specs.declared.formulas.formula.Formula.TheVariants as formula
+use Rattle.plan_parts.specs.declared.limit.Bound.{Bound}
+use Rattle.plan_parts.specs.declared.limit.Bound.TheVariants.{AtMost, AtLeast, Between}
+use Rattle.plan_parts.specs.declared.limit.Limit.{Limit}
+use Rattle.plan_parts.specs.declared.ranges.TheConstants.{MAX_PERIODS}
+
+-- the bytes of NAMEs
+abbrev pub name_bytes : List ℕ
+name_bytes = codes "ABCDEFGHIJKLMNOPQRSTUVWXYZabcdefghijklmnopqrstuvwxyz0123456789_-."
+
+-- the band of a grade: of those that begin at or below it, it begins highest
+pub record IsBandOf (bands : List Band) (grade : ℕ) (b : Band) : Type 0 where
+  pub one : Contains bands b
+  pub begun : b.start ≤ grade
+  pub highest : All (λ c. c.start ≤ grade → c.start ≤ b.start) bands
+
+-- of a formula: what is recovered at a grade, per mille, which on a dump is nothing; what the metal sells for, in cents a kilogram; and
+-- what the block costs, in cents a tonne
+abbrev pub recovered : Formula → ℕ → ℕ
+recovered (formula.Mill recovery price cost) grade = recovery
+recovered (formula.Leach bands price cost) grade = recovery_at bands grade
+recovered (formula.Dump cost) grade = 0
+
+abbrev pub price_of : Formula → ℕ
+price_of (formula.Mill recovery price cost) = price
+price_of (formula.Leach bands price cost) = price
+price_of (formula.Dump cost) = 0
+
+abbrev pub cost_of : Formula → ℕ
+cost_of (formula.Mill recovery price cost) = cost
+cost_of (formula.Leach bands price cost) = cost
+cost_of (formula.Dump cost) = cost
+
+-- the kilograms of a tonne and the grams of a kilogram; the parts of a gram in which grades count; the parts in which recoveries count
+abbrev pub kilo : ℕ
+kilo = 1000
+
+abbrev pub million : ℕ
+million = 1000000
+
+abbrev pub mille : ℕ
+mille = 1000
+
+-- the recovered metal of a block pays what the block costs, and so many cents more
+abbrev pub Earns : Formula → Block → ℤ → Type 0
+Earns f b cents =
+    ((cents *ℤ pos (kilo * million * kilo * mille)) +ℤ pos (b.kg * cost_of f * (million * kilo * mille)))
+    ≤ℤ pos (b.kg * b.grade * recovered f b.grade * price_of f)
+
+-- so many tonnes keep a bound
+abbrev pub KeepsBound : Bound → ℤ → Type 0
+KeepsBound (AtMost v) tonnes = tonnes ≤ℤ v
+KeepsBound (AtLeast v) tonnes = v ≤ℤ tonnes
+KeepsBound (Between v w) tonnes = (v ≤ℤ tonnes) × (tonnes ≤ℤ w)
+
+-- the place of a limit in a table of all periods of the first resource, then of the second, and so on
+abbrev pub place_of : Limit → ℕ
+place_of l = l.resource * MAX_PERIODS + l.period

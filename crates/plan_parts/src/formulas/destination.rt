@@ -1,0 +1,67 @@
+//! A destination: a formula, and the stored closure that values blocks by it.
+
+ghost use Rattle.std.specs.Prelude.{◌≡◌, ℤ};
+ghost use Rattle.plan_parts.specs.formulas.Formula.{IsRuled};
+ghost use Rattle.plan_parts.specs.inner.RuledOnce.{IsRuled-prop};
+ghost use Rattle.plan_parts.specs.formulas.Worth.{worth};
+ghost use Rattle.plan_parts.specs.formulas.WorthRange.{IsWorth};
+ghost use Rattle.plan_parts.specs.declared.block.Block.{Block as ABlock};
+
+use crate::block::Block;
+use crate::formulas::formula::Formula;
+
+/// What values a block: a closure on the heap, which may go to another thread and be called from several at once.
+pub type Valuer = Box<dyn Fn(Block) -> i128 + Send + Sync>;
+
+/// A destination: its formula, and a closure that may be called on every block and answers the formula's worth. Beside
+/// the two it keeps the fact that this is so.
+#[derive(Drop)]
+pub struct Destination {
+    formula: Formula,
+    valuer: Valuer,
+    ghost ruled: { IsRuled formula } by { IsRuled-prop formula },
+    ghost callable: { Valuer.IsAlwaysCallable valuer },
+    ghost answers: { (b : ABlock) (r : ℤ) → Valuer.post valuer b r → r ≡ worth formula b },
+}
+
+impl Destination {
+    ghost use Rattle.plan_parts.specs.Destinations.{formula_of};
+    ghost use Rattle.plan_parts.specs.OfPlan.{valuer_of};
+
+    /// A destination with this formula and this closure, which may be called on every block and answers the formula's
+    /// worth. It takes no memory.
+    pub fn new(formula: Formula, valuer: Valuer) -> Destination
+        requires ruled { IsRuled formula }
+        requires callable { Valuer.IsAlwaysCallable valuer }
+        requires answers { (b : ABlock) (r : ℤ) → Valuer.post valuer b r → r ≡ worth formula b }
+        ensures { formula_of result ≡ formula }
+    {
+        Destination { formula, valuer }
+    }
+
+    /// What a block is worth here, in cents: the answer of the closure.
+    #[tactic(auto, using(crate::proofs::WorthFacts::worth_bound))]
+    pub fn value(&self, block: Block) -> i128
+        ensures asked { Valuer.post (valuer_of self.now) block result }
+        ensures value { result ≡ worth (formula_of self.now) block }
+        ensures in_range { IsWorth result }
+    {
+        ask(&self.valuer, block)
+    }
+
+    /// The formula.
+    pub fn formula(&self) -> &Formula
+        ensures value { result.now ≡ formula_of self.now }
+        ensures ruled { IsRuled result.now }
+    {
+        &self.formula
+    }
+}
+
+// The closure's answer, whatever the closure is.
+fn ask(valuer: &Valuer, block: Block) -> i128
+    requires { Valuer.pre valuer.now block }
+    ensures { Valuer.post valuer.now block result }
+{
+    valuer(block)
+}

@@ -1,0 +1,88 @@
+//! How a destination values a block.
+
+ghost use Rattle.std.specs.Prelude.{◌≡◌, IfOk, OnErr};
+ghost use Rattle.plan_parts.specs.formulas.Formula.{IsRuled};
+ghost use Rattle.plan_parts.specs.formulas.FormulaCopy.{HasBands};
+ghost use Rattle.plan_parts.specs.formulas.Worth.{worth};
+ghost use Rattle.plan_parts.specs.formulas.WorthRange.{IsWorth};
+
+use crate::block::Block;
+use crate::formulas::band::Bands;
+use crate::formulas::worth::{dump_worth, leach_worth, mill_worth};
+use crate::name::Name;
+use std::alloc::{AllocError, Global};
+
+/// How a destination values a block. The numbers of a plan's formulas are in range; functions that use a formula
+/// require it.
+///
+/// `==` tells whether two formulas are of one kind and have the same numbers.
+#[derive(Debug, Drop, PartialEq, Eq)]
+pub enum Formula {
+    /// A mill: it recovers `recovery` per mille of the metal, 0 to 1000, which sells for `price` cents per kilogram, 0 to 10^8, and it costs
+    /// `cost` cents per tonne of the block, 0 to 10^7.
+    Mill {
+        recovery: u16,
+        price: u64,
+        cost: u64,
+    },
+    /// A heap leach: the same, with the recovery of the band of the block's grade.
+    Leach {
+        bands: Bands,
+        price: u64,
+        cost: u64,
+    },
+    /// Waste: the block costs `cost` cents per tonne, 0 to 10^7.
+    Dump {
+        cost: u64,
+    },
+}
+
+impl Formula {
+    /// The same formula in memory of its own. Fails only where memory is refused, which only a leach asks for.
+    pub fn copy(&self, alloc: Global) -> Result<Formula, AllocError>
+        ensures value { IfOk result (λ f. f ≡ self.now) }
+        ensures memory { OnErr result (HasBands self.now) }
+    {
+        Ok(match self {
+            Formula::Mill {
+                recovery,
+                price,
+                cost,
+            } => Formula::Mill {
+                recovery: *recovery,
+                price: *price,
+                cost: *cost,
+            },
+            Formula::Leach { bands, price, cost } => Formula::Leach {
+                bands: bands.copy(alloc)?,
+                price: *price,
+                cost: *cost,
+            },
+            Formula::Dump { cost } => Formula::Dump { cost: *cost },
+        })
+    }
+
+    /// What a block is worth by this formula, in cents.
+    pub fn worth(&self, block: Block) -> i128
+        requires { IsRuled self.now }
+        ensures value { result ≡ worth self.now block }
+        ensures in_range { IsWorth result }
+    {
+        match self {
+            Formula::Mill {
+                recovery,
+                price,
+                cost,
+            } => mill_worth(block, *recovery, *price, *cost),
+            Formula::Leach { bands, price, cost } => leach_worth(block, bands, *price, *cost),
+            Formula::Dump { cost } => dump_worth(block, *cost),
+        }
+    }
+}
+
+/// A destination of the plan: its NAME and its formula.
+#[derive(Debug, Drop)]
+pub struct NamedFormula {
+    pub name: Name,
+    pub formula: Formula,
+}

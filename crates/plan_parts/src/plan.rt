@@ -1,0 +1,141 @@
+//! The plan of a mine.
+
+ghost use Rattle.std.specs.Prelude.{◌≡◌};
+ghost use Rattle.plan_parts.specs.PlanKept.{IsPlan, plan_of};
+
+use crate::cone::Cone;
+use crate::formulas::formula::NamedFormula;
+use crate::grid::Grid;
+use crate::limit::Limit;
+use crate::name::Name;
+use crate::resource::Resource;
+use pit_units::Dec;
+use std::marker::Model;
+
+/// How many periods a plan has, and its discount rate, the same for each period.
+#[derive(Clone, Copy)]
+pub struct Horizon {
+    /// The number of periods.
+    pub periods: u8,
+    /// The discount rate.
+    pub rate: Dec,
+}
+
+/// The plan of a mine, which `pit_model::read_plan` answers of a text. Contracts see it as the record of its parts, and every value keeps their ranges,
+/// their order, and that each part names only parts that are there.
+#[derive(Debug, Drop)]
+pub struct Plan {
+    name: Name,
+    grid: Grid,
+    cones: Vec<Cone>,
+    formulas: Vec<NamedFormula>,
+    periods: u8,
+    rate: Dec,
+    resources: Vec<Resource>,
+    limits: Vec<Limit>,
+}
+
+impl Model for Plan {
+    ghost use Rattle.plan_parts.specs.Plan.{PlanParts};
+
+    ghost Value = { PlanParts };
+
+    ghost use Rattle.plan_parts.specs.inner.PlanFields.{parts_of, KeepsPlan};
+
+    ghost view = { parts_of };
+
+    ghost invariant = { KeepsPlan };
+}
+
+impl Plan {
+    /// A plan of these parts.
+    pub fn new(
+        name: Name,
+        grid: Grid,
+        cones: Vec<Cone>,
+        formulas: Vec<NamedFormula>,
+        horizon: Horizon,
+        resources: Vec<Resource>,
+        limits: Vec<Limit>,
+    ) -> Plan
+        requires { IsPlan (plan_of name grid cones.items formulas.items horizon.periods horizon.rate
+            resources.items limits.items) }
+        ensures { result ≡ plan_of name grid cones.items formulas.items horizon.periods horizon.rate
+            resources.items limits.items }
+    {
+        Plan {
+            name,
+            grid,
+            cones,
+            formulas,
+            periods: horizon.periods,
+            rate: horizon.rate,
+            resources,
+            limits,
+        }
+    }
+
+    /// The plan's own NAME.
+    pub fn name(&self) -> &Name
+        ensures value { result.now ≡ self.now.name }
+        ensures kept { IsPlan self.now }
+    {
+        &self.name
+    }
+
+    /// The grid of the block model.
+    pub fn grid(&self) -> Grid
+        ensures value { result ≡ self.now.grid }
+        ensures kept { IsPlan self.now }
+    {
+        self.grid
+    }
+
+    /// The slope cone of each zone, in the order of the zone files: 1 to 64.
+    pub fn cones(&self) -> &[Cone]
+        ensures value { result.now ≡ self.now.cones }
+        ensures kept { IsPlan self.now }
+    {
+        self.cones.as_slice()
+    }
+
+    /// The destinations, in the order of the plan: 1 to 8.
+    pub fn formulas(&self) -> &[NamedFormula]
+        ensures value { result.now ≡ self.now.formulas }
+        ensures kept { IsPlan self.now }
+    {
+        self.formulas.as_slice()
+    }
+
+    /// The number of periods, 1 to 100.
+    pub fn periods(&self) -> u8
+        ensures value { result ≡ self.now.periods }
+        ensures kept { IsPlan self.now }
+    {
+        self.periods
+    }
+
+    /// The discount rate, 0 to 1.
+    pub fn rate(&self) -> Dec
+        ensures value { result ≡ self.now.rate }
+        ensures kept { IsPlan self.now }
+    {
+        self.rate
+    }
+
+    /// The resources, in the order of the plan: at most 8.
+    pub fn resources(&self) -> &[Resource]
+        ensures value { result.now ≡ self.now.resources }
+        ensures kept { IsPlan self.now }
+    {
+        self.resources.as_slice()
+    }
+
+    /// The limits, in strictly rising order of resource and period.
+    pub fn limits(&self) -> &[Limit]
+        ensures value { result.now ≡ self.now.limits }
+        ensures kept { IsPlan self.now }
+    {
+        self.limits.as_slice()
+    }
+}

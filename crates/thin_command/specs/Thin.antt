@@ -1,0 +1,87 @@
+-- What pitc_thin does: it opens zone files, writes what is left of the predecessors of their instance, and tells how many they are.
+use Rattle.std.specs.Prelude.{◌≡◌, ℕ, ◌+◌, ◌⊎◌, Bool, List, [], ◌∷◌, ◌++◌, length, map, sum_by, Option}
+use Rattle.devices.specs.files.Opening.{Opening}
+use Rattle.devices.specs.sinks.SinkState.{SinkState, IsWritten, IsCutOff}
+use Rattle.fewer_arcs.specs.Fewer.{fewer}
+use Rattle.lane.specs.Whole.{GatheredView}
+use Rattle.mine_instance.specs.Instance.{Instance}
+use Rattle.minelib_writing.specs.Written.{text_prec}
+use Rattle.minelib_lines.specs.declared.text_name.TextName.TheVariants.{Prec}
+use Rattle.pit_compile.specs.Compiling.{IsNotCompiled}
+use Rattle.pit_compile.specs.Settings.{IsSettingsFault}
+use Rattle.pit_compile.specs.Starts.{AreStartsOf}
+use Rattle.pit_compile.specs.Verdict.{IsAccepted}
+use Rattle.pit_compile.specs.ZoneFiles.{AreGiven, HasPassed, instance_from}
+use Rattle.refusals.specs.declared.refusal.Refusal.{Refusal}
+use Rattle.refusals.specs.declared.refusal.Refusal.TheVariants as refusal
+use Rattle.refusals.specs.declared.settings_fault.SettingsFault.{SettingsFault}
+use Rattle.command_io.specs.ZoneFeeds.{AreNotOpened, AreOpened}
+use Rattle.command_io.specs.declared.refused.Refused.{Refused}
+use Rattle.command_io.specs.declared.refused.Refused.TheVariants.{Run}
+use Rattle.plan_parts.specs.Plan.{PlanParts}
+use Rattle.plan_parts.specs.declared.formulas.formula.Formula.{Formula}
+use Rattle.plan_parts.specs.declared.settings.Settings.{Settings}
+use Rattle.run_threads.specs.Refusing.{HasFailed}
+use Rattle.run_threads.specs.Starts.{AreSpent, StartsView}
+use Rattle.thin_command.specs.CountsText.{counts_words}
+use Rattle.thin_command.specs.declared.counts.Counts.{Counts}
+
+-- the precedence file of an instance with what is left of each list
+abbrev pub thin_text : Instance → List ℕ
+thin_text i = text_prec (record i { preds = fewer i.preds })
+
+-- its blocks, the arcs that are left, and all arcs
+abbrev pub counts_of : Instance → Counts
+counts_of i = record { rows = length i.blocks; left = sum_by length (fewer i.preds); whole = sum_by length i.preds }
+
+-- the sink was cut off: it failed, or memory was refused
+abbrev pub IsStopped : List ℕ → (old new : SinkState) → Refusal → Type 0
+IsStopped text old new why =
+    ((why ≡ refusal.SinkFailed Prec) × IsCutOff 1 text old new) ⊎ ((why ≡ refusal.OutOfMemory) × IsCutOff 0 text old new)
+
+-- of the zone files at these paths: what was opened before and is now, the starts of threads, and what the sink told before and tells now
+module _ (plan : PlanParts) (paths : List (List ℕ)) (opened_old opened_new : List Opening) (starts_old starts_new : StartsView)
+    (old new : SinkState) where
+  -- the files were opened in this order, and no other; they are accepted, went through a lane of this capacity, and this is their instance;
+  -- a thread ran for each valuer and file
+  pub record IsRead (settings : Settings) (i : Instance) : Type 0 where
+    pub lefts : List (Option (List ℕ))
+    pub texts : List (List ℕ)
+    pub opened : AreOpened opened_old opened_new paths lefts
+    pub given : AreGiven lefts texts
+    pub accepted : IsAccepted plan texts
+    pub gathered : GatheredView
+    pub passed : HasPassed plan texts settings.valuers settings.capacity gathered
+    pub instance_is : i ≡ instance_from plan texts
+    pub started : AreSpent (settings.valuers + length paths) starts_new
+
+  -- the sink holds what is left
+  pub record IsThinned (settings : Settings) (i : Instance) : Type 0 where
+    pub read : IsRead settings i
+    pub written : IsWritten (thin_text i) old new
+
+  -- the same, and the line of its counts was appended
+  abbrev pub TellsThinned : Settings → (out_old out_new : List ℕ) → Type 0
+  TellsThinned settings out_old out_new =
+      (i : Instance) × IsThinned settings i × (out_new ≡ out_old ++ (counts_words (counts_of i) ++ 10 ∷ []))
+
+  -- by what feeds have left, whether they are sure, and how many pulls they refused
+  module _ {F : Type 0} (left : F → Option (List ℕ)) (is_sure : F → Bool) (failures : F → ℕ) where
+    -- the files were opened in this order, and no other, and nothing was compiled of their feeds, for these settings and destinations, or as
+    -- `compile` refuses; the sink is as it was
+    pub record IsRunRefused (formulas : List Formula) (settings : Settings) (why : Refusal) : Type 0 where
+      pub feeds : List F
+      pub opened : AreOpened opened_old opened_new paths (map left feeds)
+      pub faulty : (kind : SettingsFault) → why ≡ refusal.Settings kind → IsSettingsFault plan (length paths) formulas settings kind
+      pub refused : IsNotCompiled plan (map left feeds) (HasFailed is_sure failures feeds) why
+      pub starts : AreStartsOf (settings.valuers + length paths) starts_old starts_new why
+      pub still : new ≡ old
+
+    -- not all files could be opened, and neither the sink nor threads were begun; or the run is refused; or the sink was cut off; or it holds
+    -- what is left, and memory for the line was refused
+    abbrev pub IsNotThinned : List Formula → Settings → Refused → Type 0
+    IsNotThinned formulas settings refused =
+        (AreNotOpened opened_old opened_new paths refused × (new ≡ old) × (starts_new ≡ starts_old))
+        ⊎ (((why : Refusal) × (refused ≡ Run why) × IsRunRefused formulas settings why)
+        ⊎ (((why : Refusal) × (refused ≡ Run why) × ((i : Instance) × IsRead settings i × IsStopped (thin_text i) old new why))
+        ⊎ ((refused ≡ Run refusal.OutOfMemory) × ((i : Instance) × IsThinned settings i))))

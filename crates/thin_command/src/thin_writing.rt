@@ -1,0 +1,81 @@
+//! Writing what is left of the predecessors of an instance.
+
+ghost use Rattle.std.specs.Prelude.{◌≡◌, ◌≤◌, length, sum_by, IfErr, IfOk, MatchResult, OnOk};
+ghost use Rattle.devices.specs.sinks.SinkState.{IsWritten};
+ghost use Rattle.mine_instance.specs.Valid.{IsValid};
+ghost use Rattle.plan_parts.specs.declared.ranges.TheConstants.{MAX_BLOCKS};
+ghost use Rattle.thin_command.specs.Thin.{IsStopped, counts_of, thin_text};
+ghost use Rattle.thin_command.specs.inner.Answered.{in_sink};
+
+use crate::counts::Counts;
+use devices::sinks::sink::Sink;
+use devices::sinks::write_fault::WriteFault;
+use fewer_arcs::FewerPreds;
+use mine_instance::instance::Instance;
+use mine_instance::{FoundCoefs, FoundValues};
+use minelib_lines::text_name::TextName;
+use minelib_writing::{count_arcs, write_lists};
+use pit_units::OrMemory;
+use precedence::FoundPreds;
+use refusals::refusal::Refusal;
+use std::alloc::{AllocError, Global};
+
+/// Begins the sink and writes what is left of the predecessors of an instance, which is used up.
+///
+/// # Errors
+///
+/// - `SinkFailed`: the sink refused a call.
+/// - `OutOfMemory`: memory was refused.
+///
+/// The sink is as it was, or begun with a front of the text.
+pub fn write_fewer<S: Sink>(
+    alloc: Global,
+    instance: Instance<FoundPreds, FoundCoefs, FoundValues>,
+    sink: &mut S,
+) -> Result<Counts, Refusal>
+    requires { IsValid instance }
+    ensures written { OnOk result
+        (IsWritten (thin_text instance) (S.state sink.old) (S.state sink.new)) }
+    ensures counts { IfOk result (λ counts. counts ≡ counts_of instance) }
+    ensures refused { IfErr result
+        (IsStopped (thin_text instance) (S.state sink.old) (S.state sink.new)) }
+{
+    let (rows, preds) = parts_of(instance);
+    let whole = count_all(alloc, &preds)?;
+    let mut fewer = FewerPreds::new(alloc, preds);
+    let left = in_sink(write_lists(alloc, &mut fewer, sink))?;
+    Ok(Counts { rows, left, whole })
+}
+
+// How many predecessors all blocks have: row by row of the cones, or list by list where that is faster.
+fn count_all(alloc: Global, preds: &FoundPreds) -> Result<u128, AllocError>
+    requires { length preds.now ≤ MAX_BLOCKS }
+    ensures { IfOk result (λ arcs. arcs ≡ sum_by length preds.now) }
+{
+    if preds.is_sparse() {
+        return count_arcs(alloc, preds);
+    }
+    Ok(u128::from(preds.arcs(alloc)?))
+}
+
+// How many blocks an instance has, and their predecessors.
+fn parts_of(instance: Instance<FoundPreds, FoundCoefs, FoundValues>) -> (usize, FoundPreds)
+    ensures rows { result.0 ≡ length instance.blocks }
+    ensures preds { result.1 ≡ instance.preds }
+{
+    let rows = instance.blocks_len();
+    (rows, instance.preds)
+}
+
+// What came of writing, as the answer of a run.
+fn in_sink(written: Result<u128, WriteFault>) -> Result<u128, Refusal>
+    ensures { result ≡ in_sink written }
+{
+    match written {
+        Ok(arcs) => Ok(arcs),
+        Err(OrMemory::Fault(_)) => Err(Refusal::SinkFailed {
+            which: TextName::Prec,
+        }),
+        Err(OrMemory::OutOfMemory) => Err(Refusal::OutOfMemory),
+    }
+}
