@@ -3,10 +3,13 @@ pub mod Arcs
 pub mod CountedLists
 pub mod Geometry
 pub mod Identifiers
+pub mod Members
+pub mod OneCone
 pub mod Order
 pub mod Pieces
 pub mod PlacesWhere
 pub mod SeenPlaces
+pub mod Slopes
 pub mod Reaches
 pub mod Tables
 pub mod Later

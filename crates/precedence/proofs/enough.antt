@@ -1,8 +1,11 @@
+pub mod Between
 pub mod Covers
 pub mod CutRows
 pub mod Firsts
+pub mod Mids
 pub mod Rests
 pub mod States
 pub mod Steps
 pub mod StepsEnough
+pub mod Stretches
 pub mod Walks

@@ -1,3 +1,5 @@
+pub mod Behind
+pub mod Closed
 pub mod Codes
 pub mod Cone
 pub mod ConeLaws

@@ -9,10 +9,12 @@ ghost use Rattle.plan_parts.specs.declared.block.Block.{Block};
 ghost use Rattle.plan_parts.specs.declared.cone.Cone.{Cone};
 ghost use Rattle.plan_parts.specs.declared.cone.Slope.{Slope};
 ghost use Rattle.plan_parts.specs.declared.grid.Grid.{Grid};
+ghost use Rattle.precedence.specs.Closed.{AreClosed};
 ghost use Rattle.precedence.specs.Cone.{is_above, preds};
 ghost use Rattle.precedence.specs.ConeLaws.{even_cone, has_pred, is_above_by, preds_by, IsEven};
 ghost use Rattle.precedence.specs.Identifier.{comes_before};
 ghost use Rattle.precedence.specs.Numbering.{IsNumbering, NumberingView};
+ghost use Rattle.precedence.specs.Zones.{HasZones};
 
 /// The identifiers 0, 1, 2, .. go by z, then y, then x: of two blocks by identifier the first comes before the second.
 pub fn identifiers_rise()
@@ -75,4 +77,11 @@ pub fn preds_are_of_the_list()
         → slice_index_or (preds plan n.blocks) i []
         ≡ filter (has_pred plan listed (slice_index_or n.blocks i d))
         (range_with_len 0 (length listed)) }
+{}
+
+/// Where all zones have one cone, the predecessors of a model's blocks are closed: what stands in the list of a block stands in that of
+/// each block there from which a way leads to it.
+pub fn one_cone_is_closed()
+    ensures { (plan : PlanParts) (blocks : List Block) (cone : Cone) → IsCone cone → All (λ own. own ≡ cone) plan.cones
+        → HasZones plan blocks → AreClosed (preds plan blocks) }
 {}

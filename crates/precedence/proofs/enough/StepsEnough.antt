@@ -28,11 +28,11 @@ module _ (f : Inside) (keeps : KeepsFound f) (lists : List (List ℕ)) (is : fou
   long : length lists ≡ length f.zones.items
   long = sym (ap length is) ∙ found_length f keeps
 
-  list_is : get_or lists id [] ≡ lying from rows codes
+  pub list_is : get_or lists id [] ≡ lying from rows codes
   list_is = found_at f keeps lists id zone from is within zone_is from_is
 
   -- the list of any block
-  list_of : (d c : ℕ) → d < length codes → c < length codes → is_in (get_or lists d []) c ≡ is_behind_id codes cone d c
+  pub list_of : (d c : ℕ) → d < length codes → c < length codes → is_in (get_or lists d []) c ≡ is_behind_id codes cone d c
   list_of d c there lt =
       let in_zones : d < length f.zones.items = omega (arith, there, keeps.each) in
       let zone_d = get_or f.zones.items d 0 in

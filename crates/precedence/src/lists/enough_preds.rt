@@ -1,7 +1,10 @@
 //! Lists of predecessors of which few stand for all others.
 
-ghost use Rattle.std.specs.Prelude.{◌≡◌, ◌<◌, ◌^◌, [], OnOk, length, slice_index_or};
+ghost use Rattle.std.specs.Prelude.{◌≡◌, true, ◌<◌, ◌^◌, [], IsTrue, OnOk, length, slice_index_or};
+ghost use Rattle.precedence.specs.Behind.{is_behind};
+ghost use Rattle.precedence.specs.Closed.{AreClosed, ComeLater};
 ghost use Rattle.precedence.specs.Enough.{AreEnough};
+ghost use Rattle.precedence.specs.IdRuns.{is_in};
 
 use crate::lists::pred_lists::PredLists;
 use std::alloc::{AllocError, Global};
@@ -22,4 +25,17 @@ pub trait EnoughPreds: PredLists {
             (slice_index_or (Self.lists self.old) block []) found.new.items) }
         ensures kept { Self.lists self.new ≡ Self.lists self.old }
         ensures countable { length (slice_index_or (Self.lists self.old) block []) < 2 ^ 63 };
+
+    /// Whether a predecessor of a block stands in the list of another one.
+    fn is_behind(&self, block: u32, id: u32) -> bool
+        requires block { block < length (Self.lists self.now) }
+        requires listed { is_in (slice_index_or (Self.lists self.now) block []) id ≡ true }
+        ensures { result ≡ is_behind (Self.lists self.now)
+            (slice_index_or (Self.lists self.now) block []) id };
+
+    /// Whether it is known that the lists are closed. Then of those that stand for all others none stands in the list of another
+    /// predecessor.
+    fn are_closed(&self) -> bool
+        ensures closed { IsTrue result → AreClosed (Self.lists self.now) }
+        ensures later { IsTrue result → ComeLater (Self.lists self.now) };
 }

@@ -10,6 +10,7 @@ ghost use Rattle.precedence.specs.declared.places.code.TheConstants.{CODES};
 
 use crate::cones::bounds::extents_of;
 use crate::cones::zone_tables::{ZoneTables, tables_of};
+use crate::cuts::between::has_between;
 use crate::cuts::state::States;
 use crate::cuts::states::no_states;
 use crate::cuts::walking::walk;
@@ -45,6 +46,8 @@ pub struct FoundPreds {
     hints: Vec<Cell<Hint>>,
     // the states of walks over the cones that were made so far
     states: States,
+    // whether all zones have one cone
+    closed: bool,
 }
 
 impl Model for FoundPreds {
@@ -73,12 +76,14 @@ impl FoundPreds {
         let extents = extents_of(alloc, blocks, cones.len())?;
         let tables = tables_of(alloc, plan.grid(), cones, extents.as_slice())?;
         let hints = no_hints(alloc, tables.rows())?;
+        let closed = tables.tables.len() <= 1;
         Ok(FoundPreds {
             places,
             zones,
             tables,
             hints,
             states: no_states(alloc),
+            closed,
         })
     }
 
@@ -161,6 +166,15 @@ impl EnoughPreds for FoundPreds {
             from,
         )?;
         Ok(())
+    }
+
+    #[tactic(auto, using(crate::proofs::AllLists::found_length))]
+    fn is_behind(&self, block: u32, id: u32) -> bool {
+        has_between(&self.places, self.zones.as_slice(), &self.tables, block, id)
+    }
+
+    fn are_closed(&self) -> bool {
+        self.closed
     }
 }
 

@@ -1,0 +1,124 @@
+-- Where all zones have one cone, lists of predecessors are closed.
+use Rattle.std.proofs.Common.{◌≡◌, ℕ, ◌-◌, ◌<◌, ◌≤◌, ◌&&◌, zero, suc, Bool, true, List, [], ◌∷◌, Some, All, length, get_or, slice_get, nat_le, nat_lt, subst, sym, ap, ◌∙◌, arith, ⊎_elim}
+use Rattle.std.proofs.lemmas.Bool.{and_parts, cases_lt, le-leb, leb-true, lt-ltb, ltb-true}
+use Rattle.std.proofs.lemmas.List.{get_or-map, length-map}
+use Rattle.std.proofs.lemmas.Option.{slice_get-get_or}
+use Rattle.plan_parts.specs.Plan.{PlanParts}
+use Rattle.plan_parts.specs.PlanKept.{IsCone}
+use Rattle.plan_parts.specs.declared.block.Block.{Block}
+use Rattle.plan_parts.specs.declared.cone.Cone.{Cone}
+use Rattle.precedence.specs.Cone.{above, is_above, places_where, preds}
+use Rattle.precedence.specs.Zones.{HasZones}
+use Rattle.precedence.specs.inner.ZoneTables.{HasTables}
+use Rattle.precedence.specs.declared.cones.cone_rows.Extent.{Extent}
+use Rattle.precedence.specs.declared.cones.cone_table.ConeTable.{ConeTable}
+use Rattle.precedence.specs.IdRuns.{is_in}
+use Rattle.precedence.proofs.PlacesWhere.{told_nowhere, told_where}
+use Rattle.precedence.specs.Closed.{AreClosed, HasArc, Way}
+use Rattle.precedence.proofs.Members.{contains_true, in_list, true_contains}
+use Rattle.precedence.proofs.Slopes.{inside_through, is_inside}
+
+module _ (plan : PlanParts) (blocks : List Block) (cone : Cone) (is : IsCone cone) (one : All (λ (own : Cone). own ≡ cone) plan.cones)
+    (zones : HasZones plan blocks) (any : Block) where
+  abbrev lists : List (List ℕ)
+  lists = preds plan blocks
+
+  abbrev at : ℕ → Block
+  at b = get_or blocks b any
+
+  abbrev above_in : Block → Block → Bool
+  above_in low high = is_above plan.grid cone low high
+
+  long : length lists ≡ length blocks
+  long = length-map blocks (λ (low : Block). above plan.grid (slice_get plan.cones low.zone) blocks low)
+
+  list_is : (b : ℕ) → b < length blocks → get_or lists b [] ≡ places_where (above_in (at b)) 0 blocks
+  list_is b lt =
+      let zone = (at b).zone in
+      let there : zone < length plan.cones = zones b any lt in
+      get_or-map (λ (low : Block). above plan.grid (slice_get plan.cones low.zone) blocks low) blocks b any [] lt
+      ∙ ap (λ o. above plan.grid o blocks (at b)) (slice_get-get_or plan.cones zone cone there ∙ ap (λ (c : Cone). Some c) (one zone cone there))
+
+  -- an arc is a block above another one
+  record IsAbove (b c : ℕ) : Type 0 where
+    low : b < length blocks
+    high : c < length blocks
+    higher : (at b).z < (at c).z
+    near : (at c).z - (at b).z ≤ cone.k
+    inside : is_inside plan.grid cone is (at b) (at c) ≡ true
+
+  told : (b c : ℕ) → HasArc lists b c → IsAbove b c
+  told b c has =
+      let lt : b < length blocks = omega (arith, in_list lists b c has, long) in
+      let in' : is_in (places_where (above_in (at b)) 0 blocks) c ≡ true = ap (λ list. is_in list c) (sym (list_is b lt)) ∙ contains_true (get_or lists b []) c has in
+      ⊎_elim
+      (λ within.
+      let yes : above_in (at b) (at c) ≡ true = sym (told_where (above_in (at b)) c blocks any within) ∙ in' in
+      let first = and_parts (nat_lt (at b).z (at c).z) _ yes in
+      let second = and_parts (nat_le ((at c).z - (at b).z) cone.k) _ first.1 in
+      record { low = lt; high = within; higher = ltb-true _ _ first.0; near = leb-true _ _ second.0; inside = second.1 })
+      (λ past. absurd (
+      let none = told_nowhere (above_in (at b)) c blocks past in
+      let bad : ⊥ = cc in bad))
+      (cases_lt c (length blocks))
+
+  made : (b c : ℕ) → IsAbove b c → HasArc lists b c
+  made b c is_above_it =
+      let up : nat_lt (at b).z (at c).z ≡ true = lt-ltb _ _ is_above_it.higher in
+      let near : nat_le ((at c).z - (at b).z) cone.k ≡ true = le-leb _ _ is_above_it.near in
+      let yes : above_in (at b) (at c) ≡ true = λ j. up j && (near j && is_above_it.inside j) in
+      true_contains (get_or lists b []) c
+      (ap (λ list. is_in list c) (list_is b is_above_it.low) ∙ told_where (above_in (at b)) c blocks any is_above_it.high ∙ yes)
+
+  -- along a way the last block lies inside the slopes above the first
+  record IsFarAbove (b c : ℕ) : Type 0 where
+    low : b < length blocks
+    high : c < length blocks
+    higher : (at b).z < (at c).z
+    inside : is_inside plan.grid cone is (at b) (at c) ≡ true
+
+  along_way : (n b c : ℕ) → Way lists n b c → IsFarAbove b c
+  along_way zero b c arc = let a = told b c arc in record { low = a.low; high = a.high; higher = a.higher; inside = a.inside }
+  along_way (suc n) b c way =
+      let first = told b way.0 way.1 in
+      let rest = along_way n way.0 c way.2 in
+      let up = first.higher in
+      let more = rest.higher in
+      record {
+        low = first.low;
+        high = rest.high;
+        higher = omega arith;
+        inside = inside_through plan.grid cone is (at b) (at way.0) (at c) (omega arith) (omega arith) first.inside rest.inside;
+      }
+
+  pub closed_at : AreClosed lists
+  closed_at b c d n all own way =
+      let whole = told b c all in
+      let first = told b d own in
+      let rest = along_way n d c way in
+      let up = first.higher in
+      let reach = whole.near in
+      made d c (record { low = rest.low; high = rest.high; higher = rest.higher; near = omega arith; inside = rest.inside })
+
+pub closed : (plan : PlanParts) (blocks : List Block) (cone : Cone) → IsCone cone → All (λ (own : Cone). own ≡ cone) plan.cones
+    → HasZones plan blocks → AreClosed (preds plan blocks)
+closed plan [] cone is one zones b c d n all own way = absurd (let lt = in_list (preds plan []) b c all in omega arith)
+closed plan (x ∷ xs) cone is one zones b c d n all own way = closed_at plan (x ∷ xs) cone is one zones x b c d n all own way
+
+-- zones with one table have one cone
+pub one_table : (plan : PlanParts) (extents : List Extent) (tables : List ConeTable) (of_zone : List ℕ) (blocks : List Block)
+    → HasTables plan.grid plan.cones extents tables of_zone → All IsCone plan.cones → length tables ≤ 1 → HasZones plan blocks
+    → AreClosed (preds plan blocks)
+one_table plan extents tables of_zone [] has cones few zones = λ b c d n all own way. absurd (let lt = in_list (preds plan []) b c all in omega arith)
+one_table plan extents [] of_zone (x ∷ xs) has cones few zones =
+    let there : x.zone < length plan.cones = zones 0 x (omega arith) in
+    absurd (let none = has.below x.zone 0 (omega (arith, there, has.zones)) in omega arith)
+one_table plan extents (t ∷ ts) of_zone (x ∷ xs) has cones few zones =
+    let there : x.zone < length plan.cones = zones 0 x (omega arith) in
+    closed plan (x ∷ xs) t.cone (subst IsCone (own x.zone t.cone there) (cones x.zone t.cone there)) own zones
+  where
+    own : (z : ℕ) (d : Cone) → z < length plan.cones → get_or plan.cones z d ≡ t.cone
+    own z d lt =
+        let below = has.below z 0 (omega (arith, lt, has.zones)) in
+        let first : get_or of_zone z 0 ≡ 0 = omega (arith, below, few) in
+        sym (has.same z d t lt) ∙ ap (λ n. (get_or (t ∷ ts) n t).cone) first
