@@ -4,15 +4,14 @@ pub mod CountedLists
 pub mod Geometry
 pub mod Identifiers
 pub mod Members
-pub mod OneCone
 pub mod Order
 pub mod Pieces
 pub mod PlacesWhere
 pub mod SeenPlaces
-pub mod Slopes
 pub mod Reaches
 pub mod Tables
 pub mod Later
 pub mod LawFacts
+pub mod closed
 pub mod enough
 pub mod runs

@@ -1,6 +1,5 @@
 pub mod Arcs
 pub mod Beside
-pub mod Between
 pub mod CountedFields
 pub mod FoundFields
 pub mod Lists

@@ -5,9 +5,8 @@ use Rattle.std.proofs.lemmas.Bool.{cases_Bool}
 use Rattle.std.proofs.lemmas.List.Folds.{list_any_at}
 use Rattle.precedence.specs.Behind.{is_behind}
 use Rattle.precedence.specs.IdRuns.{is_in}
-use Rattle.precedence.specs.inner.Between.{IsBetween}
 use Rattle.precedence.specs.inner.FoundFields.{found_in, KeepsFound}
-use Rattle.precedence.specs.inner.Steps.{cone_of}
+use Rattle.precedence.specs.inner.Steps.{cone_of, IsBetween}
 use Rattle.precedence.specs.inner.ZoneTables.{zone_rows}
 use Rattle.precedence.specs.declared.lists.found_preds.FoundPreds.TheInside.{Inside}
 use Rattle.precedence.proofs.AllLists.{found_length}

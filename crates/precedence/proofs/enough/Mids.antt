@@ -1,8 +1,7 @@
 -- Blocks between two others, by the tables of their cones.
 use Rattle.std.proofs.Common.{◌≡◌, ℕ, List, get_or, slice_get, sym, ap, ◌∙◌}
-use Rattle.precedence.specs.inner.Between.{IsBetween, IsBetweenOf}
 use Rattle.precedence.specs.inner.Rows.{is_in_rows}
-use Rattle.precedence.specs.inner.Steps.{cone_of}
+use Rattle.precedence.specs.inner.Steps.{cone_of, IsBetween, IsBetweenOf}
 use Rattle.precedence.specs.inner.ZoneTables.{rows_of_table}
 use Rattle.precedence.specs.declared.cones.cone_table.ConeTable.{ConeTable}
 use Rattle.precedence.specs.declared.cones.cone_rows.Row.{Row}

@@ -1,5 +1,6 @@
--- How far a walk has come that goes from one predecessor that is found to the next, over what is left of a cone.
-use Rattle.std.specs.Prelude.{◌≡◌, ℕ, ◌<◌, ◌≤◌, Bool, true, false, List, slice_index, ◌⊎◌}
+-- How far a walk has come that goes from one predecessor that is found to the next, over what is left of a cone; and what lies
+-- between two blocks.
+use Rattle.std.specs.Prelude.{◌≡◌, ℕ, ◌<◌, ◌≤◌, Bool, true, false, List, length, slice_index, ◌⊎◌}
 use Rattle.std.specs.List.Sorted.{IsStrictlyIncreasing}
 use Rattle.precedence.specs.IdRuns.{is_in}
 use Rattle.precedence.specs.inner.Search.{lying}
@@ -37,3 +38,25 @@ abbrev pub HasEnded : List ℕ → (ℕ → List Row) → ℕ → (rows : List R
 HasEnded codes cone from rows found =
     (rest : List Row) × ((next : ℕ) × (IsWalkedTo codes cone from rows rest next found)
     × ((y : ℕ) → next ≤ y → is_in (lying from rest codes) y ≡ false))
+
+-- ---- blocks between two others
+
+-- d lies in the cone of `low`, and `high` in the cone of d
+pub record IsBetween (codes : List ℕ) (cone : ℕ → List Row) (low high d : ℕ) : Type 0 where
+  pub within : d < length codes
+  pub above : is_behind_id codes cone low d ≡ true
+  pub below : is_behind_id codes cone d high ≡ true
+
+-- the same of the codes `from` and `to`, where the cone of `low` has the rows `own`, and that of d the table `number` with its `rows`
+pub record IsBetweenOf (codes of_zone zones : List ℕ) (from : ℕ) (own : List Row) (number : ℕ) (rows : List Row) (to d : ℕ) : Type 0 where
+  pub within : d < length codes
+  pub table : slice_index of_zone (slice_index zones d) ≡ number
+  pub above : is_in_rows from own (slice_index codes d) ≡ true
+  pub below : is_in_rows (slice_index codes d) rows to ≡ true
+
+-- the code of d lies from `first` on and before `past`, and its cone has the table `number`
+pub record LiesThere (codes of_zone zones : List ℕ) (first past number d : ℕ) : Type 0 where
+  pub within : d < length codes
+  pub low : first ≤ slice_index codes d
+  pub up : slice_index codes d < past
+  pub table : slice_index of_zone (slice_index zones d) ≡ number

@@ -1,9 +1,8 @@
 //! Blocks between two others: in the cone of the one, and with the other in their own.
 
 ghost use Rattle.std.specs.Prelude.{◌≡◌, ◌<◌, ℕ, false, All, IsTrue, length, max, min};
-ghost use Rattle.precedence.specs.inner.Between.{IsBetween, IsBetweenOf, LiesThere};
 ghost use Rattle.precedence.specs.inner.Rows.{AreInOrder};
-ghost use Rattle.precedence.specs.inner.Steps.{cone_of};
+ghost use Rattle.precedence.specs.inner.Steps.{cone_of, IsBetween, IsBetweenOf, LiesThere};
 ghost use Rattle.precedence.specs.declared.places.code.TheConstants.{CODES};
 
 use crate::cones::cone_table::ConeTable;

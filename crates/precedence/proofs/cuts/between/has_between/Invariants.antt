@@ -1,6 +1,5 @@
 use Rattle.std.proofs.Common.{ℕ, ◌<◌, get_or}
-use Rattle.precedence.specs.inner.Between.{IsBetween}
-use Rattle.precedence.specs.inner.Steps.{cone_of}
+use Rattle.precedence.specs.inner.Steps.{cone_of, IsBetween}
 use Rattle.precedence.proofs.cuts.between.has_between.Given as goal
 
 abbrev pub invariant-loop-number : goal.invariant-loop-number

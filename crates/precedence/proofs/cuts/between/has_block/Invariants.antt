@@ -1,5 +1,5 @@
 use Rattle.std.proofs.Common.{ℕ, ◌<◌}
-use Rattle.precedence.specs.inner.Between.{LiesThere}
+use Rattle.precedence.specs.inner.Steps.{LiesThere}
 use Rattle.precedence.proofs.cuts.between.has_block.Given as goal
 
 abbrev pub invariant-loop-id : goal.invariant-loop-id

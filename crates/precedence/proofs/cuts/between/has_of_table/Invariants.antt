@@ -1,5 +1,5 @@
 use Rattle.std.proofs.Common.{ℕ, ◌-◌, ◌<◌, ◌≤◌, get_or}
-use Rattle.precedence.specs.inner.Between.{IsBetweenOf}
+use Rattle.precedence.specs.inner.Steps.{IsBetweenOf}
 use Rattle.precedence.proofs.cuts.between.has_of_table.Given as goal
 
 abbrev pub invariant-loop-code : goal.invariant-loop-code

@@ -11,7 +11,7 @@ use Rattle.precedence.specs.inner.Lists.{in_cones}
 use Rattle.precedence.proofs.enough.States.{no_state}
 use Rattle.precedence.proofs.AllLists.{preds_are, tables_in_order}
 use Rattle.precedence.proofs.Later.{rising_later}
-use Rattle.precedence.proofs.OneCone.{one_table}
+use Rattle.precedence.proofs.closed.OneCone.{one_table}
 use Rattle.precedence.proofs.lists.found_preds.FoundPreds.new.Goals as goal
 
 pub invariant_of-result : goal.invariant_of-result

@@ -16,7 +16,7 @@ use Rattle.precedence.specs.IdRuns.{is_in}
 use Rattle.precedence.proofs.PlacesWhere.{told_nowhere, told_where}
 use Rattle.precedence.specs.Closed.{AreClosed, HasArc, Way}
 use Rattle.precedence.proofs.Members.{contains_true, in_list, true_contains}
-use Rattle.precedence.proofs.Slopes.{inside_through, is_inside}
+use Rattle.precedence.proofs.closed.Slopes.{inside_through, is_inside}
 
 module _ (plan : PlanParts) (blocks : List Block) (cone : Cone) (is : IsCone cone) (one : All (λ (own : Cone). own ≡ cone) plan.cones)
     (zones : HasZones plan blocks) (any : Block) where

@@ -1,0 +1,2 @@
+pub mod OneCone
+pub mod Slopes
