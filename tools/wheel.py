@@ -30,8 +30,8 @@ Requires-Python: {python}
 {needs}
 Description-Content-Type: text/markdown
 
-`pitc` turns the block models of an open pit mine into a MineLib instance. `pitc_thin` writes the precedences alone, without arcs that
-follow from others. `pit-tools` leads from a mining package's export to an instance and back. The pages stand in `share/pitc`, beside
+`pitc` turns the block models of an open pit mine into a MineLib instance. `pitc_thin` writes the precedences alone, with fewer
+arcs. `pit-tools` leads from a mining package's export to an instance and back. The pages stand in `share/pitc`, beside
 `bin`; licences are in `NOTICES.md` there, and pitc has none of its own yet.
 """
 

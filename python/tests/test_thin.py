@@ -16,13 +16,10 @@ from pit_tools.instance import read_instance, read_precedence, write_precedence
 
 
 def fewer_by_hand(precedence: sparse.csr_matrix) -> sparse.csr_matrix:
-    """Of each list, from its first block to its last, those that stand in the list of none that is
-    left before."""
-    whole, left = precedence.toarray().astype(bool), np.zeros(precedence.shape, dtype=np.int8)
-    for block, waits in enumerate(whole):
-        for other in np.flatnonzero(waits):
-            left[block, other] = not whole[left[block].astype(bool), other].any()
-    return sparse.csr_matrix(left)
+    """Of each list, those that stand in the list of no other one of it."""
+    whole = precedence.toarray().astype(bool)
+    left = [waits & ~whole[waits].any(axis=0) for waits in whole]
+    return sparse.csr_matrix(np.array(left, dtype=np.int8))
 
 
 def with_thin(folder: Path, **words) -> tuple[str, str]:

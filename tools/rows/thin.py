@@ -67,15 +67,13 @@ def mask_of(blocks):
 
 
 def left_of(lists):
-    """Of each list, from its first block on, those that stand in the list of none that is left."""
+    """Of each list, those that stand in the list of no other one of it."""
     taken, left = list(map(mask_of, lists)), []
     for one in lists:
-        left.append([])
-        covered = 0
-        for c in one:
-            if not covered >> c & 1:
-                left[-1].append(c)
-                covered |= taken[c]
+        behind = 0
+        for other in one:
+            behind |= taken[other]
+        left.append([c for c in one if not behind >> c & 1])
     return left
 
 
@@ -86,6 +84,17 @@ def reaches(lists):
         for c in lists[n]:
             found[n] |= found[c] | 1 << c
     return found
+
+
+def least_of(lists):
+    """The transitive reduction: of each list, those to which no way leads from another one of it."""
+    reached, least = reaches(lists), []
+    for one in lists:
+        behind = 0
+        for other in one:
+            behind |= reached[other]
+        least.append([c for c in one if not behind >> c & 1])
+    return least
 
 
 def text_of(lists):
@@ -121,9 +130,12 @@ def written(text, lists):
 def thinned(name, cells, zones, sizes=(10, 10, 10), words=(), origin=(0, 0, 0), masses=ALIKE):
     """A run that writes what is left of zones with these cells in the plan. Sizes and origin are in
     metres."""
-    lists = lists_of(millimetres(sizes), list(map(cone_of, cells)), zones)
-    left = left_of(lists)
-    assert reaches(left) == reaches(lists)
+    cones = list(map(cone_of, cells))
+    lists = lists_of(millimetres(sizes), cones, zones)
+    left, least = left_of(lists), least_of(lists)
+    assert reaches(left) == reaches(least) == reaches(lists)
+    assert all(set(few) <= set(some) for few, some in zip(least, left))
+    assert left == least or len(set(cones)) > 1
     grid = ",".join(map(str, [*origin, *sizes]))
     plan = PLAN.format(grid=grid, zones="\n".join("zone," + cell for cell in cells))
     paths = {f"zone{number}": places for number, places in enumerate(zones)}
@@ -171,6 +183,45 @@ def of_full_rock():
         lists = lists_of(sizes, [cone_of(cells)], [places])
         assert (len(lists[0]), len(left_of(lists)[0])) == (whole, left)
         yield thinned(f"full rock: {cells} of {sizes}", [cells], [places], sizes)
+
+
+# Zones' cones, their blocks, what is left of the list of the first block, and what the transitive reduction has of it.
+COLUMN = [(0, 0, z) for z in range(4)]
+UNLIKE_CONES = [
+    ("a column of K = 3 below K = 1", ["1,1,3", "1,1,1"], [COLUMN[:1], COLUMN[1:]], [1], [1]),
+    ("a column of K = 1 below K = 3", ["1,1,1", "1,1,3"], [COLUMN[:1], COLUMN[1:]], [1], [1]),
+    ("a column, K = 3 and 1 by turns", ["1,1,3", "1,1,1"], [COLUMN[::2], COLUMN[1::2]], [1], [1]),
+    ("behind two that are dropped", ["1,1,4", "1,1,1"], [COLUMN[:1], [*COLUMN[1:], (0, 0, 4)]], [1], [1]),
+    ("a hole over K = 1", ["1,1,3", "1,1,1"], [COLUMN[:1], [COLUMN[1], COLUMN[3]]], [1, 2], [1, 2]),
+    ("a way out of a steep cone and back", ["10,1,3", "1,2,1"], [COLUMN[:1], [COLUMN[1], (1, 0, 2), COLUMN[3]]], [1, 3], [1]),
+]
+
+
+def of_unlike_cones():
+    """Zones whose cones differ: what is left by hand; and layers, sides, benches and holes, where dropping only behind what is left would
+    leave more."""
+    for name, cells, zones, left, least in UNLIKE_CONES:
+        lists = lists_of([10_000] * 3, list(map(cone_of, cells)), zones)
+        assert (left_of(lists)[0], least_of(lists)[0]) == (left, least)
+        yield thinned(f"unlike cones: {name}", cells, zones)
+    side, benches = range(7), range(8)
+    whole = box(side, side, benches)
+    holes = random.Random(86).sample(whole, len(whole) // 8)
+    for of_holes, places in (("", whole), (", holes", [place for place in whole if place not in holes])):
+        for name, cells, zone_of in [
+            ("two layers", ["3,1,6", "1,1,6"], lambda place: int(place[2] > 3)),
+            ("two layers, turned round", ["1,1,6", "3,1,6"], lambda place: int(place[2] > 3)),
+            ("three layers", ["1,2,7", "1,1,3", "3,1,5"], lambda place: place[2] // 3),
+            ("K = 7 below K = 1", ["1,1,7", "1,1,1"], lambda place: int(place[2] > 1)),
+            ("beside one another", ["1,1,2", "2,1,6"], lambda place: int(place[0] > 3)),
+            ("in quarters", ["1,1,6", "2,1,3", "1,2,2", "1,1,1"], lambda place: 2 * int(place[0] > 3) + int(place[1] > 2)),
+            ("K = 1 and 6 by turns", ["1,1,1", "1,1,6"], lambda place: place[2] % 2),
+            ("K = 6, 1 and 3 by turns", ["1,1,6", "1,1,1", "1,1,3"], lambda place: place[2] % 3),
+            ("four slopes over others", ["1,1,2,1,1,2,3,2,5", "2,1,1,1,1,1,1,2,4"], lambda place: int(place[2] > 2)),
+        ]:
+            zones = [[place for place in places if zone_of(place) == zone] for zone in range(len(cells))]
+            yield thinned(f"unlike cones: {name}{of_holes}", cells, zones)
+    yield thinned("unlike cones: one bench", ["1,1,3", "1,2,5"], [box(side, range(3), [0]), box(side, range(3, 7), [0])])
 
 
 def of_random_zones():
@@ -317,6 +368,7 @@ def of_large_models():
 def trials():
     yield from of_zones()
     yield from of_full_rock()
+    yield from of_unlike_cones()
     yield from of_random_zones()
     yield from of_masses()
     yield from of_orders()

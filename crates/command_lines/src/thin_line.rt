@@ -17,9 +17,9 @@ use std::alloc::{AllocError, Global};
 
 const ABOUT: &str = "Writes the precedences of a model, and leaves out arcs that follow from others.
 
-From a block to another one no arc is needed where a third, for which the first waits, waits for the
-other. What is left allows the same pits and the same schedules, and a solver has fewer arcs to take.
-Where all zones have one cone, no arc that is left can be spared; where cones differ, some could be.";
+A predecessor of a block is left unless it stands in the list of another predecessor of that block.
+What is left allows the same pits and the same schedules, and a solver has fewer arcs to take. Where
+all zones have one cone, no arc that is left can be spared; where cones differ, some could be.";
 
 const AFTER: &str = "Example:
   pitc_thin --plan march.plan --out out/march.thin north.csv south.csv

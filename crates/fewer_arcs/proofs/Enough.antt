@@ -1,98 +1,67 @@
--- Predecessors that stand for all others are what is left.
-use Rattle.std.proofs.Common.{◌≡◌, ℕ, ◌<◌, ◌==◌, true, false, List, [], ◌∷◌, ◌++◌, fold, get_or, refl, sym, ap, ◌∙◌, arith, append-nil, append_assoc, ◌⊎◌, ⊎_elim, if◌then◌else◌}
-use Rattle.std.specs.List.Sorted.{IsStrictlyIncreasing}
-use Rattle.std.proofs.lemmas.Bool.{cases_Bool, eqb-true}
+-- What is left of predecessors that stand for all others is what is left of all.
+use Rattle.std.proofs.Common.{◌≡◌, ℕ, ◌<◌, Bool, true, false, not, List, [], All, Contains, filter, get_or, sym, ap, ◌∙◌, arith, ⊎_elim}
+use Rattle.std.proofs.lemmas.Bool.{cases_Bool, cases_lt}
+use Rattle.std.proofs.lemmas.List.Elements.{Contains-get_or}
+use Rattle.std.proofs.lemmas.List.Kept.{IsStrictlyIncreasing-filter}
+use Rattle.precedence.specs.Behind.{is_behind}
+use Rattle.precedence.specs.Closed.{AreClosed, ComeLater, HasArc}
 use Rattle.precedence.specs.Enough.{AreEnough}
 use Rattle.precedence.specs.IdRuns.{is_in}
-use Rattle.precedence.proofs.enough.Walks.{append_cases, first_below, first_in, in_left, in_right, or_cases, push_cases, tail_rises}
-use Rattle.fewer_arcs.specs.Fewer.{is_behind, left_of, left_with}
-use Rattle.fewer_arcs.proofs.Members.{behind_true, contains_true, true_behind, true_contains}
+use Rattle.fewer_arcs.specs.Fewer.{left_of}
+use Rattle.fewer_arcs.specs.Left.{IsBehind}
+use Rattle.precedence.proofs.Members.{contains_true, true_contains}
+use Rattle.fewer_arcs.proofs.Members.{all_kept, behind_true, kept_from, kept_in, one_list, true_behind}
 
 module _ (lists : List (List ℕ)) (list some : List ℕ) (h : AreEnough lists list some) where
-  -- one that stands in no list of those before it is left
-  kept : (left : List ℕ) (y : ℕ) → ((d : ℕ) → is_in left d ≡ true → is_in (get_or lists d []) y ≡ false) → is_behind lists left y ≡ false
-  kept left y none = ⊎_elim
-      (λ yes.
-      let w = true_behind lists left y yes in
-      let a = none w.0 (contains_true left w.0 w.1) in
-      let b = contains_true (get_or lists w.0 []) y w.2 in
-      absurd (let no : ⊥ = cc in no))
-      (λ no. no)
-      (cases_Bool (is_behind lists left y))
+  abbrev pub free : ℕ → Bool
+  free c = not (is_behind lists list c)
 
-  module _ (left rest ys : List ℕ) (y : ℕ) (split : some ≡ left ++ rest) (rise : IsStrictlyIncreasing (y ∷ ys))
-      (low : (c : ℕ) → is_in left c ≡ true → (k : ℕ) → is_in (y ∷ ys) k ≡ true → c < k)
-      (there : (c : ℕ) → is_in rest c ≡ true → is_in (y ∷ ys) c ≡ true) (own : is_in list y ≡ true) where
-    some_cases : (c : ℕ) → is_in some c ≡ true → (is_in left c ≡ true) ⊎ (is_in rest c ≡ true)
-    some_cases c has = append_cases left rest c (ap (λ all. is_in all c) (sym split) ∙ has)
+  own : (c : ℕ) → Contains some c → Contains list c
+  own c has = true_contains list c (h.among c (contains_true some c has))
 
-    -- any other stands in the list of one that is left
-    passes : (is_in rest y ≡ true → ⊥) → is_behind lists left y ≡ true
-    passes out = ⊎_elim
-        (λ has. ⊎_elim
-        (λ old. absurd (let less = low y old y (first_in y ys) in omega arith))
-        (λ new. absurd (out new))
-        (some_cases y has))
-        (λ cover. ⊎_elim
-        (λ old. behind_true lists left y (cover.0, true_contains left cover.0 old, true_contains (get_or lists cover.0 []) y cover.3))
-        (λ new. absurd (⊎_elim
-        (λ is. let less = cover.2 in omega (arith, less, eqb-true _ _ is))
-        (λ later. let less = cover.2 in omega (arith, less, first_below y ys cover.0 rise later))
-        (or_cases (y == cover.0) (is_in ys cover.0) (there cover.0 new))))
-        (some_cases cover.0 cover.1))
-        (h.others y own)
+  pub found_listed : All (λ c. is_in list c ≡ true) some
+  found_listed k d lt = h.among (get_or some k d) (contains_true some (get_or some k d) (Contains-get_or some k d lt))
 
-    -- those that come are behind it
-    there_later : (is_in rest y ≡ true → ⊥) → (c : ℕ) → is_in rest c ≡ true → is_in ys c ≡ true
-    there_later out c has = ⊎_elim
-        (λ is. absurd (out (ap (is_in rest) (eqb-true _ _ is) ∙ has)))
-        (λ later. later)
-        (or_cases (y == c) (is_in ys c) (there c has))
+  free_found : (c : ℕ) → Contains list c → free c ≡ true → Contains some c
+  free_found c has passes = ⊎_elim
+      (λ found. true_contains some c found)
+      (λ cover.
+      let is = behind_true lists list c (cover.0, own cover.0 (true_contains some cover.0 cover.1), true_contains (get_or lists cover.0 []) c cover.3) in
+      let both : false ≡ true = sym (ap not is) ∙ passes in
+      absurd (let bad : ⊥ = cc in bad))
+      (h.others c (contains_true list c has))
 
-  all_left : (left rest ys : List ℕ) → some ≡ left ++ rest → IsStrictlyIncreasing rest → IsStrictlyIncreasing ys
-      → ((c : ℕ) → is_in left c ≡ true → (k : ℕ) → is_in ys k ≡ true → c < k)
-      → ((c : ℕ) → is_in rest c ≡ true → is_in ys c ≡ true) → ((c : ℕ) → is_in ys c ≡ true → is_in list c ≡ true)
-      → fold (left_with lists) left ys ≡ some
-  all_left left [] [] split rises rise low there own = sym (split ∙ append-nil left)
-  all_left left (r ∷ rest) [] split rises rise low there own = absurd (let none = there r (first_in r rest) in let no : ⊥ = cc in no)
-  all_left left [] (y ∷ ys) split rises rise low there own =
-      let out : is_in [] y ≡ true → ⊥ = λ has. (let no : ⊥ = cc in no) in
-      let own_y = own y (first_in y ys) in
-      ap (λ b. fold (left_with lists) (if b then left else left ++ y ∷ []) ys) (passes left [] ys y split rise low there own_y out)
-      ∙ all_left left [] ys split rises (tail_rises y ys rise) (λ c has k in'. low c has k (in_right (y ∷ []) ys k in'))
-      (there_later left [] ys y split rise low there own_y out) (λ c in'. own c (in_right (y ∷ []) ys c in'))
-  all_left left (r ∷ rest) (y ∷ ys) split rises rise low there own =
-      let own_y = own y (first_in y ys) in
-      ⊎_elim
-      (λ is.
-      let same : y ≡ r = eqb-true _ _ is in
-      let in_some : is_in some y ≡ true = ap (λ all. is_in all y) split ∙ in_right left (r ∷ rest) y (ap (λ k. is_in (k ∷ rest) y) (sym same) ∙ first_in y rest) in
-      let free : is_behind lists left y ≡ false = kept left y (λ d has.
-      h.apart y d in_some (ap (λ all. is_in all d) split ∙ in_left left (r ∷ rest) d has) (low d has y (first_in y ys))) in
-      ap (λ b. fold (left_with lists) (if b then left else left ++ y ∷ []) ys) free
-      ∙ all_left (left ++ y ∷ []) rest ys (split ∙ ap (λ k. left ++ k ∷ rest) (sym same) ∙ sym (append_assoc left (y ∷ []) rest))
-      (tail_rises r rest rises) (tail_rises y ys rise)
-      (λ c has k in'. ⊎_elim
-      (λ old. low c old k (in_right (y ∷ []) ys k in'))
-      (λ e. omega (arith, e, first_below y ys k rise in'))
-      (push_cases left y c has))
-      (λ c has. ⊎_elim
-      (λ here. absurd (omega (arith, eqb-true _ _ here, same, first_below r rest c rises has)))
-      (λ later. later)
-      (or_cases (y == c) (is_in ys c) (there c (in_right (r ∷ []) rest c has))))
-      (λ c in'. own c (in_right (y ∷ []) ys c in')))
-      (λ later.
-      let out : is_in (r ∷ rest) y ≡ true → ⊥ = λ has. (
-      let more = first_below y ys r rise later in
-      ⊎_elim
-      (λ is. omega (arith, more, eqb-true _ _ is))
-      (λ behind. omega (arith, more, first_below r rest y rises behind))
-      (or_cases (r == y) (is_in rest y) has)
-      ) in
-      ap (λ b. fold (left_with lists) (if b then left else left ++ y ∷ []) ys) (passes left (r ∷ rest) ys y split rise low there own_y out)
-      ∙ all_left left (r ∷ rest) ys split rises (tail_rises y ys rise) (λ c has k in'. low c has k (in_right (y ∷ []) ys k in'))
-      (there_later left (r ∷ rest) ys y split rise low there own_y out) (λ c in'. own c (in_right (y ∷ []) ys c in')))
-      (or_cases (y == r) (is_in ys r) (there r (first_in r rest)))
+  -- those found that stand in the list of none
+  pub found_left : filter free some ≡ left_of lists list
+  found_left = one_list (filter free some) (left_of lists list)
+      (IsStrictlyIncreasing-filter free some h.rising) (IsStrictlyIncreasing-filter free list h.list_rises)
+      (λ c has. let w = kept_from free some c has in kept_in free list c (own c w.0) w.1)
+      (λ c has. let w = kept_from free list c has in kept_in free some c (free_found c w.0 w.1) w.1)
 
-  pub enough_left : some ≡ left_of lists list
-  enough_left = sym (all_left [] some list refl h.rising h.list_rises (λ c none. absurd (let no : ⊥ = cc in no)) h.among (λ c in'. in'))
+-- where lists are closed, all that are found are left
+module _ (lists : List (List ℕ)) (b : ℕ) (some : List ℕ) (h : AreEnough lists (get_or lists b []) some) (closed : AreClosed lists) (later : ComeLater lists) where
+  abbrev list : List ℕ
+  list = get_or lists b []
+
+  in_list : (c : ℕ) → is_in some c ≡ true → HasArc lists b c
+  in_list c has = true_contains list c (h.among c has)
+
+  none_in : (c d : ℕ) → is_in some c ≡ true → is_in some d ≡ true → HasArc lists d c → ⊥
+  none_in c d has found arc =
+      let yes = contains_true (get_or lists d []) c arc in
+      let no = h.apart c d has found (later d c arc) in
+      let bad : ⊥ = cc in bad
+
+  none_behind : (c : ℕ) → is_in some c ≡ true → IsBehind lists list c → ⊥
+  none_behind c has w = ⊎_elim
+      (λ found. none_in c w.0 has found w.2)
+      (λ cover.
+      let first = true_contains (get_or lists cover.0 []) w.0 cover.3 in
+      none_in c cover.0 has cover.1 (closed b c cover.0 1 (in_list c has) (in_list cover.0 cover.1) (w.0, first, w.2)))
+      (h.others w.0 (contains_true list w.0 w.1))
+
+  pub all_left : some ≡ left_of lists list
+  all_left = sym (all_kept (free lists list some h) some (λ c has. ⊎_elim
+      (λ is. absurd (none_behind c (contains_true some c has) (true_behind lists list c is)))
+      (λ no. ap not no)
+      (cases_Bool (is_behind lists list c)))) ∙ found_left lists list some h

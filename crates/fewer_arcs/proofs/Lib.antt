@@ -1,9 +1,7 @@
 pub mod Enough
 pub mod Members
 pub mod One
-pub mod OneCone
 pub mod Same
 pub mod SomeLeft
-pub mod Slopes
 pub mod Spared
 pub mod Told

@@ -1,13 +1,14 @@
--- What is in a list, and what stands behind blocks.
-use Rattle.std.proofs.Common.{◌≡◌, ℕ, ◌+◌, ◌<◌, ◌==◌, ◌||◌, zero, suc, true, List, [], ◌∷◌, ◌++◌, Contains, length, get_or, refl, subst, sym, ap, ◌∙◌, arith, inl, inr, ⊎_elim, ◌⊎◌}
+-- What is in a list, what a test keeps of it, and what stands behind blocks.
+use Rattle.std.proofs.Common.{◌≡◌, ℕ, ◌+◌, ◌<◌, ◌==◌, ◌||◌, zero, suc, Bool, true, false, cond, not, List, [], ◌∷◌, Contains, drop, filter, length, get_or, refl, subst, sym, ap, ◌∙◌, arith, inl, inr, ⊎_elim, ◌⊎◌}
 use Rattle.std.specs.List.Sorted.{IsStrictlyIncreasing}
-use Rattle.std.proofs.lemmas.Bool.{cases_Bool, cases_lt, eq-eqb, eqb-true}
-use Rattle.std.proofs.lemmas.List.{get_or_append_left, get_or_at, length-append}
-use Rattle.std.proofs.lemmas.List.Elements.{Contains-get_or}
+use Rattle.std.proofs.lemmas.Bool.{cases_Bool, eq-eqb, eqb-true}
+use Rattle.std.proofs.lemmas.List.{get_or-drop}
+use Rattle.std.proofs.lemmas.List.Filters.{FiltersInPlace}
 use Rattle.std.proofs.lemmas.List.Folds.{list_any_at}
 use Rattle.std.proofs.lemmas.List.Kept.{AllPairs-from_increasing}
 use Rattle.precedence.specs.IdRuns.{is_in}
-use Rattle.fewer_arcs.specs.Fewer.{is_behind}
+use Rattle.precedence.specs.Behind.{is_behind}
+use Rattle.precedence.proofs.Members.{contains_true, true_contains}
 use Rattle.fewer_arcs.specs.Left.{IsBehind}
 
 pub in_none : (c : ℕ) → Contains {X = ℕ} [] c → ⊥
@@ -26,18 +27,6 @@ cons_cases x xs c has = at has.0 has.1 has.2
     at zero lt is = inl is
     at (suc k) lt is = inr (k, omega arith, is)
 
-pub contains_true : (xs : List ℕ) (c : ℕ) → Contains xs c → is_in xs c ≡ true
-contains_true xs c has = list_any_at (λ y. y == c) xs has.0 c has.1 (eq-eqb _ _ has.2)
-
-pub true_contains : (xs : List ℕ) (c : ℕ) → is_in xs c ≡ true → Contains xs c
-true_contains [] c h = let no : ⊥ = cc in absurd no
-true_contains (x ∷ xs) c h = ⊎_elim
-    (λ is. (0, omega arith, eqb-true _ _ is))
-    (λ no.
-    let rest : is_in xs c ≡ true = sym (ap (λ b. b || is_in xs c) no) ∙ h in
-    tail_in x xs c (true_contains xs c rest))
-    (cases_Bool (x == c))
-
 pub true_behind : (lists : List (List ℕ)) (blocks : List ℕ) (c : ℕ) → is_behind lists blocks c ≡ true → IsBehind lists blocks c
 true_behind lists [] c h = let no : ⊥ = cc in absurd no
 true_behind lists (d ∷ ds) c h = ⊎_elim
@@ -54,21 +43,6 @@ behind_true lists blocks c w =
     list_any_at (λ d. is_in (get_or lists d []) c) blocks at.0 w.0 at.1
     (ap (λ d. is_in (get_or lists d []) c) at.2 ∙ contains_true (get_or lists w.0 []) c w.2)
 
-pub rising_push : (xs : List ℕ) (y : ℕ) → IsStrictlyIncreasing xs → ((c : ℕ) → Contains xs c → c < y) → IsStrictlyIncreasing (xs ++ y ∷ [])
-rising_push xs y rising below k lt =
-    let long = length-append xs (y ∷ []) in
-    ⊎_elim
-    (λ less.
-    let one = get_or_append_left xs (y ∷ []) 0 k (omega arith) in
-    let two = get_or_append_left xs (y ∷ []) 0 (k + 1) less in
-    omega (arith, one, two, rising k less))
-    (λ le.
-    let last : length xs ≡ k + 1 = omega arith in
-    let one = get_or_append_left xs (y ∷ []) 0 k (omega arith) in
-    let two = get_or_at xs y [] 0 (k + 1) last in
-    omega (arith, one, two, below (get_or xs k 0) (Contains-get_or xs k 0 (omega arith))))
-    (cases_lt (k + 1) (length xs))
-
 pub head_below : (x : ℕ) (xs : List ℕ) (c : ℕ) → IsStrictlyIncreasing (x ∷ xs) → Contains xs c → x < c
 head_below x xs c rising has =
     let lt = has.1 in
@@ -80,3 +54,74 @@ tail_rises x xs rising k lt = let two : suc k + 1 < length (x ∷ xs) = omega ar
   where
     at : get_or xs k 0 < get_or (x ∷ xs) (suc k + 1) 0 → get_or xs k 0 < get_or xs (k + 1) 0
     at h = let e : suc k + 1 ≡ suc (k + 1) = omega arith in subst (λ n. get_or xs k 0 < get_or (x ∷ xs) n 0) e h
+
+-- ---- what a test keeps
+
+module _ (test : ℕ → Bool) where
+  pub kept_in : (xs : List ℕ) (c : ℕ) → Contains xs c → test c ≡ true → Contains (filter test xs) c
+  kept_in [] c has passes = absurd (in_none c has)
+  kept_in (x ∷ xs) c has passes = ⊎_elim
+      (λ is.
+      let first : test x ≡ true = ap test is ∙ passes in
+      subst (λ all. Contains all c) (sym (ap (λ b. cond b (x ∷ filter test xs) (filter test xs)) first))
+      (subst (λ y. Contains (x ∷ filter test xs) y) is (head_in x (filter test xs))))
+      (λ later. by (test x) (kept_in xs c later passes))
+      (cons_cases x xs c has)
+    where
+      by : (b : Bool) → Contains (filter test xs) c → Contains (cond b (x ∷ filter test xs) (filter test xs)) c
+      by true rest = tail_in x (filter test xs) c rest
+      by false rest = rest
+
+  pub kept_from : (xs : List ℕ) (c : ℕ) → Contains (filter test xs) c → Contains xs c × (test c ≡ true)
+  kept_from [] c has = absurd (in_none c has)
+  kept_from (x ∷ xs) c has = ⊎_elim
+      (λ yes. ⊎_elim
+      (λ is. (subst (λ y. Contains (x ∷ xs) y) is (head_in x xs), ap test (sym is) ∙ yes))
+      (λ later. let rest = kept_from xs c later in (tail_in x xs c rest.0, rest.1))
+      (cons_cases x (filter test xs) c (subst (λ all. Contains all c) (ap (λ b. cond b (x ∷ filter test xs) (filter test xs)) yes) has)))
+      (λ no.
+      let rest = kept_from xs c (subst (λ all. Contains all c) (ap (λ b. cond b (x ∷ filter test xs) (filter test xs)) no) has) in
+      (tail_in x xs c rest.0, rest.1))
+      (cases_Bool (test x))
+
+  -- where all pass, all are kept
+  pub all_kept : (xs : List ℕ) → ((c : ℕ) → Contains xs c → test c ≡ true) → filter test xs ≡ xs
+  all_kept [] pass = refl
+  all_kept (x ∷ xs) pass =
+      ap (λ b. cond b (x ∷ filter test xs) (filter test xs)) (pass x (head_in x xs))
+      ∙ ap (λ rest. x ∷ rest) (all_kept xs (λ c has. pass c (tail_in x xs c has)))
+
+-- rising lists with the same members are one list
+pub one_list : (xs ys : List ℕ) → IsStrictlyIncreasing xs → IsStrictlyIncreasing ys → ((c : ℕ) → Contains xs c → Contains ys c)
+    → ((c : ℕ) → Contains ys c → Contains xs c) → xs ≡ ys
+one_list [] [] rx ry there back = refl
+one_list [] (y ∷ ys) rx ry there back = absurd (in_none y (back y (head_in y ys)))
+one_list (x ∷ xs) [] rx ry there back = absurd (in_none x (there x (head_in x xs)))
+one_list (x ∷ xs) (y ∷ ys) rx ry there back =
+    let same : x ≡ y = heads in
+    let rest : xs ≡ ys = one_list xs ys (tail_rises x xs rx) (tail_rises y ys ry)
+    (λ c has. ⊎_elim
+    (λ is. absurd (let less = head_below x xs c rx has in omega arith))
+    (λ in'. in')
+    (cons_cases y ys c (there c (tail_in x xs c has))))
+    (λ c has. ⊎_elim
+    (λ is. absurd (let less = head_below y ys c ry has in omega arith))
+    (λ in'. in')
+    (cons_cases x xs c (back c (tail_in y ys c has)))) in
+    λ j. same j ∷ rest j
+  where
+    heads : x ≡ y
+    heads = ⊎_elim
+        (λ is. sym is)
+        (λ low. ⊎_elim
+        (λ is. is)
+        (λ high. absurd (let a = head_below y ys x ry low in let b = head_below x xs y rx high in omega arith))
+        (cons_cases x xs y (back y (head_in y ys))))
+        (cons_cases y ys x (there x (head_in x xs)))
+
+-- where a filter in place has come to, the list is as it was
+pub still_there : (test : ℕ → Bool) (xs ys : List ℕ) (k i d : ℕ) → FiltersInPlace test xs ys k i → get_or ys i d ≡ get_or xs i d
+still_there test xs ys k i d f = sym (at ys) ∙ ap (λ rest. get_or rest 0 d) f.rest ∙ at xs
+  where
+    at : (list : List ℕ) → get_or (drop i list) 0 d ≡ get_or list i d
+    at list = let e : i + 0 ≡ i = omega arith in get_or-drop i list 0 d ∙ ap (λ n. get_or list n d) e

@@ -1,11 +1,12 @@
 -- What is left of lists says the same.
-use Rattle.std.proofs.Common.{◌≡◌, ℕ, ◌+◌, ◌<◌, ◌≤◌, zero, suc, true, List, [], Contains, get_or, length, subst, sym, ap, ◌∙◌, arith, ⊎_elim, ◌⊎◌}
+use Rattle.std.proofs.Common.{◌≡◌, ℕ, ◌+◌, ◌<◌, ◌≤◌, zero, suc, true, List, [], Contains, get_or, length, subst, sym, ap, ◌∙◌, arith, inl, inr, ⊎_elim, ◌⊎◌}
 use Rattle.std.proofs.lemmas.Bool.{cases_lt}
 use Rattle.std.proofs.lemmas.List.{get_or-map, get_or_past, length-map}
+use Rattle.precedence.specs.Closed.{ComeLater, HasArc, Way}
 use Rattle.fewer_arcs.specs.Fewer.{fewer, left_of}
 use Rattle.fewer_arcs.specs.Left.{IsBehind, IsLeft, Rise}
-use Rattle.fewer_arcs.specs.SayTheSame.{ComeLater, HasArc, HaveWays, SaysTheSame, Way}
-use Rattle.fewer_arcs.proofs.SomeLeft.{is_left, left_among, left_or_behind}
+use Rattle.fewer_arcs.specs.SayTheSame.{HaveWays, SaysTheSame}
+use Rattle.fewer_arcs.proofs.SomeLeft.{is_left, left_among, left_apart, left_or_behind}
 
 -- a list that is not there is empty, and so is what is left of it
 pub own_left : (lists : List (List ℕ)) (b : ℕ) → get_or (fewer lists) b [] ≡ left_of lists (get_or lists b [])
@@ -16,34 +17,37 @@ own_left lists b = ⊎_elim
     get_or_past (fewer lists) b [] (omega (arith, length-map lists (left_of lists))) ∙ ap (left_of lists) (sym none))
     (cases_lt b (length lists))
 
-pub in_list : (lists : List (List ℕ)) (b c : ℕ) → HasArc lists b c → b < length lists
-in_list lists b c has = ⊎_elim
-    (λ lt. lt)
-    (λ past.
-    let none : length (get_or lists b []) ≡ 0 = ap (λ (xs : List ℕ). length xs) (get_or_past lists b [] past) in
-    let lt = has.1 in
-    absurd (omega arith))
-    (cases_lt b (length lists))
-
 module _ (lists : List (List ℕ)) where
   pub among : (b c : ℕ) → HasArc (fewer lists) b c → HasArc lists b c
   among b c has = left_among lists (get_or lists b []) c (subst (λ list. Contains list c) (own_left lists b) has)
 
-  covered : (b c : ℕ) → HasArc lists b c → HasArc (fewer lists) b c ⊎ IsBehind lists (get_or (fewer lists) b []) c
-  covered b c has =
-      subst (λ list. Contains list c ⊎ IsBehind lists list c) (sym (own_left lists b)) (left_or_behind lists (get_or lists b []) c has)
+  -- no predecessor of b has one in its list that is left
+  pub apart : (b c d : ℕ) → HasArc (fewer lists) b c → HasArc lists b d → HasArc lists d c → ⊥
+  apart b c d has own arc =
+      left_apart lists (get_or lists b []) c (subst (λ list. Contains list c) (own_left lists b) has) (d, own, arc)
+
+  left_or_not : (b c : ℕ) → HasArc lists b c → HasArc (fewer lists) b c ⊎ IsBehind lists (get_or lists b []) c
+  left_or_not b c has = ⊎_elim
+      (λ left. inl (subst (λ list. Contains list c) (sym (own_left lists b)) left))
+      (λ behind. inr behind)
+      (left_or_behind lists (get_or lists b []) c has)
+
+  pub some_left : (b : ℕ) → Rise lists → b < length lists → IsLeft lists (get_or lists b []) (get_or (fewer lists) b [])
+  some_left b rise lt =
+      subst (λ list. IsLeft lists (get_or lists b []) list) (sym (own_left lists b)) (is_left lists (get_or lists b []) (rise b lt))
 
   module _ (later : ComeLater lists) where
-    -- whatever the relation
+    -- whatever the relation: a dropped arc is two arcs, both of which are shorter
     module _ (R : ℕ → ℕ → Type 0) (through : (a b c : ℕ) → R a b → R b c → R a c) (along : (b c : ℕ) → HasArc (fewer lists) b c → R b c) where
       holds_near : (k b c : ℕ) → c ≤ b + k → HasArc lists b c → R b c
       holds_near zero b c le has = absurd (let less = later b c has in omega arith)
       holds_near (suc k) b c le has = ⊎_elim
           (λ left. along b c left)
           (λ w.
-          let near = later b w.0 (among b w.0 w.1) in
-          through b w.0 c (along b w.0 w.1) (holds_near k w.0 c (omega arith) w.2))
-          (covered b c has)
+          let first = later b w.0 w.1 in
+          let second = later w.0 c w.2 in
+          through b w.0 c (holds_near k b w.0 (omega arith) w.1) (holds_near k w.0 c (omega arith) w.2))
+          (left_or_not b c has)
 
       pub holds : (b c : ℕ) → HasArc lists b c → R b c
       holds b c has = holds_near c b c (omega arith) has
@@ -58,7 +62,3 @@ module _ (lists : List (List ℕ)) where
         joined : (lists : List (List ℕ)) (n a b c m : ℕ) → Way lists n a b → Way lists m b c → (k : ℕ) × Way lists k a c
         joined lists zero a b c m first then' = (suc m, (b, first, then'))
         joined lists (suc n) a b c m first then' = let rest = joined lists n first.0 b c m first.2 then' in (suc rest.0, (first.0, first.1, rest.1))
-
-    pub some_left : (b : ℕ) → Rise lists → b < length lists → IsLeft lists (get_or lists b []) (get_or (fewer lists) b [])
-    some_left b rise lt =
-        subst (λ list. IsLeft lists (get_or lists b []) list) (sym (own_left lists b)) (is_left lists later (get_or lists b []) (rise b lt))

@@ -2,7 +2,7 @@
 use Rattle.std.proofs.Common.{◌≡◌, ℕ, ◌≤◌, Bool, true, List, arith}
 use Rattle.fewer_arcs.specs.Fewer.{fewer}
 use Rattle.fewer_arcs.specs.Mined.{IsMinedInOrder, IsPit, IsSchedule}
-use Rattle.fewer_arcs.specs.SayTheSame.{ComeLater}
+use Rattle.precedence.specs.Closed.{ComeLater}
 use Rattle.fewer_arcs.proofs.Same.{among, holds}
 
 module _ (lists : List (List ℕ)) (later : ComeLater lists) where

@@ -1,5 +1,4 @@
 pub mod Fewer
-pub mod Least
 pub mod Left
 pub mod Mined
 pub mod SayTheSame

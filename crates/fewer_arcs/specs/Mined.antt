@@ -1,6 +1,6 @@
 -- What predecessors say of pits, of periods and of what is mined by their ends.
 use Rattle.std.specs.Prelude.{◌≡◌, ℕ, ◌≤◌, Bool, true, List}
-use Rattle.fewer_arcs.specs.SayTheSame.{HasArc}
+use Rattle.precedence.specs.Closed.{HasArc}
 
 -- with each block of the pit those that it waits for are in it
 abbrev pub IsPit : List (List ℕ) → (ℕ → Bool) → Type 0

@@ -1,15 +1,16 @@
 //! What is left of lists of predecessors.
 
-ghost use Rattle.std.specs.Prelude.{◌≡◌, ◌<◌, ◌^◌, ◌++◌, [], OnOk, length, slice_index_or};
-ghost use Rattle.precedence.specs.IdRuns.{ids_of};
+ghost use Rattle.std.specs.Prelude.{◌≡◌, ◌<◌, ◌^◌, ◌++◌, [], All, OnOk, filter, length, not, slice_index_or, true};
+ghost use Rattle.precedence.specs.Behind.{is_behind};
+ghost use Rattle.precedence.specs.IdRuns.{ids_of, is_in};
 ghost use Rattle.fewer_arcs.specs.Fewer.{fewer, left_of};
 
 use precedence::{EnoughPreds, IdRun, MadeLists, add_runs_of_ids};
 use std::alloc::{AllocError, Global};
 use std::marker::Model;
 
-/// What is left of the lists of others: of each, no block that stands in the list of one that is left before it. None is kept: that of a
-/// block is made when it is asked for, in room that is kept for the next one. Contracts see the list of all lists.
+/// What is left of the lists of others: of each, no block that stands in the list of another one of it. None is kept: that of a block is
+/// made when it is asked for, in room that is kept for the next one. Contracts see the list of all lists.
 #[derive(Drop)]
 pub struct FewerPreds<L: EnoughPreds + Drop> {
     lists: L,
@@ -51,11 +52,12 @@ impl<L: EnoughPreds + Drop> MadeLists for FewerPreds<L> {
     }
 }
 
-// Appends runs that tell what is left of the list of a block: those predecessors that stand for all others. The vector is room for them.
+// Appends runs that tell what is left of the list of a block. That is found among the predecessors that stand for all others, for which
+// the vector is room.
 fn add_fewer<L: EnoughPreds>(
     alloc: Global,
     runs: &mut Vec<IdRun>,
-    enough: &mut Vec<u32>,
+    found: &mut Vec<u32>,
     lists: &mut L,
     id: u32,
 ) -> Result<(), AllocError>
@@ -65,8 +67,29 @@ fn add_fewer<L: EnoughPreds>(
     ensures kept { L.lists lists.new ≡ L.lists lists.old }
     ensures countable { length (slice_index_or (L.lists lists.old) id []) < 2 ^ 63 }
 {
-    enough.clear();
-    lists.add_enough(alloc, enough, id)?;
-    add_runs_of_ids(runs, enough.as_slice())?;
+    found.clear();
+    lists.add_enough(alloc, found, id)?;
+    if !lists.are_closed() {
+        drop_behind(found, lists, id);
+    }
+    add_runs_of_ids(runs, found.as_slice())?;
     Ok(())
+}
+
+// Drops those of some predecessors of a block that stand in the list of another predecessor.
+fn drop_behind<L: EnoughPreds>(found: &mut Vec<u32>, lists: &L, id: u32)
+    requires block { id < length (L.lists lists.now) }
+    requires listed { All (λ c. is_in (slice_index_or (L.lists lists.now) id []) c ≡ true) found.old.items }
+    ensures { found.new.items ≡ filter
+        (λ c. not (is_behind (L.lists lists.now) (slice_index_or (L.lists lists.now) id []) c)) found.old.items }
+{
+    let mut kept = 0;
+    for place in 0..found.len() {
+        let other = found[place];
+        if !lists.is_behind(id, other) {
+            found[kept] = other;
+            kept += 1;
+        }
+    }
+    found.truncate(kept);
 }

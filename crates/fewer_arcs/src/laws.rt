@@ -1,6 +1,7 @@
 //! What holds of what is left, whatever the lists: each contract is a law, and a call of it does nothing.
 
-ghost use Rattle.std.specs.Prelude.{◌≡◌, ◌↔◌, ℕ, ◌<◌, Bool, List, [], All, length, slice_index_or};
+ghost use Rattle.std.specs.Prelude.{◌≡◌, ◌↔◌, ℕ, ◌<◌, Bool, List, [], All, Contains, length, slice_index_or};
+ghost use Rattle.precedence.specs.Closed.{AreClosed, ComeLater};
 ghost use Rattle.precedence.specs.Cone.{preds};
 ghost use Rattle.precedence.specs.Zones.{HasZones};
 ghost use Rattle.precedence.specs.Numbering.{IsNumbering, NumberingView};
@@ -8,11 +9,10 @@ ghost use Rattle.plan_parts.specs.Plan.{PlanParts};
 ghost use Rattle.plan_parts.specs.PlanKept.{IsCone};
 ghost use Rattle.plan_parts.specs.declared.block.Block.{Block};
 ghost use Rattle.plan_parts.specs.declared.cone.Cone.{Cone};
-ghost use Rattle.fewer_arcs.specs.Fewer.{fewer};
-ghost use Rattle.fewer_arcs.specs.Least.{AreAmong, AreClosed};
-ghost use Rattle.fewer_arcs.specs.Left.{IsLeft, Rise};
+ghost use Rattle.fewer_arcs.specs.Fewer.{fewer, left_of};
+ghost use Rattle.fewer_arcs.specs.Left.{IsLeft, Rise, StandForAll};
 ghost use Rattle.fewer_arcs.specs.Mined.{IsMinedInOrder, IsPit, IsSchedule};
-ghost use Rattle.fewer_arcs.specs.SayTheSame.{ComeLater, HaveWays, SaysTheSame};
+ghost use Rattle.fewer_arcs.specs.SayTheSame.{AreAmong, HaveWays, SaysTheSame};
 
 use precedence::laws::{preds_come_later, preds_rise};
 
@@ -42,23 +42,30 @@ pub fn schedules_are_the_same()
         → (IsSchedule (fewer lists) period_of ↔ IsSchedule lists period_of) }
 {}
 
-/// Of lists that rise, what is left of each is some of it in its order. Each dropped block stands in the list of one that is left, and
+/// Of lists that rise, what is left of each is some of it in its order. Each dropped block stands in the list of another one of it, and
 /// none that is left does.
 pub fn some_are_left()
-    ensures { (lists : List (List ℕ)) (b : ℕ) → ComeLater lists → Rise lists → b < length lists
+    ensures { (lists : List (List ℕ)) (b : ℕ) → Rise lists → b < length lists
         → IsLeft lists (slice_index_or lists b []) (slice_index_or (fewer lists) b []) }
 {}
 
 /// No other part of a list is left so.
 pub fn left_in_one_way()
-    ensures { (lists : List (List ℕ)) (list one other : List ℕ) → ComeLater lists
+    ensures { (lists : List (List ℕ)) (list one other : List ℕ)
         → IsLeft lists list one → IsLeft lists list other → one ≡ other }
+{}
+
+/// Where each block of a list is among some of them or stands in the list of one of these, as when those are dropped that stand in the
+/// list of one that is left before them, all that is left is among these too.
+pub fn none_leave_less()
+    ensures { (lists : List (List ℕ)) (list some : List ℕ) → StandForAll lists list some
+        → (c : ℕ) → Contains (left_of lists list) c → Contains some c }
 {}
 
 /// Where lists are closed, no arc that is left can be spared: each stands in any other choice of their arcs that has a way where the
 /// lists have an arc.
 pub fn none_can_be_spared()
-    ensures { (lists other : List (List ℕ)) → ComeLater lists → Rise lists → AreClosed lists
+    ensures { (lists other : List (List ℕ)) → AreClosed lists
         → AreAmong other lists → HaveWays lists other → AreAmong (fewer lists) other }
 {}
 
@@ -66,7 +73,9 @@ pub fn none_can_be_spared()
 pub fn one_cone_is_closed()
     ensures { (plan : PlanParts) (blocks : List Block) (cone : Cone) → IsCone cone → All (λ own. own ≡ cone) plan.cones
         → HasZones plan blocks → AreClosed (preds plan blocks) }
-{}
+{
+    precedence::laws::one_cone_is_closed();
+}
 
 /// The predecessors of a model's blocks are such lists: each has a greater identifier than its block, and each list rises strictly.
 pub fn preds_come_later_and_rise()

@@ -1,4 +1,4 @@
-//! Lists of predecessors, of which arcs that follow from others are left out.
+//! Lists of predecessors, of which those are left that stand in the list of no other one.
 #![tactic(auto)]
 
 mod fewer_preds;

@@ -2,4 +2,4 @@ use Rattle.fewer_arcs.proofs.One.{is_one}
 use Rattle.fewer_arcs.proofs.laws.left_in_one_way.Goals as goal
 
 pub returns : goal.returns
-returns c = λ lists list one other later. is_one lists list later one other
+returns c = is_one

@@ -2,4 +2,4 @@ use Rattle.fewer_arcs.proofs.Same.{some_left}
 use Rattle.fewer_arcs.proofs.laws.some_are_left.Goals as goal
 
 pub returns : goal.returns
-returns c = λ lists b later. some_left lists later b
+returns c = some_left
