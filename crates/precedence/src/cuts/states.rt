@@ -1,6 +1,6 @@
 //! Going from one state of a walk to the next, which is made where it is lacking.
 
-ghost use Rattle.std.specs.Prelude.{◌≡◌, ◌+◌, ◌<◌, ◌≤◌, ◌^◌, [], None, All, IfOk, IfSome, IsTrue, length, slice_get};
+ghost use Rattle.std.specs.Prelude.{◌≡◌, ◌+◌, ◌<◌, ◌≤◌, ◌^◌, [], None, All, IfOk, IfSome, length, slice_get};
 ghost use Rattle.precedence.specs.inner.Rest.{IsRestBehind};
 ghost use Rattle.precedence.specs.inner.Rows.{pasts, AreInOrder};
 ghost use Rattle.precedence.specs.inner.States.{rest_of, AreStates};
@@ -9,7 +9,7 @@ ghost use Rattle.precedence.specs.inner.ZoneTables.{rows_of_table};
 use crate::cones::cone_rows::Row;
 use crate::cones::cone_table::ConeTable;
 use crate::cones::widths::widths_of;
-use crate::cuts::rest::{lies_behind, rest_behind};
+use crate::cuts::rest::rest_behind;
 use crate::cuts::state::{Edge, State, States};
 use crate::cuts::state_rows::rows_at;
 use crate::lists::row_runs::{Hint, NOTHING_KNOWN};
@@ -76,9 +76,8 @@ fn no_hints(alloc: Global, count: usize) -> Result<Vec<Cell<Hint>>, AllocError> 
     Ok(hints)
 }
 
-/// The state that follows where the first block is found at a distance, and its cone has a table: the same one, where this cone lies
-/// behind all that is left. Where it was not made before it is made, and found again by one of so many hashes. Or none, where there is
-/// no room for it.
+/// The state that follows where the first block is found at a distance, and its cone has a table. Where it was not made before it is made,
+/// and found again by one of so many hashes. Or none, where there is no room for it.
 #[inline(always)]
 pub fn next_state(
     alloc: Global,
@@ -104,29 +103,10 @@ pub fn next_state(
     ensures kept { IfOk result (λ next. next ≡ None
         → states.new.states.items ≡ states.old.states.items) }
 {
-    if stays(tables, states, state, gap, table) {
-        return Ok(Some(state));
-    }
     match made_state(tables, states, state, gap, table) {
         Some(next) => Ok(Some(next)),
         None => add_state(alloc, tables, states, state, gap, table, hashes),
     }
-}
-
-// Whether the cone of a table lies behind all that is left.
-#[inline(always)]
-fn stays(tables: &[ConeTable], states: &States, state: usize, gap: u64, table: usize) -> bool
-    requires in_order { All (λ t. AreInOrder t.rows.items) tables.now }
-    requires states { All (λ s. AreInOrder s.rest.items) states.now.states.items }
-    requires state { state < length tables.now + length states.now.states.items }
-    requires table { table < length tables.now }
-    requires gap { gap < 10 ^ 15 }
-    ensures { IsTrue result → IsRestBehind (rest_of tables.now states.now.states.items state) gap
-        (rows_of_table (slice_get tables.now table))
-        (rest_of tables.now states.now.states.items state) }
-{
-    let own = rows_at(tables, states.states.as_slice(), &[], state);
-    lies_behind(own.rows, own.past, gap, tables[table].rows.as_slice())
 }
 
 // The state that was made for this.

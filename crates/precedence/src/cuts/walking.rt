@@ -11,6 +11,7 @@ ghost use Rattle.precedence.specs.declared.places.code.TheConstants.{CODES};
 use crate::cones::zone_tables::ZoneTables;
 use crate::cuts::covers::{nearest_first, no_cover, run_covered};
 use crate::cuts::first::{Reached, first_in_rows};
+use crate::cuts::rest::lies_behind;
 use crate::cuts::state::States;
 use crate::cuts::state_rows::{StateRows, rows_at};
 use crate::cuts::states::next_state;
@@ -19,7 +20,7 @@ use crate::places::Places;
 use std::alloc::{AllocError, Global};
 use std::cell::Cell;
 
-// Where a walk halts: in what is left by a state, at an identifier.
+// Where a walk halts: in what is left by a state, before an identifier.
 #[derive(Clone, Copy, Debug)]
 struct Halt {
     state: usize,
@@ -107,22 +108,26 @@ fn walk_by_states(
             Some(at) => at,
             None => return Ok(None),
         };
-        found.push(at.id as u32)?;
         let gap = places.codes[at.id] - from;
         let number = tables.of_zone[zones[at.id] as usize];
+        let rows = all[number].rows.as_slice();
+        // Where this cone lies behind all that is left, that stays.
+        if !lies_behind(own.rows, own.past, gap, rows) {
+            let hashes = places.codes.len() / 4;
+            state = match next_state(alloc, all, states, state, gap, number, hashes)? {
+                Some(next) => next,
+                None => {
+                    return Ok(Some(Halt {
+                        state,
+                        id: reached.id,
+                    }));
+                }
+            };
+        }
+        found.push(at.id as u32)?;
         reached = Reached {
             id: at.id + 1,
             row: at.row,
-        };
-        let hashes = places.codes.len() / 4;
-        state = match next_state(alloc, all, states, state, gap, number, hashes)? {
-            Some(next) => next,
-            None => {
-                return Ok(Some(Halt {
-                    state,
-                    id: reached.id,
-                }));
-            }
         };
     }
     Ok(None)

@@ -1,16 +1,16 @@
-use Rattle.std.proofs.Common.{◌≡◌, ◌+◌, ◌-◌, ◌<◌, ◌≤◌, ℕ, List, [], ◌∷◌, ◌++◌, false, true, get_or, slice_get, refl, length, subst, sym, ◌∙◌, arith}
+use Rattle.std.proofs.Common.{◌≡◌, ◌+◌, ◌-◌, ◌<◌, ◌≤◌, ℕ, List, [], false, true, get_or, slice_get, refl, length, subst, sym, ap, ◌∙◌, arith}
 use Rattle.std.proofs.lemmas.List.{get_or_default}
+use Rattle.std.proofs.lemmas.Option.{slice_get-get_or}
 use Rattle.precedence.specs.inner.Rest.{IsRestBehind}
 use Rattle.precedence.specs.inner.Rows.{is_in_rows}
-use Rattle.precedence.specs.inner.States.{rest_of}
+use Rattle.precedence.specs.inner.States.{rest_of, AreStates}
 use Rattle.precedence.specs.inner.Steps.{cone_of, IsWalkedTo}
 use Rattle.precedence.specs.inner.ZoneTables.{rows_of_table}
 use Rattle.precedence.specs.declared.cones.cone_rows.Row.{Row}
-use Rattle.precedence.specs.declared.cuts.state.State.{State}
-use Rattle.precedence.proofs.PlacesWhere.{told_where}
 use Rattle.precedence.proofs.enough.States.{whole}
-use Rattle.precedence.proofs.enough.Steps.{cone_at, free_step, no_more, no_step, none_left, number_at, rest_step, stay_step}
+use Rattle.precedence.proofs.enough.Steps.{cone_at, free_step, no_more, no_step, none_left, number_at, rest_step}
 use Rattle.precedence.proofs.cuts.walking.walk_by_states.Goals as goal
+use Rattle.precedence.proofs.cuts.walking.walk_by_states.Goals.{then-not-lies_behind+in_ok-next+in-Some-2, else-not-lies_behind}
 
 pub rows_at-own-requires-clause-states : goal.rows_at-own-requires-clause-states
 rows_at-own-requires-clause-states c = rw c.as_slice.ensures.value c.loop-reached.invariant.states.in_order
@@ -60,6 +60,20 @@ returns-clause-ended c = λ _.
 pub next_state-requires-clause-in_order : goal.next_state-requires-clause-in_order
 next_state-requires-clause-in_order c = rw c.as_slice-all.ensures.value c.requires.in_order
 
+pub lies_behind-requires-clause-in_order : goal.lies_behind-requires-clause-in_order
+lies_behind-requires-clause-in_order c =
+    let number = c.index-number.result.now in
+    let at = number_at c.args.tables.now.of_zone.items c.args.zones.now c.args.tables.now.tables.items (length c.args.places.now.codes.items)
+    c.in-Some.at.id number c.requires.each c.requires.zones c.requires.below c.in-Some.ensures.within c.index-number.ensures in
+    rw (c.as_slice-rows.ensures.value, c.as_slice-all.ensures.value) (c.requires.in_order number c.index-all-number.result at.1)
+
+pub returns-in_err-push-clause-states : goal.returns-in_err-push-clause-states
+returns-in_err-push-clause-states c =
+    elim c.if-not-lies_behind.branch [
+    | then-not-lies_behind+in_ok-next+in-Some-2 w ↦ rw w.states-is (rw c.as_slice-all.ensures.value at w.in_ok-next.ensures.states)
+    | else-not-lies_behind w ↦ rw w.states-is c.loop-reached.invariant.states
+    ]
+
 pub loop-reached-preserved : goal.loop-reached-preserved
 loop-reached-preserved c =
     let codes = c.args.places.now.codes.items in
@@ -79,23 +93,39 @@ loop-reached-preserved c =
     let cone = cone_of tables of_zone zones in
     let rows = rows_of_table (slice_get tables c.args.table) in
     let rest = rest_of tables c.loop-reached.states.states.items state in
-    let after = rest_of tables c.next_state.new.states.states.items c.in-Some-2.next in
+    let then = c.if-not-lies_behind.states in
+    let after = rest_of tables then.states.items c.if-not-lies_behind.state in
     let place : get_or codes id 0 ≡ from + gap = omega (arith, c.index.ensures, get_or_default codes id code 0 within, c.in-Some.ensures.above) in
     let at = number_at of_zone zones tables (length codes) id number c.requires.each c.requires.zones c.requires.below within c.index-number.ensures in
     let own_is : c.rows_at-own.result.rows.now ≡ rest =
     c.rows_at-own.ensures.rows ∙ (λ j. rest_of (c.as_slice-all.ensures.value j) (c.as_slice.ensures.value j) state) in
-    let told = rw c.in-Some-2.is at c.in_ok-next.ensures.rest in
-    let of_tables : IsRestBehind rest gap (rows_of_table (slice_get tables number)) after = rw c.as_slice-all.ensures.value at told in
+    let rows_are : c.as_slice-rows.result.now ≡ rows_of_table (slice_get tables number) =
+    c.as_slice-rows.ensures.value ∙ (λ j. (get_or (c.as_slice-all.ensures.value j) number c.index-all-number.result).rows.items)
+    ∙ ap rows_of_table (sym (slice_get-get_or tables number c.index-all-number.result at.1)) in
+    let told : AreStates tables then.states.items then.edges.items × (c.if-not-lies_behind.state < length tables + length then.states.items)
+        × IsRestBehind rest gap (rows_of_table (slice_get tables number)) after =
+    elim c.if-not-lies_behind.branch [
+    | then-not-lies_behind+in_ok-next+in-Some-2 w ↦ rw (w.states-is, w.state-is) (
+      rw c.as_slice-all.ensures.value at w.in_ok-next.ensures.states,
+      rw c.as_slice-all.ensures.value at (rw w.in-Some-2.is at w.in_ok-next.ensures.within),
+      rw c.as_slice-all.ensures.value at (rw w.in-Some-2.is at w.in_ok-next.ensures.rest),
+    )
+    | else-not-lies_behind w ↦ rw (w.states-is, w.state-is) (
+      inv.states,
+      inv.state,
+      subst (λ (r : List Row). IsRestBehind r gap (rows_of_table (slice_get tables number)) r) own_is
+          (subst (λ (r : List Row). IsRestBehind c.rows_at-own.result.rows.now gap r c.rows_at-own.result.rows.now) rows_are (w.if-not-lies_behind.ensures refl)),
+    )
+    ] in
     let left : IsRestBehind rest gap (cone id) after =
-    subst (λ (r : List Row). IsRestBehind rest gap r after) (cone_at tables of_zone zones id number at.0) of_tables in
+    subst (λ (r : List Row). IsRestBehind rest gap r after) (cone_at tables of_zone zones id number at.0) told.2 in
     let some : is_in_rows from rest (get_or codes id 0) ≡ true =
     subst (λ (r : List Row). is_in_rows from r (get_or codes id 0) ≡ true) own_is c.in-Some.ensures.some in
     let least : (y : ℕ) → next ≤ y → y < id → is_in_rows from rest (get_or codes y 0) ≡ false = λ y low up.
     subst (λ (r : List Row). is_in_rows from r (get_or codes y 0) ≡ false) own_is (c.in-Some.ensures.least y low up) in
-    let here = rw c.in-Some-2.is at c.in_ok-next.ensures.within in
     rw c.in_ok-push.ensures.items (record {
-      states = rw c.as_slice-all.ensures.value at c.in_ok-next.ensures.states;
-      state = rw c.as_slice-all.ensures.value at here;
+      states = told.0;
+      state = told.1;
       walked =
           rest_step codes cone from rows rest c.args.places.now.rising found next inv.walked id within c.in-Some.ensures.later some least after gap place
           left inv.free;
@@ -103,27 +133,3 @@ loop-reached-preserved c =
           free_step codes cone from rows rest c.args.places.now.rising found next inv.walked id within c.in-Some.ensures.later some least after gap place
           left inv.free;
     })
-
-pub returns-in-None-2-clause-walked : goal.returns-in-None-2-clause-walked
-returns-in-None-2-clause-walked c =
-    let codes = c.args.places.now.codes.items in
-    let tables = c.args.tables.now.tables.items in
-    let from = c.args.from in
-    let state = c.loop-reached.state in
-    let inv = c.loop-reached.invariant in
-    let id = c.in-Some.at.id in
-    let cone = cone_of tables c.args.tables.now.of_zone.items c.args.zones.now in
-    let rows = rows_of_table (slice_get tables c.args.table) in
-    let rest = rest_of tables c.loop-reached.states.states.items state in
-    let own_is : c.rows_at-own.result.rows.now ≡ rest =
-    c.rows_at-own.ensures.rows ∙ (λ j. rest_of (c.as_slice-all.ensures.value j) (c.as_slice.ensures.value j) state) in
-    let some : is_in_rows from rest (get_or codes id 0) ≡ true =
-    subst (λ (r : List Row). is_in_rows from r (get_or codes id 0) ≡ true) own_is c.in-Some.ensures.some in
-    let kept = (rw c.in-None-2.is at c.in_ok-next.ensures.kept) refl in
-    let stays =
-    stay_step codes cone from rows rest c.args.places.now.rising c.loop-reached.found.items
-    c.loop-reached.reached.id inv.walked id c.in-Some.ensures.within c.in-Some.ensures.later some
-    (λ y low up. subst (λ (r : List Row). is_in_rows from r (get_or codes y 0) ≡ false) own_is (c.in-Some.ensures.least y low up))
-    (λ b has. inv.free b id has c.in-Some.ensures.later (told_where (is_in_rows from rest) id codes 0 c.in-Some.ensures.within ∙ some)) in
-    rw c.in_ok-push.ensures.items
-    (subst (λ (ss : List State). IsWalkedTo codes cone from rows (rest_of tables ss state) (id + 1) (c.loop-reached.found.items ++ id ∷ [])) (sym kept) stays)
