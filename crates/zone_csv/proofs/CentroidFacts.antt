@@ -32,11 +32,9 @@ module _ (axis : Axis) (some : 0 < axis.size) where
 
   -- a coordinate that is whole sizes above the origin is on the step, and the centroid of as many blocks as there are sizes
   pub whole_sizes : (coordinate : ℤ) (above : ℕ) → IsInGrid axis coordinate → above ≡ unsigned_abs (coordinate -ℤ least axis)
-      → above / size * size ≡ above
+      → above % size ≡ 0
       → (is_on_step axis coordinate ≡ true) × (coordinate ≡ centroid axis (above / size))
-  whole_sizes coordinate above within is whole =
-      let sum : above / size * size + above % size ≡ above = div-add-mod' above size in
-      let none : above % size ≡ 0 = omega (arith, sum, whole) in
+  whole_sizes coordinate above within is none =
       let step : is_on_step axis coordinate ≡ true =
       eq-eqb (unsigned_abs (coordinate -ℤ least axis) % size) 0 (ap (λ n. n % size) (sym is) ∙ none) in
       (step, (index_is_centroid coordinate (above / size) within step (ap (λ n. n / size) (sym is))).0)

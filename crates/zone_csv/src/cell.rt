@@ -86,12 +86,11 @@ pub(crate) fn index_of(column: Column, axis: Axis, cell: &[u8]) -> Result<u16, C
     let coordinate = number_of(column, 3, least(axis), greatest(axis), cell)?;
     let above = above_origin(axis, coordinate);
     let size = size(axis);
-    let index = above / size;
-    if index * size != above {
+    if above % size != 0 {
         let kind = RowFaultKind::OffGrid;
         return Err(ColumnFault { column, kind });
     }
-    Ok(index as u16)
+    Ok((above / size) as u16)
 }
 
 // How far a coordinate stands above the origin, in millionths of a metre.
