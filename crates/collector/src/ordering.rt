@@ -1,10 +1,10 @@
 //! The order of rows that stay where the valuers put them.
 
-ghost use Rattle.std.specs.Prelude.{◌≡◌, ℕ, ◌<◌, ◌≤◌, [], All, IfOk, OnOk, length, replicate, slice_index_or};
+ghost use Rattle.std.specs.Prelude.{◌≡◌, ℕ, ◌<◌, ◌≤◌, [], All, IfOk, OnOk, length, replicate};
 ghost use Rattle.std.specs.List.{flat_map};
 ghost use Rattle.collector.specs.Complete.{Fits, IsComplete};
 ghost use Rattle.collector.specs.Lists.{AreRows};
-ghost use Rattle.collector.specs.inner.Places.{AreFew, IsOfFile, IsPlaced, IsPut, IsPutAs};
+ghost use Rattle.collector.specs.inner.Places.{AreFew, IsOfFile, IsPlaced, IsPut, IsPutAs, items_on};
 ghost use Rattle.rows.specs.ItemsView.{items_in};
 ghost use Rattle.rows.specs.Packed.{mark_of};
 ghost use Rattle.plan_parts.specs.declared.ranges.TheConstants.{MAX_VALUERS, MAX_ZONES};
@@ -62,15 +62,13 @@ fn put_lists(places: &mut [Places<Spot>], lists: &[PackedItems]) -> Result<(), A
 fn put_list(places: &mut [Places<Spot>], lists: &[PackedItems], list: u8) -> Result<(), AllocError>
     requires there { list < length lists.now }
     requires told { list < LISTS }
-    requires short { length (slice_index_or (items_in lists.now) list []) ≤ POSITIONS }
-    requires files { All (λ item. IsOfFile (length places.old) (mark_of item)) (slice_index_or (items_in lists.now) list []) }
-    ensures placed { OnOk result
-        (All (IsPlaced (items_in lists.now) places.new) (slice_index_or (items_in lists.now) list [])) }
+    requires short { length (items_on (items_in lists.now) list) ≤ POSITIONS }
+    requires files { All (λ item. IsOfFile (length places.old) (mark_of item)) (items_on (items_in lists.now) list) }
+    ensures placed { OnOk result (All (IsPlaced (items_in lists.now) places.new) (items_on (items_in lists.now) list)) }
     ensures kept { (item : AnItem) → IsPlaced (items_in lists.now) places.old item
         → OnOk result (IsPlaced (items_in lists.now) places.new item) }
-    ensures few { (files : ℕ) (counts : ℕ → ℕ)
-        → All (Fits files counts) (slice_index_or (items_in lists.now) list []) → AreFew counts places.old
-        → OnOk result (AreFew counts places.new) }
+    ensures few { (files : ℕ) (counts : ℕ → ℕ) → All (Fits files counts) (items_on (items_in lists.now) list)
+        → AreFew counts places.old → OnOk result (AreFew counts places.new) }
     ensures count { length places.new ≡ length places.old }
 {
     let items = &lists[list as usize];

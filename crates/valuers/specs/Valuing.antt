@@ -1,5 +1,5 @@
 -- What the destinations of a plan answer for a block, and what a valuer makes of the messages that it takes.
-use Rattle.std.specs.Prelude.{ℕ, List, [], ◌∷◌, ℤ}
+use Rattle.std.specs.Prelude.{◌≡◌, ◌≤◌, ℕ, List, [], ◌∷◌, ◌++◌, drop, length, take, ℤ}
 use Rattle.std.specs.List.{All, AllZip}
 use Rattle.std.specs.declared.alloc.Global.{Global}
 use Rattle.std.specs.declared.dyn_box.DynBox.{DynBox}
@@ -7,6 +7,8 @@ use Rattle.plan_parts.specs.OfPlan.{valuer_of}
 use Rattle.plan_parts.specs.declared.block.Block.{Block}
 use Rattle.plan_parts.specs.declared.formulas.destination.Destination.{Destination}
 use Rattle.plan_parts.specs.declared.formulas.formula.Formula.{Formula}
+use Rattle.plan_parts.specs.declared.ranges.TheConstants.{MAX_DESTINATIONS}
+use Rattle.lane.specs.Ends.{TakeEndView}
 use Rattle.lane.specs.declared.message.Taken.{Taken}
 use Rattle.lane.specs.declared.message.Taken.TheVariants.{Row, End, Stop, Quit}
 use Rattle.rows.specs.Valued.{row_by}
@@ -40,6 +42,22 @@ items_by formulas (Row file place block ∷ ms) = item.Row (row_by formulas file
 items_by formulas (End file rows ∷ ms) = item.End file rows ∷ items_by formulas ms
 items_by formulas (Stop ∷ ms) = items_by formulas ms
 items_by formulas (Quit ∷ ms) = items_by formulas ms
+
+-- a front of a list
+abbrev pub IsFrontOf : {A : Type 0} → List A → List A → Type 0
+IsFrontOf all items = items ≡ take (length items) all
+
+-- a take end took more messages, and else is as it was
+abbrev pub TookMore : TakeEndView → TakeEndView → Type 0
+TookMore before after = after ≡ record before { took = before.took ++ drop (length before.took) after.took }
+
+-- the rows and end marks of the messages that it took since
+abbrev pub items_since : List Formula → TakeEndView → TakeEndView → List Item
+items_since formulas before after = items_by formulas (drop (length before.took) after.took)
+
+-- as many as the destinations of a plan, 1 to 8
+abbrev pub AreOneToEight : {A : Type 0} → List A → Type 0
+AreOneToEight destinations = (1 ≤ length destinations) × (length destinations ≤ MAX_DESTINATIONS)
 
 -- the rows of these messages, in order, with their worths
 abbrev pub rows_by : List Formula → List Taken → List Valued

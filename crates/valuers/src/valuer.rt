@@ -1,10 +1,10 @@
 //! A valuer, which takes from the lane until it is done and hands on what it took.
 
-ghost use Rattle.std.specs.Prelude.{◌≡◌, ◌≤◌, ◌++◌, true, [], ◌∷◌, length, take, drop, OnOk, OnErr, IsFalse, IsTrue};
+ghost use Rattle.std.specs.Prelude.{◌≡◌, ◌≤◌, ◌++◌, true, [], ◌∷◌, length, OnOk, OnErr, IsFalse, IsTrue};
 ghost use Rattle.lane.specs.MessageKinds.{is_done};
 ghost use Rattle.plan_parts.specs.Destinations.{formulas_of};
 ghost use Rattle.rows.specs.ItemsView.{IsFull, IsFullFor};
-ghost use Rattle.valuers.specs.Valuing.{items_by, WereAsked, WerePassed};
+ghost use Rattle.valuers.specs.Valuing.{AreOneToEight, IsFrontOf, TookMore, WereAsked, WerePassed, items_by, items_since};
 ghost use Rattle.plan_parts.specs.declared.ranges.TheConstants.{MAX_DESTINATIONS};
 
 use crate::gate::Gate;
@@ -27,8 +27,8 @@ pub struct ValuerResult<K = Items> {
     pub memory: bool,
 }
 
-/// Takes messages until the take end is done, and values each row at each of the 1 to 8 destinations. It tells `gate`
-/// of each row before it values it.
+/// Takes messages until the take end is done, and values each row at each of the 1 to 8 destinations, by the destinations' stored
+/// closures. It tells `gate` of each row before it values it.
 ///
 /// Where memory for an item is refused, it drops this item and all behind it, and goes on taking messages: so no reader
 /// waits for ever. Memory is refused only where the list has no room left for an item.
@@ -40,28 +40,13 @@ pub fn value_all<R: Wait, G: Gate>(
     destinations: &[Destination],
     gate: &G,
 ) -> ValuerResult
-    // Of 1 to 8 destinations.
     requires some { 1 ≤ length destinations.now }
     requires few { length destinations.now ≤ MAX_DESTINATIONS }
-
-    // What was taken.
-    ensures taker { result.taker
-        ≡ record take_end {
-          took = take_end.took
-              ++ drop (length take_end.took) result.taker.took;
-        } }
+    ensures taker { TookMore take_end result.taker }
     ensures done { is_done result.taker.took ≡ true }
-
-    // What is kept of it, and that memory is refused only where the list is full.
-    ensures items { IsFalse result.memory
-        → result.items.items ≡ items_by (formulas_of destinations.now)
-        (drop (length take_end.took) result.taker.took) }
-    ensures front { result.items.items
-        ≡ take (length result.items.items)
-        (items_by (formulas_of destinations.now) (drop (length take_end.took) result.taker.took)) }
+    ensures items { IsFalse result.memory → result.items.items ≡ items_since (formulas_of destinations.now) take_end result.taker }
+    ensures front { IsFrontOf (items_since (formulas_of destinations.now) take_end result.taker) result.items.items }
     ensures full { IsTrue result.memory → IsFull result.items }
-
-    // For each row the gate was called, and the closures were asked.
     ensures passed { WerePassed (G.passed_row gate.now valuer) result.items.items }
     ensures asked { WereAsked ⟦<Valuer as Fn(Block) -> i128>⟧.post destinations.now
         result.items.items }
@@ -85,28 +70,13 @@ pub fn value_packed<R: Wait, G: Gate>(
     destinations: &[Destination],
     gate: &G,
 ) -> ValuerResult<PackedItems>
-    // Of 1 to 8 destinations.
     requires some { 1 ≤ length destinations.now }
     requires few { length destinations.now ≤ MAX_DESTINATIONS }
-
-    // What was taken.
-    ensures taker { result.taker
-        ≡ record take_end {
-          took = take_end.took
-              ++ drop (length take_end.took) result.taker.took;
-        } }
+    ensures taker { TookMore take_end result.taker }
     ensures done { is_done result.taker.took ≡ true }
-
-    // What is kept of it, and that memory is refused only where the list is full.
-    ensures items { IsFalse result.memory
-        → result.items.items ≡ items_by (formulas_of destinations.now)
-        (drop (length take_end.took) result.taker.took) }
-    ensures front { result.items.items
-        ≡ take (length result.items.items)
-        (items_by (formulas_of destinations.now) (drop (length take_end.took) result.taker.took)) }
+    ensures items { IsFalse result.memory → result.items.items ≡ items_since (formulas_of destinations.now) take_end result.taker }
+    ensures front { IsFrontOf (items_since (formulas_of destinations.now) take_end result.taker) result.items.items }
     ensures full { IsTrue result.memory → IsFullFor (length destinations.now) result.items }
-
-    // For each row the gate was called, and the closures were asked.
     ensures passed { WerePassed (G.passed_row gate.now valuer) result.items.items }
     ensures asked { WereAsked ⟦<Valuer as Fn(Block) -> i128>⟧.post destinations.now
         result.items.items }
@@ -120,7 +90,8 @@ pub fn value_packed<R: Wait, G: Gate>(
     }
 }
 
-// The same, into a list of no items. Memory is refused only where the list has no room left for a row.
+// The same, into a list of no items, for rows of as many worths as there are destinations. Memory is refused only where the list has no
+// room left for a row.
 fn take_all<R: Wait, G: Gate, K: Keeps>(
     rt: &R,
     mut take_end: TakeEnd,
@@ -129,31 +100,16 @@ fn take_all<R: Wait, G: Gate, K: Keeps>(
     gate: &G,
     mut items: K,
 ) -> (TakeEnd, K, bool)
-    // Of a list of no items, for rows of as many worths as there are destinations.
-    requires some { 1 ≤ length destinations.now }
-    requires few { length destinations.now ≤ MAX_DESTINATIONS }
-    requires empty { K.held items ≡ [] }
-    requires width { K.is_for items (length destinations.now) }
-
-    // What was taken.
-    ensures taker { result.0 ≡ record take_end
-        { took = take_end.took ++ drop (length take_end.took) result.0.took } }
+    requires few { AreOneToEight destinations.now }
+    requires list { (K.held items ≡ []) × K.is_for items (length destinations.now) }
+    ensures taker { TookMore take_end result.0 }
     ensures done { is_done result.0.took ≡ true }
-
-    // What is kept of it, and that memory is refused only where the list is full.
-    ensures items { IsFalse result.2
-        → K.held result.1 ≡ items_by (formulas_of destinations.now)
-        (drop (length take_end.took) result.0.took) }
-    ensures front { K.held result.1
-        ≡ take (length (K.held result.1))
-        (items_by (formulas_of destinations.now) (drop (length take_end.took) result.0.took)) }
+    ensures items { IsFalse result.2 → K.held result.1 ≡ items_since (formulas_of destinations.now) take_end result.0 }
+    ensures front { IsFrontOf (items_since (formulas_of destinations.now) take_end result.0) (K.held result.1) }
     ensures width { K.is_for result.1 (length destinations.now) }
     ensures full { IsTrue result.2 → K.is_full result.1 (length destinations.now) }
-
-    // For each row the gate was called, and the closures were asked.
     ensures passed { WerePassed (G.passed_row gate.now valuer) (K.held result.1) }
-    ensures asked { WereAsked ⟦<Valuer as Fn(Block) -> i128>⟧.post destinations.now
-        (K.held result.1) }
+    ensures asked { WereAsked ⟦<Valuer as Fn(Block) -> i128>⟧.post destinations.now (K.held result.1) }
 {
     let mut memory = false;
     for _ in rt.forever() {
@@ -168,7 +124,7 @@ fn take_all<R: Wait, G: Gate, K: Keeps>(
     (take_end, items, memory)
 }
 
-// Appends what a message is handed on as: a Stop or Quit as nothing.
+// Appends what a message is handed on as: a Stop or Quit as nothing. For a row the gate is called, and the closures are asked.
 fn push_item<R: Wait, G: Gate, K: Keeps>(
     rt: &R,
     message: Taken,
@@ -177,19 +133,14 @@ fn push_item<R: Wait, G: Gate, K: Keeps>(
     gate: &G,
     items: &mut K,
 ) -> Result<(), AllocError>
-    requires some { 1 ≤ length destinations.now }
-    requires few { length destinations.now ≤ MAX_DESTINATIONS }
+    requires few { AreOneToEight destinations.now }
     requires width { K.is_for items.old (length destinations.now) }
     ensures pushed { OnOk result
-        (K.held items.new ≡ K.held items.old
-        ++ items_by (formulas_of destinations.now) (message ∷ [])) }
+        (K.held items.new ≡ K.held items.old ++ items_by (formulas_of destinations.now) (message ∷ [])) }
     ensures kept { OnErr result (K.held items.new ≡ K.held items.old) }
     ensures width { K.is_for items.new (length destinations.now) }
     ensures full { OnErr result (K.is_full items.new (length destinations.now)) }
-
-    // For a row the gate was called, and the closures were asked.
-    ensures passed { OnOk result (WerePassed (G.passed_row gate.now valuer)
-        (items_by (formulas_of destinations.now) (message ∷ []))) }
+    ensures passed { OnOk result (WerePassed (G.passed_row gate.now valuer) (items_by (formulas_of destinations.now) (message ∷ []))) }
     ensures asked { OnOk result (WereAsked ⟦<Valuer as Fn(Block) -> i128>⟧.post destinations.now
         (items_by (formulas_of destinations.now) (message ∷ []))) }
 {

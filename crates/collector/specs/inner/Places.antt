@@ -1,5 +1,5 @@
 -- Where the rows of each file stand, place by place, while lists of items are gone through.
-use Rattle.std.specs.Prelude.{◌≡◌, ℕ, ◌<◌, ◌≤◌, ◌==◌, if◌then◌else◌, List, [], length, slice_get, Some}
+use Rattle.std.specs.Prelude.{◌≡◌, ℕ, ◌<◌, ◌≤◌, ◌==◌, if◌then◌else◌, List, [], length, slice_get, slice_index_or, Some}
 use Rattle.std.specs.Option.{option_and_then, unwrap_or}
 use Rattle.rows.specs.Packed.{row_on}
 use Rattle.collector.specs.inner.WithAt.{with_at}
@@ -9,6 +9,10 @@ use Rattle.rows.specs.declared.item.Valued.{Valued}
 use Rattle.rows.specs.declared.mark.Mark.{Mark}
 use Rattle.rows.specs.declared.mark.Mark.TheVariants as mark
 use Rattle.rows.specs.SpotView.{SpotView}
+
+-- the items of one of several lists
+abbrev pub items_on : List (List Item) → ℕ → List Item
+items_on lists list = slice_index_or lists list []
 
 -- the spots of a file
 abbrev pub spots_in : List (List SpotView) → ℕ → List SpotView
