@@ -1,14 +1,15 @@
 -- A header's columns are those that it names.
 use Rattle.std.proofs.Common.{◌≡◌, ℕ, zero, suc, ◌+◌, ◌<◌, Bool, true, false, List, [], ◌∷◌, length, arith, refl, sym, ap, subst, Ok, Err}
 use Rattle.std.specs.List.{AllZip}
-use Rattle.std.specs.Prelude.{if◌then◌else◌}
+use Rattle.std.specs.Prelude.{Result, if◌then◌else◌}
 use Rattle.records.specs.Cells.{trimmed, is_word}
+use Rattle.pit_units.specs.Steps.{◌>>=◌}
 use Rattle.pit_units.proofs.Exactly.{Exactly, as_, done, made, same, then_}
-use Rattle.zone_csv.proofs.RowFacts.{IsOfRow, step_of_row}
+use Rattle.zone_csv.proofs.RowFacts.{IsOfCell, IsOfRow, here_or_behind, row_of_cell, step_of_row}
 use Rattle.zone_csv.specs.Cell.{trimmed_at}
 use Rattle.zone_csv.specs.Columns.{all_columns, column_name}
 use Rattle.zone_csv.specs.Header.{columns_of, each_place, one_place, places_in, places_of}
-use Rattle.zone_csv.specs.NamedColumns.{NamesColumn, NamesColumns}
+use Rattle.zone_csv.specs.NamedColumns.{IsFirstUnnamed, NamesColumn, NamesColumns}
 use Rattle.zone_csv.specs.declared.row_fault.Column.{Column}
 use Rattle.zone_csv.specs.declared.row_fault.Column.TheVariants.{X}
 use Rattle.zone_csv.specs.declared.row_fault.RowFault.{RowFault}
@@ -121,16 +122,35 @@ module _ (header : List (List ℕ)) where
       (λ places named. record { width = refl; places = named })
       (λ columns named. (columns.places, named.places, λ i. record { width = sym named.width i; places = columns.places }))
 
--- the fault of a header is of its row
-place_of_row : (column : Column) (places : List ℕ) → IsOfRow 1 (one_place column places)
-place_of_row column [] = refl
-place_of_row column (place ∷ []) = tt
-place_of_row column (place ∷ second ∷ more) = refl
+-- the fault of a header is of its row, and of the first column that it does not name
+place_of_cell : (column : Column) (places : List ℕ) → IsOfCell 1 column (one_place column places)
+place_of_cell column [] = (refl, refl)
+place_of_cell column (place ∷ []) = tt
+place_of_cell column (place ∷ second ∷ more) = (refl, refl)
+
+made_fails : {A B : Type 0} (r : Result A RowFault) (f : A → B) (fault : RowFault) → (r >>= λ x. Ok (f x)) ≡ Err fault → r ≡ Err fault
+made_fails (Ok x) f fault e = absurd cc
+made_fails (Err other) f fault e = let same : other ≡ fault = cc in ap Err same
+
+each_refused : (header : List (List ℕ)) (columns : List Column) (fault : RowFault) → each_place header columns ≡ Err fault
+    → IsFirstUnnamed header columns fault.column
+each_refused header [] fault e = absurd cc
+each_refused header (column ∷ columns) fault e =
+    here_or_behind 1 column (one_place column (places_in header column)) _ fault (one_named header column)
+    (place_of_cell column (places_in header column))
+    (λ place e. each_refused header columns fault (made_fails (each_place header columns) (λ places. place ∷ places) fault e)) e
+
+pub header_refused : (header : List (List ℕ)) (fault : RowFault) → columns_of header ≡ Err fault
+    → IsFirstUnnamed header all_columns fault.column
+unfolding columns_of
+header_refused header fault e =
+    each_refused header all_columns fault (made_fails (each_place header all_columns) (λ places. record { width = length header; places = places }) fault e)
 
 places_of_row : (header : List (List ℕ)) (columns : List Column) → IsOfRow 1 (each_place header columns)
 places_of_row header [] = tt
 places_of_row header (column ∷ columns) =
-    step_of_row 1 (one_place column (places_in header column)) _ (place_of_row column (places_in header column)) (λ place.
+    step_of_row 1 (one_place column (places_in header column)) _
+    (row_of_cell 1 column (one_place column (places_in header column)) (place_of_cell column (places_in header column))) (λ place.
     step_of_row 1 (each_place header columns) _ (places_of_row header columns) (λ places. tt))
 
 pub fault_of_header : (header : List (List ℕ)) (fault : RowFault) → columns_of header ≡ Err fault → fault.row ≡ 1

@@ -1,6 +1,6 @@
 -- What a row's answer tells: that its fault is of its number, and that it states a block exactly where its cells spell the block.
-use Rattle.std.proofs.Common.{◌≡◌, ℕ, ◌*◌, ◌/◌, ◌%◌, ◌^◌, ◌<◌, ◌≤◌, Bool, true, false, List, arith, refl, sym, ◌∙◌, ap, subst, leb-true, ℤ, pos, Ok, Err, min, length}
-use Rattle.std.specs.Prelude.{Result, ◌==◌, nat_le, not, if◌then◌else◌}
+use Rattle.std.proofs.Common.{◌≡◌, ℕ, ◌*◌, ◌/◌, ◌%◌, ◌^◌, ◌<◌, ◌≤◌, Bool, true, false, List, arith, refl, sym, ◌∙◌, ap, subst, leb-true, ℤ, pos, Ok, Err, inl, inr, min, length}
+use Rattle.std.specs.Prelude.{Result, ◌⊎◌, ◌==◌, nat_le, not, if◌then◌else◌}
 use Rattle.std.proofs.Math.Nat.{min-eq_left, mul-div_left}
 use Rattle.std.proofs.lemmas.Bool.{eq-eqb, le-leb, not-false}
 use Rattle.pit_units.proofs.Exactly.{Exactly, as_, counted, done, holds, same, tested, then_}
@@ -27,33 +27,73 @@ use Rattle.zone_csv.specs.declared.row_fault.Column.TheVariants.{X, Y, Z, Tonnes
 use Rattle.zone_csv.specs.declared.row_fault.RowFault.{RowFault}
 use Rattle.zone_csv.specs.declared.row_fault.RowFaultKind.TheVariants.{OffGrid, TooManyRows, Width}
 
--- the fault of steps is of the row that each one's is of
+-- the fault, where there is one, is such a one
+abbrev pub Faults : {A : Type 0} → (RowFault → Type 0) → Result A RowFault → Type 0
+Faults P (Ok x) = Unit {0}
+Faults P (Err fault) = P fault
+
+-- it is of this row
 abbrev pub IsOfRow : {A : Type 0} → ℕ → Result A RowFault → Type 0
-IsOfRow row (Ok x) = Unit {0}
-IsOfRow row (Err fault) = fault.row ≡ row
+IsOfRow row r = Faults (λ fault. fault.row ≡ row) r
+
+-- and of this column
+abbrev pub IsOfCell : {A : Type 0} → ℕ → Column → Result A RowFault → Type 0
+IsOfCell row column r = Faults (λ fault. (fault.row ≡ row) × (fault.column ≡ column)) r
+
+-- steps have the faults that each one has
+step_faults : {A B : Type 0} (P : RowFault → Type 0) (r : Result A RowFault) (next : A → Result B RowFault) → Faults P r
+    → ((x : A) → Faults P (next x)) → Faults P (r >>= next)
+step_faults P (Ok x) next here behind = behind x
+step_faults P (Err fault) next here behind = here
 
 pub step_of_row : {A B : Type 0} (row : ℕ) (r : Result A RowFault) (next : A → Result B RowFault) → IsOfRow row r
     → ((x : A) → IsOfRow row (next x)) → IsOfRow row (r >>= next)
-step_of_row row (Ok x) next here behind = behind x
-step_of_row row (Err fault) next here behind = here
+step_of_row row r next here behind = step_faults (λ fault. fault.row ≡ row) r next here behind
 
-number_of_row : (row : ℕ) (column : Column) (d : Result ℤ DecFault) → IsOfRow row (number_said row column d)
-number_of_row row column (Ok m) = tt
-number_of_row row column (Err dec.Number) = refl
-number_of_row row column (Err dec.TooFine) = refl
-number_of_row row column (Err dec.Range) = refl
+pub row_of_cell : {A : Type 0} (row : ℕ) (column : Column) (r : Result A RowFault) → IsOfCell row column r → IsOfRow row r
+row_of_cell row column (Ok x) here = tt
+row_of_cell row column (Err fault) here = here.0
+
+number_of_cell : (row : ℕ) (column : Column) (d : Result ℤ DecFault) → IsOfCell row column (number_said row column d)
+number_of_cell row column (Ok m) = tt
+number_of_cell row column (Err dec.Number) = (refl, refl)
+number_of_cell row column (Err dec.TooFine) = (refl, refl)
+number_of_cell row column (Err dec.Range) = (refl, refl)
+
+pub index_of_cell : (row : ℕ) (column : Column) (axis : Axis) (cell : List ℕ) → IsOfCell row column (index_said row column axis cell)
+index_of_cell row column axis cell =
+    step_faults (λ fault. (fault.row ≡ row) × (fault.column ≡ column)) (number_said row column (decimal_within 3 (least axis) (greatest axis) cell)) _
+    (number_of_cell row column _) (λ m. by m (is_on_step axis m))
+  where
+    by : (m : ℤ) (t : Bool) → IsOfCell row column (if t then Ok (index_at axis m) else Err (a_fault row column OffGrid))
+    by m true = tt
+    by m false = (refl, refl)
+
+pub size_of_cell : (row : ℕ) (column : Column) (decimals most : ℕ) (cell : List ℕ)
+    → IsOfCell row column (size_said row column decimals most cell)
+size_of_cell row column decimals most cell =
+    step_faults (λ fault. (fault.row ≡ row) × (fault.column ≡ column)) (number_said row column (decimal_within decimals (pos 0) (pos most) cell)) _
+    (number_of_cell row column _) (λ m. tt)
+
+-- a fault of a column and of those behind it: the column has nothing; or it does, and the fault is of those behind
+pub here_or_behind : {A B : Type 0} {P : A → Type 0} {Q : Type 0} (row : ℕ) (column : Column) (r : Result A RowFault)
+    (next : A → Result B RowFault) (fault : RowFault) → Exactly r P → IsOfCell row column r → ((x : A) → next x ≡ Err fault → Q)
+    → (r >>= next) ≡ Err fault → ((¬ ((x : A) × P x)) × (fault.column ≡ column)) ⊎ (((x : A) × P x) × Q)
+here_or_behind {A} {B} {P} {Q} row column r next fault all here behind e = by r refl here e
+  where
+    by : (s : Result A RowFault) → r ≡ s → IsOfCell row column s → (s >>= next) ≡ Err fault
+        → ((¬ ((x : A) × P x)) × (fault.column ≡ column)) ⊎ (((x : A) × P x) × Q)
+    by (Ok x) is here e = inr ((x, all.told x is), behind x e)
+    by (Err found) is here e =
+        let same : found ≡ fault = cc in
+        inl (λ spells. absurd (cc (is, all.back spells.0 spells.1)), ap (λ (f : RowFault). f.column) (sym same) ∙ here.1)
 
 index_of_row : (row : ℕ) (column : Column) (axis : Axis) (cell : List ℕ) → IsOfRow row (index_said row column axis cell)
-index_of_row row column axis cell =
-    step_of_row row (number_said row column (decimal_within 3 (least axis) (greatest axis) cell)) _ (number_of_row row column _) (λ m. by m (is_on_step axis m))
-  where
-    by : (m : ℤ) (t : Bool) → IsOfRow row (if t then Ok (index_at axis m) else Err (a_fault row column OffGrid))
-    by m true = tt
-    by m false = refl
+index_of_row row column axis cell = row_of_cell row column (index_said row column axis cell) (index_of_cell row column axis cell)
 
 size_of_row : (row : ℕ) (column : Column) (decimals most : ℕ) (cell : List ℕ) → IsOfRow row (size_said row column decimals most cell)
 size_of_row row column decimals most cell =
-    step_of_row row (number_said row column (decimal_within decimals (pos 0) (pos most) cell)) _ (number_of_row row column _) (λ m. tt)
+    row_of_cell row column (size_said row column decimals most cell) (size_of_cell row column decimals most cell)
 
 -- cells, each read exactly as what it spells: a number in a range, the index whose centroid it spells, and a size
 module _ (row : ℕ) (column : Column) where
@@ -70,7 +110,7 @@ module _ (row : ℕ) (column : Column) where
     back = λ m h. ap (number_said row column) (stands_within decimals low high cell m few h);
   }
 
-  index_spelled : (axis : Axis) (cell : List ℕ) → 0 < axis.size
+  pub index_spelled : (axis : Axis) (cell : List ℕ) → 0 < axis.size
       → Exactly (index_said row column axis cell) (λ index. StandsFor 3 cell (centroid axis index) × (index < 10000))
   index_spelled axis cell some = as_ steps to from
     where
@@ -92,7 +132,7 @@ module _ (row : ℕ) (column : Column) where
           let within = centroid_in_grid axis some index h.1 in
           (centroid axis index, (h.0, within.0, within.1), (centroid_on_step axis some index, sym (centroid_index axis some index)))
 
-  size_spelled : (decimals most : ℕ) (cell : List ℕ) → decimals ≤ 6
+  pub size_spelled : (decimals most : ℕ) (cell : List ℕ) → decimals ≤ 6
       → Exactly (size_said row column decimals most cell) (SpellsSize decimals most cell)
   size_spelled decimals most cell few = size_of_number cell decimals most (number_spelled decimals (pos 0) (pos most) cell few)
 
@@ -104,7 +144,7 @@ module _ (grid : Grid) (zone : ℕ) (columns : Columns) (number : ℕ) (cells : 
   cell k = cell_in columns cells k
 
   -- what the cells say
-  abbrev said : Result Block RowFault
+  abbrev pub said : Result Block RowFault
   said =
       index_said number X grid.x (cell 0) >>= λ x. index_said number Y grid.y (cell 1) >>= λ y. index_said number Z grid.z (cell 2) >>= λ z.
       size_said number Tonnes 3 (10 ^ 9 * 1000) (cell 3) >>= λ tonnes. size_said number Grade 6 (10 ^ 12) (cell 4) >>= λ grade.

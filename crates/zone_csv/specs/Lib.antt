@@ -3,6 +3,7 @@ pub mod Columns
 pub mod FaultText
 pub mod Header
 pub mod NamedColumns
+pub mod RefusedRow
 pub mod Row
 pub mod SpelledRow
 pub mod Zone

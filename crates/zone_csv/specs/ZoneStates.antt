@@ -1,5 +1,5 @@
 -- What the records of a zone file state, as relations.
-use Rattle.std.specs.Prelude.{◌≡◌, ℕ, ◌+◌, List, [], ◌∷◌, drop, slice_index_or, Option, Some, None, Ok, Err}
+use Rattle.std.specs.Prelude.{◌≡◌, ℕ, ◌+◌, ◌⊎◌, List, [], ◌∷◌, drop, slice_index_or, Option, Some, None, Ok, Err}
 use Rattle.plan_parts.specs.declared.block.Block.{Block}
 use Rattle.plan_parts.specs.declared.grid.Grid.{Grid}
 use Rattle.zone_csv.specs.Header.{columns_of}
@@ -30,3 +30,8 @@ ZoneStates grid zone records blocks fault =
 -- the header has this fault, and then there are no blocks
 abbrev pub HeaderFails : List (List (List ℕ)) → List Block → RowFault → Type 0
 HeaderFails records blocks fault = (blocks ≡ []) × (columns_of (header_record records) ≡ Err fault)
+
+-- a zone file has these blocks and then this fault: of its header, or of the record behind those that state the blocks
+abbrev pub ZoneFails : Grid → ℕ → List (List (List ℕ)) → List Block → RowFault → Type 0
+ZoneFails grid zone records blocks fault =
+    HeaderFails records blocks fault ⊎ ZoneStates grid zone records blocks (Some fault)

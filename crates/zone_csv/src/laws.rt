@@ -1,20 +1,22 @@
 //! What holds of every zone file and of every coordinate, for whoever speaks of them in a contract. The calls do nothing.
 
-ghost use Rattle.std.specs.Prelude.{◌≡◌, ◌<◌, ◌⊎◌, ◌↔◌, ℕ, ℤ, true, List, Option, Result, Ok, Err, None, Some};
+ghost use Rattle.std.specs.Prelude.{◌≡◌, ◌<◌, ◌↔◌, ℕ, ℤ, true, List, Option, Result, Ok, Err, None, Some};
 ghost use Rattle.pit_units.specs.declared.or_memory.OrMemory.{OrMemory};
 ghost use Rattle.plan_parts.specs.declared.grid.Axis.{Axis as AnAxis};
 ghost use Rattle.plan_parts.specs.declared.grid.Grid.{Grid as AGrid};
 ghost use Rattle.records.specs.Records.{records_of};
 ghost use Rattle.plan_parts.specs.declared.block.Block.{Block};
 ghost use Rattle.zone_csv.specs.Cell.{index_at, is_on_step};
+ghost use Rattle.zone_csv.specs.Columns.{all_columns};
 ghost use Rattle.zone_csv.specs.Header.{columns_of};
-ghost use Rattle.zone_csv.specs.NamedColumns.{NamesColumns};
+ghost use Rattle.zone_csv.specs.NamedColumns.{IsFirstUnnamed, NamesColumns};
+ghost use Rattle.zone_csv.specs.RefusedRow.{HasSizes, IsRefusedAt};
 ghost use Rattle.zone_csv.specs.Row.{row_of};
 ghost use Rattle.zone_csv.specs.SpelledRow.{IsInGrid, SpellsBlock, centroid};
 ghost use Rattle.zone_csv.specs.Zone.{blocks_of, fault_of};
 ghost use Rattle.zone_csv.specs.ZoneKept.{HasFewBlocks, HasOwnBlocks, AccountsForRecords};
 ghost use Rattle.zone_csv.specs.ZoneReaderView.{Answers, ZoneReaderView};
-ghost use Rattle.zone_csv.specs.ZoneStates.{HeaderFails, ZoneStates};
+ghost use Rattle.zone_csv.specs.ZoneStates.{ZoneFails, ZoneStates};
 ghost use Rattle.zone_csv.specs.declared.columns.Columns.{Columns as FiveColumns};
 ghost use Rattle.zone_csv.specs.declared.row_fault.RowFault.{RowFault};
 ghost use Rattle.plan_parts.specs.declared.ranges.TheConstants.{GRID_CELLS, MAX_ZONES};
@@ -69,23 +71,23 @@ pub fn zone_files_are_spelled()
 pub fn zone_faults_are_first()
     ensures { (grid : AGrid) (zone : ℕ) (text : List ℕ) (blocks : List Block) (fault : RowFault)
         → ((fault_of grid zone text ≡ Some fault) × (blocks_of grid zone text ≡ blocks))
-        ↔ (HeaderFails (records_of text) blocks fault
-        ⊎ ZoneStates grid zone (records_of text) blocks (Some fault)) }
+        ↔ ZoneFails grid zone (records_of text) blocks fault }
 {}
 
-/// A record with a fault states no block, and its cells spell none; a header with a fault names no columns.
+/// A record with a fault spells no block. The fault names the record, and the first column, in their order, whose cell spells
+/// nothing that it may, where the cells of the columns before it spell theirs; or the row as a whole. A header with a fault
+/// names no columns, and the fault names the first of them that it lacks or has twice.
 pub fn faulty_rows_spell_no_block()
-    ensures rows { (grid : AGrid) (zone : ℕ) (columns : FiveColumns) (number : ℕ)
-        (row : List (List ℕ)) (block : Block) (fault : RowFault)
-        → row_of grid zone columns number row ≡ Err fault
-        → ¬ (row_of grid zone columns number row ≡ Ok block) }
-    ensures cells { (grid : AGrid) (zone : ℕ) (columns : FiveColumns) (number : ℕ)
-        (row : List (List ℕ)) (block : Block) (fault : RowFault)
-        → 0 < grid.x.size → 0 < grid.y.size → 0 < grid.z.size
+    ensures rows { (grid : AGrid) (zone number : ℕ) (columns : FiveColumns) (row : List (List ℕ))
+        (fault : RowFault) → HasSizes grid → row_of grid zone columns number row ≡ Err fault
+        → (fault.row ≡ number) × IsRefusedAt grid columns number row fault }
+    ensures cells { (grid : AGrid) (zone number : ℕ) (columns : FiveColumns) (row : List (List ℕ))
+        (block : Block) (fault : RowFault) → HasSizes grid
         → row_of grid zone columns number row ≡ Err fault
         → ¬ (SpellsBlock grid zone columns number row block) }
     ensures headers { (header : List (List ℕ)) (columns : FiveColumns) (fault : RowFault)
-        → columns_of header ≡ Err fault → ¬ (NamesColumns header columns) }
+        → columns_of header ≡ Err fault → (fault.row ≡ 1)
+        × IsFirstUnnamed header all_columns fault.column × (¬ (NamesColumns header columns)) }
 {}
 
 /// A reader that answered the end of its file, its fault or want of memory answers the same when it is asked again.
