@@ -1,6 +1,8 @@
 -- What a reader of a zone file has still to say, and how it says it.
 use Rattle.std.specs.Prelude.{◌≡◌, ℕ, List, [], ◌∷◌, length, Option, Some, None, Result, Ok, Err}
 use Rattle.plan_parts.specs.declared.block.Block.{Block}
+use Rattle.plan_parts.specs.declared.grid.Grid.{Grid}
+use Rattle.zone_csv.specs.Zone.{blocks_of, fault_of}
 use Rattle.zone_csv.specs.declared.row_fault.RowFault.{RowFault}
 use Rattle.pit_units.specs.declared.or_memory.OrMemory.{OrMemory}
 use Rattle.pit_units.specs.declared.or_memory.OrMemory.TheVariants.{Fault, OutOfMemory}
@@ -10,6 +12,10 @@ pub data ZoneReaderView : Type 0 where
   Ahead : (blocks : List Block) (fault : Option RowFault) → ZoneReaderView
   Told : (fault : Option RowFault) → ZoneReaderView
   NoMemory : ZoneReaderView
+
+-- all of a zone file: its blocks, and then its fault or its end
+abbrev pub all_ahead : Grid → ℕ → List ℕ → ZoneReaderView
+all_ahead grid zone text = Ahead (blocks_of grid zone text) (fault_of grid zone text)
 
 -- the answer behind the last block
 abbrev pub last_answer : Option RowFault → Result (Option Block) (OrMemory RowFault)

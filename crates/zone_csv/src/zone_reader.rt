@@ -1,11 +1,10 @@
 //! The reader of a zone file.
 
-ghost use Rattle.std.specs.Prelude.{◌≡◌, ◌⊎◌, ◌↔◌, ◌+◌, ◌<◌, ◌≤◌, List, length, None, Some, Err, IfOk, IfSome};
+ghost use Rattle.std.specs.Prelude.{◌≡◌, ◌↔◌, ◌+◌, ◌<◌, ◌≤◌, List, length, None, Some, Err, IfOk, IfSome};
 ghost use Rattle.plan_parts.specs.PlanKept.{IsGrid};
-ghost use Rattle.zone_csv.specs.ZoneReaderView.{Ahead, Answers, blocks_left};
-ghost use Rattle.zone_csv.specs.Zone.{blocks_of, fault_of};
+ghost use Rattle.zone_csv.specs.ZoneReaderView.{Ahead, Answers, all_ahead, blocks_left};
 ghost use Rattle.zone_csv.specs.ZoneKept.{HasFewBlocks, HasOwnBlocks};
-ghost use Rattle.zone_csv.specs.ZoneStates.{HeaderFails, ZoneStates};
+ghost use Rattle.zone_csv.specs.ZoneStates.{ZoneFails, ZoneStates};
 ghost use Rattle.zone_csv.specs.declared.row_fault.RowFault.{RowFault as ARowFault};
 ghost use Rattle.plan_parts.specs.declared.block.Block.{Block as ABlock};
 ghost use Rattle.records.specs.Records.{records_of};
@@ -70,16 +69,12 @@ impl ZoneReader {
     /// A reader of the zone file `text`, of the zone of this number in the plan. It reads nothing and takes no memory yet.
     pub fn new(alloc: Global, text: Vec<u8>, plan: &Plan, zone: u8) -> ZoneReader
         requires { zone < length plan.now.cones }
-        ensures says { result
-            ≡ Ahead (blocks_of plan.now.grid zone text.items)
-            (fault_of plan.now.grid zone text.items) }
-
+        ensures says { result ≡ all_ahead plan.now.grid zone text.items }
         // The same by what the records state.
         ensures spelled { (blocks : List ABlock) → (result ≡ Ahead blocks None)
             ↔ ZoneStates plan.now.grid zone (records_of text.items) blocks None }
         ensures faulty { (blocks : List ABlock) (fault : ARowFault) → (result ≡ Ahead blocks (Some fault))
-            ↔ (HeaderFails (records_of text.items) blocks fault
-            ⊎ ZoneStates plan.now.grid zone (records_of text.items) blocks (Some fault)) }
+            ↔ ZoneFails plan.now.grid zone (records_of text.items) blocks fault }
         ensures few { HasFewBlocks plan.now.grid zone text.items }
         ensures own { HasOwnBlocks plan.now.grid zone text.items }
     {
