@@ -155,6 +155,14 @@ module _ (grid : Grid) (zone : ℕ) (columns : Columns) (number : ℕ) (cells : 
   unfolding row_of
   row_read few wide = rw (le-leb number 1000001 few, eq-eqb (length cells) columns.width wide) refl
 
+  -- what is read of it where its cells say this
+  pub row_says : (x y z tonnes grade : Result ℕ RowFault) → number ≤ 1000001 → length cells ≡ columns.width
+      → x ≡ index_said number X grid.x (cell 0) → y ≡ index_said number Y grid.y (cell 1) → z ≡ index_said number Z grid.z (cell 2)
+      → tonnes ≡ size_said number Tonnes 3 (10 ^ 9 * 1000) (cell 3) → grade ≡ size_said number Grade 6 (10 ^ 12) (cell 4)
+      → (x >>= λ x. y >>= λ y. z >>= λ z. tonnes >>= λ tonnes. grade >>= λ grade. Ok (block_with x y z (tonnes / 1000) grade zone))
+      ≡ row_of grid zone columns number cells
+  row_says x y z tonnes grade few wide of_x of_y of_z of_tonnes of_grade = rw (row_read few wide, of_x, of_y, of_z, of_tonnes, of_grade) refl
+
   -- a row states a block step by step
   abbrev IsRead : Block → Type 0
   IsRead b =
