@@ -1,11 +1,11 @@
 -- A text states a plan exactly where its records state it, and its fault is that of the first that does not, or a part that is missing.
-use Rattle.std.specs.Prelude.{◌≡◌, ℕ, suc, ◌+◌, List, [], ◌∷◌, length, Result, Ok, Err, ◌⊎◌}
-use Rattle.std.proofs.Common.{refl, sym, ◌∙◌, ap, inl, inr}
+use Rattle.std.specs.Prelude.{◌≡◌, ℕ, suc, ◌+◌, List, [], ◌∷◌, ◌++◌, length, Result, Ok, Err, ◌⊎◌}
+use Rattle.std.proofs.Common.{refl, arith, sym, ◌∙◌, ap, inl, inr}
 use Rattle.pit_units.specs.Steps.{◌>>=◌}
 use Rattle.plan_parts.specs.Plan.{PlanParts}
 use Rattle.pit_units.proofs.Exactly.{Exactly, done, same, then_}
 use Rattle.pit_model.specs.Planned.{at_row, finished, planned, record_at, records_from}
-use Rattle.pit_model.specs.SpelledPlan.{IsFirstFault, IsLacking, RecordsState, SpellPlan}
+use Rattle.pit_model.specs.SpelledPlan.{IsFirstFault, IsFirstSpoiled, IsLacking, RecordsState, SpellPlan}
 use Rattle.records.specs.Records.{records_of}
 use Rattle.pit_model.specs.Stated.{Stated, nothing_stated}
 use Rattle.pit_model.specs.declared.plan_fault.PlanFault.{PlanFault}
@@ -75,3 +75,63 @@ pub fails_planned : (text : List ℕ) (fault : PlanFault) → IsFault text fault
 fails_planned text fault (inl first) = rw (first_back (records_of text) 1 nothing_stated fault first) refl
 fails_planned text fault (inr (s, all, lacks, place)) =
     rw ((records_stated 1 nothing_stated (records_of text)).back s all, lacks) (λ i. Err (record { row = sym place i; kind = fault.kind }))
+
+-- a record that states nothing, behind others that do, ends the reading, whatever stands behind it
+record Stops (number : ℕ) (s : Stated) (rows : List (List (List ℕ))) (fault : PlanFault) : Type 0 where
+  before : List (List (List ℕ))
+  bad : List (List ℕ)
+  behind : List (List (List ℕ))
+  cut : rows ≡ before ++ bad ∷ behind
+  place : fault.row ≡ length before + number
+  state : Stated
+  begun : RecordsState number s before state
+  stops : (others : List (List (List ℕ))) → records_from number s (before ++ bad ∷ others) ≡ Err fault
+
+row_of_fault : (number : ℕ) (r : Result Stated PlanFaultKind) (fault : PlanFault) → at_row number r ≡ Err fault → fault.row ≡ number
+row_of_fault number (Ok next) fault e = absurd cc
+row_of_fault number (Err kind) fault e =
+    let same : record { row = number; kind = kind } ≡ fault = cc in ap (λ (f : PlanFault). f.row) (sym same)
+
+first_stops : (rows : List (List (List ℕ))) (number : ℕ) (s : Stated) (fault : PlanFault) → IsFirstFault number s rows fault
+    → Stops number s rows fault
+first_stops [] number s fault first = absurd first
+first_stops (row ∷ rows) number s fault (inl is) = record {
+  before = [];
+  bad = row;
+  behind = rows;
+  cut = refl;
+  place = let here = row_of_fault number _ fault is in omega (arith, here);
+  state = s;
+  begun = refl;
+  stops = λ others. rw is refl;
+}
+first_stops (row ∷ rows) number s fault (inr (next, states, more)) =
+    let later = first_stops rows (suc number) next fault more in
+    record {
+      before = row ∷ later.before;
+      bad = later.bad;
+      behind = later.behind;
+      cut = ap (λ rows. row ∷ rows) later.cut;
+      place = omega (arith, later.place);
+      state = later.state;
+      begun = (next, states, later.begun);
+      stops = λ others. rw states (later.stops others);
+    }
+
+pub plan_spoiled : (text : List ℕ) (fault : PlanFault) → planned text ≡ Err fault
+    → IsFirstSpoiled (records_of text) fault.row ⊎ IsLacking (records_of text) fault
+plan_spoiled text fault e =
+    elim (planned_fails text fault e) [
+      | inl first ↦ inl (let stop = first_stops (records_of text) 1 nothing_stated fault first in record {
+        before = stop.before;
+        bad = stop.bad;
+        behind = stop.behind;
+        cut = stop.cut;
+        place = stop.place;
+        state = stop.state;
+        begun = stop.begun;
+        spoiled = λ others p spelled.
+            absurd (cc (stop.stops others, (records_stated 1 nothing_stated (stop.before ++ stop.bad ∷ others)).back spelled.0 spelled.1));
+      })
+      | inr lacks ↦ inr lacks
+    ]

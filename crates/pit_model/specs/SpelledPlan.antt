@@ -1,5 +1,5 @@
 -- Records that state a plan one after the other, and what is wrong with others.
-use Rattle.std.specs.Prelude.{◌≡◌, ℕ, suc, ◌+◌, ◌⊎◌, List, [], ◌∷◌, length, Ok, Err}
+use Rattle.std.specs.Prelude.{◌≡◌, ℕ, suc, ◌+◌, ◌⊎◌, List, [], ◌∷◌, ◌++◌, length, Ok, Err}
 use Rattle.plan_parts.specs.Plan.{PlanParts}
 use Rattle.pit_model.specs.Planned.{finished, record_at}
 use Rattle.pit_model.specs.Stated.{Stated, nothing_stated}
@@ -19,6 +19,17 @@ IsFirstFault number s (row ∷ rows) fault =
 -- the records spell the plan
 abbrev pub SpellPlan : List (List (List ℕ)) → PlanParts → Type 0
 SpellPlan rows p = (s : Stated) × RecordsState 1 nothing_stated rows s × (finished s ≡ Ok p)
+
+-- the records before that of this number state something, one behind the other; with it, whatever stands behind, they spell no plan
+pub record IsFirstSpoiled (rows : List (List (List ℕ))) (number : ℕ) : Type 0 where
+  pub before : List (List (List ℕ))
+  pub bad : List (List ℕ)
+  pub behind : List (List (List ℕ))
+  pub cut : rows ≡ before ++ bad ∷ behind
+  pub place : number ≡ length before + 1
+  pub state : Stated
+  pub begun : RecordsState 1 nothing_stated before state
+  pub spoiled : (others : List (List (List ℕ))) (p : PlanParts) → ¬ (SpellPlan (before ++ bad ∷ others) p)
 
 -- each record states its part, and in the end one is missing
 abbrev pub IsLacking : List (List (List ℕ)) → PlanFault → Type 0

@@ -7,7 +7,7 @@ ghost use Rattle.plan_parts.specs.PlanKept.{IsPlan};
 ghost use Rattle.pit_units.specs.SpelledNumbers.{SpellsBelow, SpellsNumber, SpellsWhole};
 ghost use Rattle.pit_model.specs.Planned.{planned};
 ghost use Rattle.pit_model.specs.SpelledCells.{IsNameOf, SpellsOrigin, SpellsSize};
-ghost use Rattle.pit_model.specs.SpelledPlan.{IsFirstFault, IsLacking, SpellPlan};
+ghost use Rattle.pit_model.specs.SpelledPlan.{IsFirstFault, IsFirstSpoiled, IsLacking, SpellPlan};
 ghost use Rattle.records.specs.Records.{records_of};
 ghost use Rattle.pit_model.specs.Stated.{nothing_stated, with_limit};
 ghost use Rattle.pit_model.specs.StatedCells.{below_in, name_in, number_in, origin_in, size_in, whole_in};
@@ -25,12 +25,14 @@ pub fn plans_are_spelled()
 
 /// A text has a fault exactly in two cases. Either the fault's record is the first that states nothing behind those
 /// before it, and its kind is that of what fails first in that record. Or all records state something, and a part is
-/// missing.
+/// missing. In the first case no records behind the faulty one make a plan of those up to it (`spoiled`).
 pub fn faults_are_first()
-    ensures { (text : List ℕ) (fault : PlanFault)
+    ensures first { (text : List ℕ) (fault : PlanFault)
         → (planned text ≡ Err fault)
         ↔ (IsFirstFault 1 nothing_stated (records_of text) fault
         ⊎ IsLacking (records_of text) fault) }
+    ensures spoiled { (text : List ℕ) (fault : PlanFault) → planned text ≡ Err fault
+        → IsFirstSpoiled (records_of text) fault.row ⊎ IsLacking (records_of text) fault }
 {}
 
 /// Putting a limit in its place keeps all others.
