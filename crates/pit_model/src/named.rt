@@ -1,6 +1,6 @@
 //! The NAMEs in a plan's cells.
 
-ghost use Rattle.std.specs.Prelude.{◌≡◌, ◌-◌, ◌<◌, ◌≤◌, drop, length, is_some, All, IfOk, IfSome};
+ghost use Rattle.std.specs.Prelude.{◌≡◌, ◌-◌, ◌<◌, ◌≤◌, drop, length, is_some, All, IfOk, IfSome, Some};
 ghost use Rattle.pit_units.specs.OrMemory.{Gives};
 ghost use Rattle.plan_parts.specs.PlanKept.{has_repeat};
 ghost use Rattle.pit_model.specs.PlanRecords.{covers_in};
@@ -46,10 +46,7 @@ pub fn destination_number(formulas: &[NamedFormula], cell: &[u8]) -> Result<u8, 
     ensures value { result ≡ number_of (destination_named formulas.now cell.now) }
     ensures there { IfOk result (λ n. n < length formulas.now) }
 {
-    match formula_place(formulas, cell) {
-        Some(number) => Ok(number as u8),
-        None => Err(PlanFaultKind::Name),
-    }
+    number_of(formula_place(formulas, cell))
 }
 
 fn formula_place(formulas: &[NamedFormula], name: &[u8]) -> Option<usize>
@@ -65,10 +62,7 @@ pub fn resource_number(resources: &[Resource], cell: &[u8]) -> Result<u8, PlanFa
     ensures value { result ≡ number_of (resource_named resources.now cell.now) }
     ensures there { IfOk result (λ n. n < length resources.now) }
 {
-    match resource_place(resources, cell) {
-        Some(number) => Ok(number as u8),
-        None => Err(PlanFaultKind::Name),
-    }
+    number_of(resource_place(resources, cell))
 }
 
 fn resource_place(resources: &[Resource], name: &[u8]) -> Option<usize>
@@ -76,6 +70,18 @@ fn resource_place(resources: &[Resource], name: &[u8]) -> Option<usize>
     ensures within { IfSome result (λ n. n < length resources.now) }
 {
     resources.iter().position(|resource| resource.name.is(name))
+}
+
+// The number of what a cell names, if it names something.
+fn number_of(place: Option<usize>) -> Result<u8, PlanFaultKind>
+    requires { IfSome place (λ n. n < 256) }
+    ensures value { result ≡ number_of place }
+    ensures found { IfOk result (λ n. place ≡ Some n) }
+{
+    match place {
+        Some(number) => Ok(number as u8),
+        None => Err(PlanFaultKind::Name),
+    }
 }
 
 /// The numbers of the destinations that the cells of a `resource` record name, from its third cell on.
