@@ -1,5 +1,5 @@
 -- What a line of a precedence file states, field by field, or the kind of its first fault; and the predecessors of a file.
-use Rattle.std.specs.Prelude.{◌≡◌, ◌≢◌, ℕ, ◌==◌, ◌&&◌, ◌||◌, nat_lt, not, Bool, true, List, [], ◌∷◌, ◌++◌, length, drop, Result, Ok, Err, if◌then◌else◌}
+use Rattle.std.specs.Prelude.{ℕ, ◌==◌, ◌&&◌, ◌||◌, nat_lt, not, Bool, true, List, [], ◌∷◌, ◌++◌, length, drop, Result, Ok, Err, if◌then◌else◌}
 use Rattle.std.specs.List.{list_any}
 use Rattle.pit_units.specs.Steps.{◌>>=◌}
 use Rattle.text_lines.specs.Reading.{read_lines}
@@ -44,10 +44,3 @@ finish_preds n end lists = if length lists == n then Ok lists else Err (lines_mi
 -- the predecessors of a text, of n blocks, or its first faulty line
 abbrev pub preds_in : ℕ → List ℕ → Result (List (List ℕ)) LineFault
 preds_in n text = read_lines (with_preds n) [] (lines_in text) >>= finish_preds n (end_of text)
-
--- all lines state predecessors, but not of so many blocks
-pub record LacksLines (n : ℕ) (text : List ℕ) (fault : LineFault) : Type 0 where
-  pub lists : List (List ℕ)
-  pub stated : read_lines (with_preds n) [] (lines_in text) ≡ Ok lists
-  pub other_count : length lists ≢ n
-  pub is : fault ≡ lines_missing (end_of text)

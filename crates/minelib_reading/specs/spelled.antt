@@ -1,3 +1,5 @@
+pub mod LineKinds
+pub mod SpelledAdditions
 pub mod SpelledItems
 pub mod SpelledKeys
 pub mod SpelledLines

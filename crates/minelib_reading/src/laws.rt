@@ -1,34 +1,30 @@
 //! What holds of reading, whatever the texts say: each contract is a law, and a call of it changes nothing.
 
-ghost use Rattle.std.specs.Prelude.{◌≡◌, ◌≢◌, ◌↔◌, ◌⊎◌, ℕ, ◌≤◌, [], ◌∷◌, ◌++◌, false, true, List, length, ℤ, Ok, Err};
+ghost use Rattle.std.specs.Prelude.{◌≡◌, ◌↔◌, ◌⊎◌, ℕ, ◌≤◌, [], List, length, Ok, Err};
 ghost use Rattle.mine_instance.specs.cpit.Cpit.{CpitParts};
 ghost use Rattle.mine_instance.specs.cpit.CpitKept.{IsCpit};
-ghost use Rattle.mine_instance.specs.Valid.{ArePredsOf, IsValid};
-ghost use Rattle.mine_instance.specs.Order.{coef_before};
-ghost use Rattle.mine_instance.specs.declared.coefs.coef.Coef.{Coef};
+ghost use Rattle.mine_instance.specs.Valid.{IsValid};
 ghost use Rattle.mine_instance.specs.Instance.{Instance as AnInstance};
 ghost use Rattle.minelib_reading.specs.BlockText.{block_stated, blocks_in, with_block};
 ghost use Rattle.minelib_reading.specs.Denotes.{Denotes, DenotesCpit};
-ghost use Rattle.minelib_reading.specs.HeaderNumbers.{count_in};
-ghost use Rattle.minelib_reading.specs.ModelDraft.{ModelDraftView, is_behind, is_next, is_ready, last_of};
-ghost use Rattle.minelib_reading.specs.ModelText.{item_stated, key_stated, model_in, section_stated};
-ghost use Rattle.minelib_reading.specs.PrecText.{LacksLines, preds_in, preds_stated, with_preds};
+ghost use Rattle.minelib_reading.specs.ModelDraft.{ModelDraftView};
+ghost use Rattle.minelib_reading.specs.ModelText.{key_stated, model_in};
+ghost use Rattle.minelib_reading.specs.PrecText.{preds_in, preds_stated, with_preds};
 ghost use Rattle.minelib_reading.specs.StatedModel.{StatedModel, stated_by};
-ghost use Rattle.minelib_reading.specs.spelled.SpelledItems.{NumbersThen, SpellsBlock, SpellsCoef, SpellsLimit, SpellsPreds, SpellsValues};
-ghost use Rattle.minelib_reading.specs.spelled.SpelledModel.{AreModelLines, SpellsKey, StateModel};
-ghost use Rattle.minelib_reading.specs.spelled.SpelledTexts.{SpellBlocks, SpellCpit, SpellInstance, SpellPreds};
-ghost use Rattle.minelib_reading.specs.declared.model.key.Section.{Section};
+ghost use Rattle.minelib_reading.specs.spelled.LineKinds.{HasFields, IsOfAnother, IsOutOfTurn, LacksBefore, Miscounts, PredsFail, Repeats, SectionFails};
+ghost use Rattle.minelib_reading.specs.spelled.SpelledAdditions.{AddsWhatItSpells, ReadsKey, StatesKey};
+ghost use Rattle.minelib_reading.specs.spelled.SpelledItems.{SpellsBlock, SpellsPreds};
+ghost use Rattle.minelib_reading.specs.spelled.SpelledLines.{IsFirstUnspelled};
+ghost use Rattle.minelib_reading.specs.spelled.SpelledModel.{AreModelLines, StateModel};
+ghost use Rattle.minelib_reading.specs.spelled.SpelledTexts.{LacksLines, SpellBlocks, SpellCpit, SpellInstance, SpellPreds, SpellsBlockLine, SpellsPredsLine};
 ghost use Rattle.minelib_reading.specs.declared.model.key.Section.TheVariants.{Coefs, Limits, Objective};
 ghost use Rattle.minelib_lines.specs.declared.header_key.HeaderKey.{HeaderKey};
-ghost use Rattle.minelib_lines.specs.declared.header_key.HeaderKey.TheVariants as key;
 ghost use Rattle.minelib_lines.specs.declared.problem.Problem.{Problem};
 ghost use Rattle.text_lines.specs.Reading.{IsFirstFault};
 ghost use Rattle.text_lines.specs.TextLines.{fields_of, lines_in};
 ghost use Rattle.text_lines.specs.declared.text_fault.LineFault.{LineFault};
 ghost use Rattle.text_lines.specs.declared.text_fault.TextKind.TheVariants.{Count, Fields, Key, Missing, Order, Twice};
 ghost use Rattle.plan_parts.specs.declared.block.Block.{Block};
-ghost use Rattle.plan_parts.specs.PlanKept.{is_turned, stands_before};
-ghost use Rattle.plan_parts.specs.declared.limit.Limit.{Limit};
 ghost use Rattle.plan_parts.specs.declared.ranges.TheConstants.{MAX_BLOCKS};
 
 /// The instance that three texts denote is valid.
@@ -51,38 +47,22 @@ pub fn cpit_read_is_valid()
 /// - `preds`: the line of the block `own` of n blocks states predecessors exactly where its fields spell `own`, how
 ///   many they are and each of them, and where they are identifiers of the n blocks, none twice and none the block's
 ///   own.
-/// - `header`: the one field behind a header key's colon spells what the model then states by that key.
+/// - `header`, `read`: the one field behind a header key's colon spells what the model then states by that key; and what
+///   spells something by a key that did not stand yet is read.
 /// - `values`: a line of the objective adds the values of the next block exactly where its fields spell them.
 /// - `coefs`, `limits`: a line of the coefficients or the limits adds one exactly where its fields spell it, and where
 ///   it comes behind the last one.
 pub fn lines_state_what_they_spell()
-    // Of the files of blocks and predecessors.
     ensures blocks { (before : ℕ) (line : List ℕ) (b : Block)
         → (block_stated before (fields_of line) ≡ Ok b) ↔ SpellsBlock before (fields_of line) b }
     ensures preds { (n own : ℕ) (line ids : List ℕ)
         → (preds_stated n own (fields_of line) ≡ Ok ids) ↔ SpellsPreds n own (fields_of line) ids }
-
-    // Of a model file: its header, and the lines of its sections.
     ensures header { (d next : ModelDraftView) (k : HeaderKey) (fields : List (List ℕ))
-        → key_stated d k fields ≡ Ok next
-        → (value : List ℕ) × (fields ≡ value ∷ [])
-        × SpellsKey d.problem d.blocks (stated_by next).header k value }
-    ensures values { (d next : ModelDraftView) (fields : List (List ℕ))
-        → (item_stated d Objective fields ≡ Ok next)
-        ↔ ((vs : List ℤ) × (next ≡ record d { values = d.values ++ vs ∷ [] })
-        × SpellsValues d.blocks (count_in d.header key.Destinations) (length d.values) fields vs) }
-    ensures coefs { (d next : ModelDraftView) (fields : List (List ℕ))
-        → (item_stated d Coefs fields ≡ Ok next)
-        ↔ ((c : Coef) × (next ≡ record d { coefs = d.coefs ++ c ∷ [] })
-        × SpellsCoef d.problem d.blocks (count_in d.header key.Destinations)
-        (count_in d.header key.Resources) fields c
-        × (is_behind coef_before (last_of d.coefs) c ≡ true)) }
-    ensures limits { (d next : ModelDraftView) (fields : List (List ℕ))
-        → (item_stated d Limits fields ≡ Ok next)
-        ↔ ((l : Limit) × (next ≡ record d { limits = d.limits ++ l ∷ [] })
-        × SpellsLimit (count_in d.header key.Resources) (count_in d.header key.Periods) fields l
-        × (is_turned l.bound ≡ false)
-        × (is_behind stands_before (last_of d.limits) l ≡ true)) }
+        → key_stated d k fields ≡ Ok next → StatesKey d k fields next }
+    ensures read { (k : HeaderKey) → ReadsKey k }
+    ensures values { AddsWhatItSpells Objective }
+    ensures coefs { AddsWhatItSpells Coefs }
+    ensures limits { AddsWhatItSpells Limits }
 {}
 
 /// Where a text is read as blocks, each line that is not skipped spells one of them, in order.
@@ -148,21 +128,23 @@ pub fn spelled_preds_are_read()
         → preds_in n text ≡ Ok lists }
 {}
 
-/// The faulty line of a block file is the first that states no block behind those before it. Its kind is that of the
-/// first thing that is asked of it and fails.
-#[tactic(auto, using(crate::proofs::spelled::SpelledRead::bad_block))]
+/// The faulty line of a block file is the first that spells no block behind those that the lines before it spell. Its
+/// kind is that of the first thing that is asked of it and fails.
 pub fn faulty_lines_spell_no_block()
     ensures { (text : List ℕ) (fault : LineFault) → blocks_in text ≡ Err fault
-        → IsFirstFault with_block [] (lines_in text) fault }
+        → IsFirstFault with_block [] (lines_in text) fault
+        × IsFirstUnspelled SpellsBlockLine (lines_in text) fault.line }
 {}
 
-/// The fault of a precedence file is one of two. Either its line is the first that states no predecessors behind those
-/// before it, and its kind is that of the first thing that is asked of the line and fails. Or all lines state
-/// predecessors, and lines are lacking at the end.
+/// The fault of a precedence file is one of two. Either its line is the first that spells no predecessors of its block,
+/// as each line before it does, and its kind is that of the first thing that is asked of the line and fails. Or all lines
+/// spell predecessors, and lines are lacking at the end.
 #[tactic(auto, using(crate::proofs::spelled::SpelledRead::bad_preds))]
 pub fn faulty_lines_spell_no_preds()
     ensures { (n : ℕ) (text : List ℕ) (fault : LineFault) → preds_in n text ≡ Err fault
-        → IsFirstFault (with_preds n) [] (lines_in text) fault ⊎ LacksLines n text fault }
+        → (IsFirstFault (with_preds n) [] (lines_in text) fault
+        × IsFirstUnspelled (SpellsPredsLine n) (lines_in text) fault.line)
+        ⊎ LacksLines n text fault }
 {}
 
 /// The kind of a fault is that of the first thing that is wrong with a line.
@@ -173,26 +155,10 @@ pub fn faulty_lines_spell_no_preds()
 /// - `key`, `fields`, `missing`: of the line of a section's key. The section is not the next; or it is, and something
 ///   stands behind the colon; or nothing does, and something is missing before it.
 pub fn faulty_lines_have_their_kind()
-    // Of a line of predecessors: its own number, how many it states, and which.
-    ensures order { (n own : ℕ) (line : List ℕ)
-        → (preds_stated n own (fields_of line) ≡ Err Order)
-        ↔ NumbersThen n (fields_of line) (λ id k ids. id ≢ own) }
-    ensures count { (n own : ℕ) (line : List ℕ)
-        → (preds_stated n own (fields_of line) ≡ Err Count)
-        ↔ NumbersThen n (fields_of line) (λ id k ids. (id ≡ own) × (k ≢ length ids)) }
-    ensures twice { (n own : ℕ) (line : List ℕ)
-        → (preds_stated n own (fields_of line) ≡ Err Twice)
-        ↔ NumbersThen n (fields_of line) (λ id k ids. (id ≡ own)
-        × ((k ≡ length ids) × ¬ (ArePredsOf own n ids))) }
-
-    // Of the key of a section: its turn, what stands behind it, and what has to stand before.
-    ensures key { (d : ModelDraftView) (section : Section) (fields : List (List ℕ))
-        → (section_stated d section fields ≡ Err Key) ↔ (is_next d.section section ≡ false) }
-    ensures fields { (d : ModelDraftView) (section : Section) (fields : List (List ℕ))
-        → (section_stated d section fields ≡ Err Fields)
-        ↔ ((is_next d.section section ≡ true) × (fields ≢ [])) }
-    ensures missing { (d : ModelDraftView) (section : Section) (fields : List (List ℕ))
-        → (section_stated d section fields ≡ Err Missing)
-        ↔ ((is_next d.section section ≡ true)
-        × ((fields ≡ []) × (is_ready d d.section ≡ false))) }
+    ensures order { PredsFail Order IsOfAnother }
+    ensures count { PredsFail Count Miscounts }
+    ensures twice { PredsFail Twice Repeats }
+    ensures key { SectionFails Key IsOutOfTurn }
+    ensures fields { SectionFails Fields HasFields }
+    ensures missing { SectionFails Missing LacksBefore }
 {}

@@ -5,10 +5,11 @@ use Rattle.std.proofs.lemmas.List.Elements.{All-head, All-tail}
 use Rattle.pit_units.proofs.Exactly.{Exactly, as_, done, then_}
 use Rattle.pit_units.specs.Steps.{◌>>=◌}
 use Rattle.text_lines.proofs.LinesRead.{at, line_then}
-use Rattle.text_lines.specs.Reading.{read_lines}
+use Rattle.text_lines.specs.Reading.{IsFirstFault, read_lines}
 use Rattle.text_lines.specs.TextLines.{Line}
+use Rattle.text_lines.specs.declared.text_fault.LineFault.{LineFault}
 use Rattle.text_lines.specs.declared.text_fault.TextKind.{TextKind}
-use Rattle.minelib_reading.specs.spelled.SpelledLines.{AreLines}
+use Rattle.minelib_reading.specs.spelled.SpelledLines.{AreLines, IsFirstUnspelled}
 
 -- one line and one item more
 pub line_more : {A : Type 0} (Spells : ℕ → List ℕ → A → Type 0) (n : ℕ) (lines : List Line) (items : List A) (line : Line) (item : A)
@@ -87,6 +88,23 @@ module _ {A : Type 0} (item : ℕ → List ℕ → Result A TextKind) (Spells : 
   pub items_exact : (lines : List Line) → Exactly (read_lines with_item [] lines) (AreLines Spells 0 lines)
   items_exact lines =
       as_ (behind [] lines) (λ all h. subst (AreLines Spells 0 lines) (sym h.2) h.1) (λ all are. (all, are, refl))
+
+  -- and the first line that is not read spells none
+  pub first_unspelled : (lines : List Line) (fault : LineFault) → IsFirstFault with_item [] lines fault
+      → IsFirstUnspelled Spells lines fault.line
+  first_unspelled lines fault first = record {
+    before = first.before;
+    bad = first.bad;
+    behind = first.behind;
+    cut = first.cut;
+    place = first.place;
+    items = first.state;
+    spelled = (items_exact first.before).told first.state first.stated;
+    unspelled = λ x spells.
+        let read : with_item first.state first.bad.text ≡ Ok (first.state ++ x ∷ []) =
+        ap (λ r. r >>= λ x. Ok (first.state ++ x ∷ [])) ((exact (length first.state) first.bad.text).back x spells) in
+        absurd (cc (read, first.fails));
+  }
 
 -- lines that spell items, each of which is stated behind those before it
 pub items_state : {A S : Type 0} (admit : S → List ℕ → Result S TextKind) (Spells : ℕ → List ℕ → A → Type 0) (state : List A → S) (all : List A)

@@ -1,6 +1,7 @@
 -- What a line of a model file that states something spells, and what it makes of what stood before.
-use Rattle.std.specs.Prelude.{Bool, Err, List, Ok, Result, if◌then◌else◌, not, ℕ, ℤ, ◌||◌}
+use Rattle.std.specs.Prelude.{Bool, Err, IsOk, List, Ok, Result, if◌then◌else◌, not, ℕ, ℤ, ◌||◌}
 use Rattle.std.proofs.Common.{[], arith, false, length, refl, subst, sym, true, ◌++◌, ◌∷◌, ◌≡◌}
+use Rattle.std.proofs.lemmas.Bool.{not-false}
 use Rattle.std.proofs.lemmas.List.{nil_from_length}
 use Rattle.pit_units.proofs.Exactly.{Exactly, counted, done, tested, then_}
 use Rattle.plan_parts.specs.PlanKept.{is_turned, stands_before}
@@ -12,7 +13,7 @@ use Rattle.text_lines.specs.declared.text_fault.TextKind.{TextKind}
 use Rattle.text_lines.specs.declared.text_fault.TextKind.TheVariants.{Fields, Key, Missing, Order, Twice}
 use Rattle.minelib_lines.specs.declared.header_key.HeaderKey.{HeaderKey}
 use Rattle.minelib_lines.specs.declared.header_key.HeaderKey.TheVariants as key
-use Rattle.minelib_reading.proofs.keys.KeyNumbers.{number_told, passes}
+use Rattle.minelib_reading.proofs.keys.KeyNumbers.{number_back, number_told, passes, told}
 use Rattle.minelib_reading.proofs.lines.LineFacts.{coef_exact, limit_exact, values_exact}
 use Rattle.minelib_reading.specs.HeaderNumbers.{count_in, is_given, with_key}
 use Rattle.minelib_reading.specs.ModelDraft.{ModelDraftView, is_behind, is_heading, is_next, is_ready, last_of, name_with}
@@ -22,6 +23,7 @@ use Rattle.minelib_reading.specs.StatedModel.{header_stated}
 use Rattle.minelib_reading.specs.declared.model.key.Section.{Section}
 use Rattle.minelib_reading.specs.declared.model.key.Section.TheVariants.{Coefs, Limits, Objective}
 use Rattle.minelib_reading.specs.spelled.SpelledItems.{SpellsCoef, SpellsLimit, SpellsValues}
+use Rattle.minelib_reading.specs.spelled.SpelledAdditions.{ReadsKey}
 use Rattle.minelib_reading.specs.spelled.SpelledModel.{SpellsKey}
 
 -- a header key with these fields behind its colon
@@ -44,11 +46,7 @@ pub record BeginsSection (d : ModelDraftView) (section : Section) (fields : List
 -- a test that has to hold
 holds : {A : Type 0} {r : Result A TextKind} {P : A → Type 0} (fault : TextKind) (t : Bool) → Exactly r P
     → Exactly (if not t then Err fault else r) (λ y. (t ≡ true) × P y)
-holds fault t all = tested fault (told t) (λ e. rw e refl) all
-  where
-    told : (t : Bool) → not t ≡ false → t ≡ true
-    told true e = refl
-    told false e = absurd cc
+holds fault t all = tested fault (not-false t) (λ e. rw e refl) all
 
 itself : {A : Type 0} (r : Result A TextKind) → Exactly r (λ y. r ≡ Ok y)
 itself r = record { told = λ y e. e; back = λ y e. e }
@@ -91,6 +89,13 @@ key_step d next k fields e = by fields ((key_exact d k fields).told next e)
 pub key_spelled : (d next : ModelDraftView) (k : HeaderKey) (fields : List (List ℕ)) → key_stated d k fields ≡ Ok next
     → (value : List ℕ) × (fields ≡ value ∷ []) × SpellsKey d.problem d.blocks (header_stated next.name next.header) k value
 key_spelled d next k fields e = let s = key_step d next k fields e in (s.value, s.one, s.says)
+
+-- and what spells something is read
+pub key_read : (k : HeaderKey) → ReadsKey k
+key_read k d h value heading new spells =
+    let number = number_back d.problem d.blocks h k value spells in
+    let read = (key_exact d k (value ∷ [])).back (with_value d k (value ∷ []) (told h k)) (heading, (new, (refl, (told h k, number, refl)))) in
+    subst IsOk (sym read) refl
 
 pub section_step : (d next : ModelDraftView) (section : Section) (fields : List (List ℕ)) → section_stated d section fields ≡ Ok next
     → BeginsSection d section fields next

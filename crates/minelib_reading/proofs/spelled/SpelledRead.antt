@@ -13,19 +13,17 @@ use Rattle.text_lines.specs.Reading.{IsFirstFault, Leaves, read_lines}
 use Rattle.text_lines.specs.TextLines.{Line, end_of, fields_of, lines_in}
 use Rattle.text_lines.specs.declared.text_fault.LineFault.{LineFault}
 use Rattle.text_lines.specs.declared.text_fault.TextKind.{TextKind}
-use Rattle.minelib_reading.proofs.lines.ItemLines.{items_exact}
+use Rattle.minelib_reading.proofs.lines.ItemLines.{first_unspelled, items_exact}
 use Rattle.minelib_reading.proofs.lines.LineFacts.{block_exact, preds_exact}
 use Rattle.minelib_reading.specs.BlockText.{block_stated, blocks_in, with_block}
-use Rattle.minelib_reading.specs.PrecText.{LacksLines, finish_preds, lines_missing, preds_in, preds_stated, with_preds}
+use Rattle.minelib_reading.specs.PrecText.{finish_preds, lines_missing, preds_in, preds_stated, with_preds}
 use Rattle.minelib_reading.specs.inner.LinesTaken.{PrecDraftView, admit_preds, no_lists}
-use Rattle.minelib_reading.specs.spelled.SpelledItems.{SpellsBlock, SpellsPreds}
-use Rattle.minelib_reading.specs.spelled.SpelledLines.{AreLines}
-use Rattle.minelib_reading.specs.spelled.SpelledTexts.{SpellBlocks, SpellPreds}
+use Rattle.minelib_reading.specs.spelled.SpelledLines.{AreLines, IsFirstUnspelled}
+use Rattle.minelib_reading.specs.spelled.SpelledTexts.{LacksLines, SpellBlocks, SpellPreds, SpellsBlockLine, SpellsPredsLine}
 
 pub blocks_exact : (text : List ℕ) → Exactly (blocks_in text) (SpellBlocks text)
 blocks_exact text =
-    items_exact (λ n line. block_stated n (fields_of line)) (λ id line b. SpellsBlock id (fields_of line) b) (λ n line. block_exact n (fields_of line))
-    (lines_in text)
+    items_exact (λ n line. block_stated n (fields_of line)) SpellsBlockLine (λ n line. block_exact n (fields_of line)) (lines_in text)
 
 -- a precedence file of n blocks, of which these lists were read
 abbrev pub draft_of : ℕ → List (List ℕ) → PrecDraftView
@@ -66,13 +64,17 @@ ends : {S : Type 0} (t : Bool) (s : S) (fault : LineFault) → Exactly (if t the
 ends true s fault = as_ (done s) (λ y e. (refl, e)) (λ y h. h.1)
 ends false s fault = record { told = λ y e. absurd cc; back = λ y h. absurd (cc (h.0)) }
 
+-- the lines of a precedence file, whatever their number
+each_exact : (n : ℕ) (text : List ℕ) → Exactly (read_lines (with_preds n) [] (lines_in text)) (AreLines (SpellsPredsLine n) 0 (lines_in text))
+each_exact n text =
+    items_exact (λ own line. preds_stated n own (fields_of line)) (SpellsPredsLine n) (λ own line. preds_exact n own (fields_of line)) (lines_in text)
+
 pub lists_exact : (n : ℕ) (text : List ℕ) → Exactly (preds_in n text) (SpellPreds n text)
 lists_exact n text =
-    as_ (then_ (items_exact (λ own line. preds_stated n own (fields_of line)) (λ own line ids. SpellsPreds n own (fields_of line) ids)
-    (λ own line. preds_exact n own (fields_of line)) (lines_in text)) (λ lists. ends (length lists == n) lists (lines_missing (end_of text)))) to from
+    as_ (then_ (each_exact n text) (λ lists. ends (length lists == n) lists (lines_missing (end_of text)))) to from
   where
     Lines : List (List ℕ) → Type 0
-    Lines lists = AreLines (λ own line ids. SpellsPreds n own (fields_of line) ids) 0 (lines_in text) lists
+    Lines lists = AreLines (SpellsPredsLine n) 0 (lines_in text) lists
 
     Ended : List (List ℕ) → Type 0
     Ended all = (lists : List (List ℕ)) × Lines lists × (((length lists == n) ≡ true) × (all ≡ lists))
@@ -83,8 +85,13 @@ lists_exact n text =
     from : (all : List (List ℕ)) → SpellPreds n text all → Ended all
     from all h = (all, h.1, (eq-eqb (length all) n h.0, refl))
 
-pub bad_block : (text : List ℕ) (fault : LineFault) → blocks_in text ≡ Err fault → IsFirstFault with_block [] (lines_in text) fault
-bad_block text fault e = first_fault with_block (lines_in text) [] fault e
+pub bad_block : (text : List ℕ) (fault : LineFault) → blocks_in text ≡ Err fault
+    → IsFirstFault with_block [] (lines_in text) fault × IsFirstUnspelled SpellsBlockLine (lines_in text) fault.line
+bad_block text fault e =
+    let first = first_fault with_block (lines_in text) [] fault e in (
+      first,
+      first_unspelled (λ n line. block_stated n (fields_of line)) SpellsBlockLine (λ n line. block_exact n (fields_of line)) (lines_in text) fault first,
+    )
 
 -- the fault of a file that a test ends: a faulty line, or something is lacking behind the last
 pub ended_fails : {S : Type 0} (admit : S → List ℕ → Result S TextKind) (s : S) (lines : List Line) (ended : S → Bool) (lacks fault : LineFault)
@@ -98,13 +105,18 @@ ended_fails {S} admit s lines ended lacks fault e = by (read_lines admit s lines
     by (Err found) read e = inl (first_fault admit lines s fault (read ∙ ap Err (err_same {B = S} found fault e)))
 
 pub bad_preds : (n : ℕ) (text : List ℕ) (fault : LineFault) → preds_in n text ≡ Err fault
-    → IsFirstFault (with_preds n) [] (lines_in text) fault ⊎ LacksLines n text fault
+    → (IsFirstFault (with_preds n) [] (lines_in text) fault × IsFirstUnspelled (SpellsPredsLine n) (lines_in text) fault.line)
+    ⊎ LacksLines n text fault
 bad_preds n text fault e =
     elim (ended_fails (with_preds n) [] (lines_in text) (λ lists. length lists == n) (lines_missing (end_of text)) fault e) [
-      | inl first ↦ inl first
+      | inl first ↦ inl (
+        first,
+        first_unspelled (λ own line. preds_stated n own (fields_of line)) (SpellsPredsLine n) (λ own line. preds_exact n own (fields_of line))
+            (lines_in text) fault first,
+      )
       | inr lacks ↦ inr (record {
         lists = lacks.0;
-        stated = lacks.1;
+        spelled = (each_exact n text).told lacks.0 lacks.1;
         other_count = λ count. absurd (cc (lacks.2, eq-eqb (length lacks.0) n count));
         is = sym lacks.3;
       })

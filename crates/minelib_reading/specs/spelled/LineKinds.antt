@@ -1,0 +1,42 @@
+-- What is wrong with a line of predecessors, or with the line of a section's key, of each kind.
+use Rattle.std.specs.Prelude.{◌≡◌, ◌≢◌, ◌↔◌, ℕ, true, false, List, [], length, Err}
+use Rattle.mine_instance.specs.Valid.{ArePredsOf}
+use Rattle.text_lines.specs.TextLines.{fields_of}
+use Rattle.text_lines.specs.declared.text_fault.TextKind.{TextKind}
+use Rattle.minelib_reading.specs.ModelDraft.{ModelDraftView, is_next, is_ready}
+use Rattle.minelib_reading.specs.ModelText.{section_stated}
+use Rattle.minelib_reading.specs.PrecText.{preds_stated}
+use Rattle.minelib_reading.specs.declared.model.key.Section.{Section}
+use Rattle.minelib_reading.specs.spelled.SpelledItems.{NumbersThen}
+
+-- the first number of a line of predecessors is not the block's own
+abbrev pub IsOfAnother : ℕ → ℕ → List (List ℕ) → Type 0
+IsOfAnother n own fields = NumbersThen n fields (λ id k ids. id ≢ own)
+
+-- it is, and the second does not count those behind it
+abbrev pub Miscounts : ℕ → ℕ → List (List ℕ) → Type 0
+Miscounts n own fields = NumbersThen n fields (λ id k ids. (id ≡ own) × (k ≢ length ids))
+
+-- both are right, and one of those stands twice or is the block's own
+abbrev pub Repeats : ℕ → ℕ → List (List ℕ) → Type 0
+Repeats n own fields = NumbersThen n fields (λ id k ids. (id ≡ own) × ((k ≡ length ids) × ¬ (ArePredsOf own n ids)))
+
+-- the section of a key is not the next
+abbrev pub IsOutOfTurn : ModelDraftView → Section → List (List ℕ) → Type 0
+IsOutOfTurn d section fields = is_next d.section section ≡ false
+
+-- it is, and something stands behind the colon
+abbrev pub HasFields : ModelDraftView → Section → List (List ℕ) → Type 0
+HasFields d section fields = (is_next d.section section ≡ true) × (fields ≢ [])
+
+-- nothing does, and something is missing before the key
+abbrev pub LacksBefore : ModelDraftView → Section → List (List ℕ) → Type 0
+LacksBefore d section fields = (is_next d.section section ≡ true) × ((fields ≡ []) × (is_ready d d.section ≡ false))
+
+-- a line of predecessors, and the line of a section's key, has a fault of this kind exactly where this is so
+abbrev pub PredsFail : TextKind → (ℕ → ℕ → List (List ℕ) → Type 0) → Type 0
+PredsFail kind IsSo = (n own : ℕ) (line : List ℕ) → (preds_stated n own (fields_of line) ≡ Err kind) ↔ IsSo n own (fields_of line)
+
+abbrev pub SectionFails : TextKind → (ModelDraftView → Section → List (List ℕ) → Type 0) → Type 0
+SectionFails kind IsSo =
+    (d : ModelDraftView) (section : Section) (fields : List (List ℕ)) → (section_stated d section fields ≡ Err kind) ↔ IsSo d section fields
