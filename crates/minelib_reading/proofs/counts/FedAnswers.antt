@@ -1,5 +1,5 @@
 -- What a reader that only counts answers of the text of a feed.
-use Rattle.std.specs.Prelude.{Err, List, Ok, Option, sum_by, ℕ}
+use Rattle.std.specs.Prelude.{Err, List, Ok, Option, Result, sum_by, ℕ}
 use Rattle.std.proofs.Common.{[], ap, length, sym, ◌∙◌, ◌≡◌}
 use Rattle.pit_units.specs.Steps.{◌>>=◌}
 use Rattle.pit_units.specs.declared.or_memory.OrMemory.TheVariants.{Fault}
@@ -34,13 +34,14 @@ blocks_faulty left limit after fault read = record {
   answers = ap (λ r. r >>= λ blocks. Ok (length blocks)) (sym read.reads);
 }
 
-pub arcs_told : (n : ℕ) (left : Option (List ℕ)) (limit end : ℕ) (after : PrecDraftView) (lists : List (List ℕ))
-    → IsFedReading admit_preds left limit (no_lists n) after (Ok end) → finish_preds after.blocks end after.lists ≡ Ok lists
-    → IsFedAnswer (arcs_counted n) left limit (Ok (sum_by length lists))
+-- all lines were read, and what they leave is finished so
+arcs_finished : (n : ℕ) (left : Option (List ℕ)) (limit end : ℕ) (after : PrecDraftView) (r : Result (List (List ℕ)) LineFault)
+    → IsFedReading admit_preds left limit (no_lists n) after (Ok end) → finish_preds after.blocks end after.lists ≡ r
+    → IsFedAnswer (arcs_counted n) left limit (r >>= λ all. Ok (sum_by length all))
 unfolding arcs_counted
-arcs_told n left limit end after lists read finished =
+arcs_finished n left limit end after r read finished =
     let whole = preds_finished n read.text after read.reads.0 in
-    let stated : preds_in n read.text ≡ Ok lists =
+    let stated : preds_in n read.text ≡ r =
     sym whole ∙ ap (λ e. finish_preds after.blocks e after.lists) (sym read.reads.1) ∙ finished in
     record {
       text = read.text;
@@ -48,19 +49,15 @@ arcs_told n left limit end after lists read finished =
       answers = sym (ap (λ r. r >>= λ all. Ok (sum_by length all)) stated);
     }
 
+pub arcs_told : (n : ℕ) (left : Option (List ℕ)) (limit end : ℕ) (after : PrecDraftView) (lists : List (List ℕ))
+    → IsFedReading admit_preds left limit (no_lists n) after (Ok end) → finish_preds after.blocks end after.lists ≡ Ok lists
+    → IsFedAnswer (arcs_counted n) left limit (Ok (sum_by length lists))
+arcs_told n left limit end after lists read finished = arcs_finished n left limit end after (Ok lists) read finished
+
 pub arcs_lacking : (n : ℕ) (left : Option (List ℕ)) (limit end : ℕ) (after : PrecDraftView) (fault : LineFault)
     → IsFedReading admit_preds left limit (no_lists n) after (Ok end) → finish_preds after.blocks end after.lists ≡ Err fault
     → IsFedAnswer (arcs_counted n) left limit (Err fault)
-unfolding arcs_counted
-arcs_lacking n left limit end after fault read finished =
-    let whole = preds_finished n read.text after read.reads.0 in
-    let stated : preds_in n read.text ≡ Err fault =
-    sym whole ∙ ap (λ e. finish_preds after.blocks e after.lists) (sym read.reads.1) ∙ finished in
-    record {
-      text = read.text;
-      is_text = read.is_text;
-      answers = sym (ap (λ r. r >>= λ all. Ok (sum_by length all)) stated);
-    }
+arcs_lacking n left limit end after fault read finished = arcs_finished n left limit end after (Err fault) read finished
 
 pub arcs_faulty : (n : ℕ) (left : Option (List ℕ)) (limit : ℕ) (after : PrecDraftView) (fault : LineFault)
     → IsFedReading admit_preds left limit (no_lists n) after (Err fault) → IsFedAnswer (arcs_counted n) left limit (Err fault)
@@ -73,12 +70,14 @@ arcs_faulty n left limit after fault read =
       answers = sym (ap (λ r. r >>= λ all. Ok (sum_by length all)) stated);
     }
 
-pub model_told : (problem : Problem) (n : ℕ) (left : Option (List ℕ)) (limit end : ℕ) (after d : ModelDraftView)
-    → IsFedReading line_stated left limit (blank_model problem n) after (Ok end) → finish_model end after ≡ Ok d
-    → IsFedAnswer (model_counted problem n) left limit (Ok (length d.coefs, length d.limits))
+-- and of a model file
+model_finished : (problem : Problem) (n : ℕ) (left : Option (List ℕ)) (limit end : ℕ) (after : ModelDraftView)
+    (r : Result ModelDraftView LineFault) → IsFedReading line_stated left limit (blank_model problem n) after (Ok end)
+    → finish_model end after ≡ r
+    → IsFedAnswer (model_counted problem n) left limit (r >>= λ d. Ok (length d.coefs, length d.limits))
 unfolding model_counted
-model_told problem n left limit end after d read finished =
-    let stated : model_in problem n read.text ≡ Ok d =
+model_finished problem n left limit end after r read finished =
+    let stated : model_in problem n read.text ≡ r =
     ap (λ r. r >>= finish_model (end_of read.text)) read.reads.0
     ∙ ap (λ e. finish_model e after) (sym read.reads.1) ∙ finished in
     record {
@@ -87,19 +86,16 @@ model_told problem n left limit end after d read finished =
       answers = sym (ap (λ r. r >>= λ d. Ok (length d.coefs, length d.limits)) stated);
     }
 
+pub model_told : (problem : Problem) (n : ℕ) (left : Option (List ℕ)) (limit end : ℕ) (after d : ModelDraftView)
+    → IsFedReading line_stated left limit (blank_model problem n) after (Ok end) → finish_model end after ≡ Ok d
+    → IsFedAnswer (model_counted problem n) left limit (Ok (length d.coefs, length d.limits))
+model_told problem n left limit end after d read finished = model_finished problem n left limit end after (Ok d) read finished
+
 pub model_lacking : (problem : Problem) (n : ℕ) (left : Option (List ℕ)) (limit end : ℕ) (after : ModelDraftView) (fault : LineFault)
     → IsFedReading line_stated left limit (blank_model problem n) after (Ok end) → finish_model end after ≡ Err fault
     → IsFedAnswer (model_counted problem n) left limit (Err fault)
-unfolding model_counted
 model_lacking problem n left limit end after fault read finished =
-    let stated : model_in problem n read.text ≡ Err fault =
-    ap (λ r. r >>= finish_model (end_of read.text)) read.reads.0
-    ∙ ap (λ e. finish_model e after) (sym read.reads.1) ∙ finished in
-    record {
-      text = read.text;
-      is_text = read.is_text;
-      answers = sym (ap (λ r. r >>= λ d. Ok (length d.coefs, length d.limits)) stated);
-    }
+    model_finished problem n left limit end after (Err fault) read finished
 
 pub model_faulty : (problem : Problem) (n : ℕ) (left : Option (List ℕ)) (limit : ℕ) (after : ModelDraftView) (fault : LineFault)
     → IsFedReading line_stated left limit (blank_model problem n) after (Err fault)

@@ -1,6 +1,6 @@
 -- What the value of a header key states, what it spells, and how the code takes it.
 use Rattle.std.specs.Prelude.{Bool, Err, IfOk, List, Ok, Result, if◌then◌else◌, negsuc, pos, unsigned_abs, ℕ, ℤ, ◌*◌, ◌-ℤ◌, ◌/◌, ◌==◌, ◌^◌, ◌≤ℤ◌}
-use Rattle.std.proofs.Common.{arith, false, refl, subst, sym, true, ◌+◌, ◌<◌, ◌≡◌}
+use Rattle.std.proofs.Common.{ap, arith, false, refl, subst, sym, true, ◌+◌, ◌<◌, ◌∙◌, ◌≡◌}
 use Rattle.std.proofs.lemmas.Bool.{eq-eqb, eqb-true}
 use Rattle.std.proofs.lemmas.Int.{ints}
 use Rattle.std.proofs.lemmas.Slice.Eq.{bytes_eq-Decides}
@@ -18,6 +18,7 @@ use Rattle.minelib_lines.specs.HeaderKeys.{type_text}
 use Rattle.minelib_lines.specs.HeaderTable.{key_field}
 use Rattle.minelib_lines.specs.StatedHeader.{StatedHeader}
 use Rattle.minelib_lines.specs.declared.header_key.HeaderKey.{HeaderKey}
+use Rattle.minelib_lines.specs.declared.header_key.KeyField.{KeyField}
 use Rattle.minelib_lines.specs.declared.header_key.HeaderKey.TheVariants as key
 use Rattle.minelib_lines.specs.declared.problem.Problem.{Problem}
 use Rattle.minelib_reading.proofs.keys.HeaderFacts.{count_there}
@@ -179,3 +180,13 @@ number_taken p n key.Destinations value =
 number_taken p n key.Resources value =
     whole_kept key.Resources n (number_in 0 (pos 0) (pos ((MAX_RESOURCES + 1) * 10 ^ 6) -ℤ pos 1) value) (λ m. refl)
 number_taken p n key.General value = whole_kept key.General n (number_in 0 (pos 0) (pos (1 * 10 ^ 6) -ℤ pos 1) value) (λ m. refl)
+
+-- so what holds of the number that is stated holds of what is made of the millionths of its field
+pub number_holds : (p : Problem) (n : ℕ) (k : HeaderKey) (value : List ℕ) (field : KeyField) (stated r : Result ℕ TextKind) (m : ℕ)
+    (Holds : ℕ → Type 0) → field ≡ key_field k → stated ≡ stated_in p field value → stated ≡ Ok m → r ≡ number_with n k m
+    → IfOk (number_stated p n k value) Holds → IfOk r Holds
+number_holds p n k value field stated r m Holds of_key is read made holds =
+    let same : number_stated p n k value ≡ r =
+    number_taken p n k value
+    ∙ ap (λ r. r >>= number_with n k) (ap (λ field. stated_in p field value) (sym of_key) ∙ sym is ∙ read) ∙ sym made in
+    subst (λ r. IfOk r Holds) same holds

@@ -1,7 +1,7 @@
 -- The kind of a line's fault is that of the first thing that is wrong with it.
 use Rattle.std.specs.Prelude.{Bool, Err, List, Ok, Result, if◌then◌else◌, nat_lt, not, pos, unsigned_abs, ℕ, ℤ, ◌*◌, ◌-ℤ◌, ◌/◌, ◌==◌, ◌^◌, ◌||◌, ◌≢◌}
 use Rattle.std.proofs.Common.{All, [], ap, arith, drop, false, length, refl, true, ◌<◌, ◌∷◌, ◌≡◌}
-use Rattle.std.proofs.lemmas.Bool.{eq-eqb, eqb-false, eqb-true, ne_eqb}
+use Rattle.std.proofs.lemmas.Bool.{eq-eqb, eqb-false, eqb-true, ne_eqb, not-false, not-true}
 use Rattle.std.proofs.lemmas.Bool.Decides.{nat_tests}
 use Rattle.std.proofs.lemmas.List.{nil_from_length}
 use Rattle.pit_units.proofs.Fails.{Fails, fails_behind, fails_here, fails_then, other_fault}
@@ -21,14 +21,6 @@ use Rattle.minelib_reading.specs.ModelText.{section_stated}
 use Rattle.minelib_reading.specs.PrecText.{all_differ, preds_stated, stands_in}
 use Rattle.minelib_reading.specs.declared.model.key.Section.{Section}
 use Rattle.minelib_reading.specs.spelled.SpelledItems.{NumbersThen}
-
-opposite : (t : Bool) → not t ≡ true → t ≡ false
-opposite false e = refl
-opposite true e = absurd cc
-
-opposite_back : (t : Bool) → not t ≡ false → t ≡ true
-opposite_back true e = refl
-opposite_back false e = absurd cc
 
 -- a number has no other fault than a number's
 module _ (kind : TextKind) (no_number : Number ≢ kind) (no_fine : TooFine ≢ kind) (no_range : Range ≢ kind) where
@@ -75,7 +67,7 @@ pub order_fails : (n own : ℕ) (fields : List (List ℕ))
 unfolding preds_stated
 order_fails n own fields =
     numbers_then Order (λ e. absurd cc) (λ e. absurd cc) (λ e. absurd cc) n fields (λ e. absurd cc) (λ id k ids.
-    fails_here _ Order (λ e. eqb-false id own (opposite (id == own) e)) (λ differs. rw (ne_eqb id own differs) refl)
+    fails_here _ Order (λ e. eqb-false id own (not-true (id == own) e)) (λ differs. rw (ne_eqb id own differs) refl)
     (never (k == length ids) (stands_in ids own || not (all_differ ids)) ids))
   where
     never : (counts twice : Bool) (ids : List ℕ)
@@ -89,8 +81,8 @@ pub count_fails : (n own : ℕ) (fields : List (List ℕ))
 unfolding preds_stated
 count_fails n own fields =
     numbers_then Count (λ e. absurd cc) (λ e. absurd cc) (λ e. absurd cc) n fields (λ e. absurd cc) (λ id k ids.
-    fails_behind Order (λ e. absurd cc) (λ e. eqb-true id own (opposite_back (id == own) e)) (λ is. rw (eq-eqb id own is) refl)
-    (fails_here _ Count (λ e. eqb-false k (length ids) (opposite (k == length ids) e)) (λ differs. rw (ne_eqb k (length ids) differs) refl)
+    fails_behind Order (λ e. absurd cc) (λ e. eqb-true id own (not-false (id == own) e)) (λ is. rw (eq-eqb id own is) refl)
+    (fails_here _ Count (λ e. eqb-false k (length ids) (not-true (k == length ids) e)) (λ differs. rw (ne_eqb k (length ids) differs) refl)
     (never (stands_in ids own || not (all_differ ids)) ids)))
   where
     never : (twice : Bool) (ids : List ℕ) → ◌≢◌ {A = Result (List ℕ) TextKind} (if twice then Err Twice else Ok ids) (Err Count)
@@ -112,8 +104,8 @@ twice_fails n own fields = record { told = λ e. to (steps.told e); back = λ h.
     steps : Fails (preds_stated n own fields) Twice Tested
     steps =
         numbers_then Twice (λ e. absurd cc) (λ e. absurd cc) (λ e. absurd cc) n fields (λ e. absurd cc) (λ id k ids.
-        fails_behind Order (λ e. absurd cc) (λ e. eqb-true id own (opposite_back (id == own) e)) (λ is. rw (eq-eqb id own is) refl)
-        (fails_behind Count (λ e. absurd cc) (λ e. eqb-true k (length ids) (opposite_back (k == length ids) e)) (λ is. rw (eq-eqb k (length ids) is) refl)
+        fails_behind Order (λ e. absurd cc) (λ e. eqb-true id own (not-false (id == own) e)) (λ is. rw (eq-eqb id own is) refl)
+        (fails_behind Count (λ e. absurd cc) (λ e. eqb-true k (length ids) (not-false (k == length ids) e)) (λ is. rw (eq-eqb k (length ids) is) refl)
         (fails_here (Ok ids) Twice (λ e. e) (λ e. e) (λ e. absurd cc))))
 
     passes : (ids : List ℕ) → ArePredsOf own n ids → (stands_in ids own || not (all_differ ids)) ≡ true → ⊥
@@ -140,7 +132,7 @@ module _ (d : ModelDraftView) (section : Section) (fields : List (List ℕ)) whe
   pub key_fails : Fails (section_stated d section fields) Key (is_next d.section section ≡ false)
   unfolding section_stated
   key_fails =
-      fails_here _ Key (opposite (is_next d.section section)) (λ e. rw e refl) (never (length fields == 0) (is_ready d d.section))
+      fails_here _ Key (not-true (is_next d.section section)) (λ e. rw e refl) (never (length fields == 0) (is_ready d d.section))
     where
       never : (none ready : Bool) → ◌≢◌ {A = Result ModelDraftView TextKind}
           (if not none then Err Fields else (if not ready then Err Missing else Ok (record d { section = section }))) (Err Key)
@@ -151,8 +143,8 @@ module _ (d : ModelDraftView) (section : Section) (fields : List (List ℕ)) whe
   pub fields_fails : Fails (section_stated d section fields) Fields ((is_next d.section section ≡ true) × (fields ≢ []))
   unfolding section_stated
   fields_fails =
-      fails_behind Key (λ e. absurd cc) (opposite_back (is_next d.section section)) (λ e. rw e refl)
-      (fails_here _ Fields (λ e none. eqb-false (length fields) 0 (opposite (length fields == 0) e) (ap length none))
+      fails_behind Key (λ e. absurd cc) (not-false (is_next d.section section)) (λ e. rw e refl)
+      (fails_here _ Fields (λ e none. eqb-false (length fields) 0 (not-true (length fields == 0) e) (ap length none))
       (λ some. rw (ne_eqb (length fields) 0 (λ e. some (nil_from_length fields e))) refl) (never (is_ready d d.section)))
     where
       never : (ready : Bool) → ◌≢◌ {A = Result ModelDraftView TextKind}
@@ -164,7 +156,7 @@ module _ (d : ModelDraftView) (section : Section) (fields : List (List ℕ)) whe
       ((is_next d.section section ≡ true) × ((fields ≡ []) × (is_ready d d.section ≡ false)))
   unfolding section_stated
   missing_fails =
-      fails_behind Key (λ e. absurd cc) (opposite_back (is_next d.section section)) (λ e. rw e refl)
-      (fails_behind Fields (λ e. absurd cc) (λ e. nil_from_length fields (eqb-true (length fields) 0 (opposite_back (length fields == 0) e)))
+      fails_behind Key (λ e. absurd cc) (not-false (is_next d.section section)) (λ e. rw e refl)
+      (fails_behind Fields (λ e. absurd cc) (λ e. nil_from_length fields (eqb-true (length fields) 0 (not-false (length fields == 0) e)))
       (λ none. rw (eq-eqb (length fields) 0 (ap length none)) refl)
-      (fails_here _ Missing (opposite (is_ready d d.section)) (λ e. rw e refl) (λ e. absurd cc)))
+      (fails_here _ Missing (not-true (is_ready d d.section)) (λ e. rw e refl) (λ e. absurd cc)))
