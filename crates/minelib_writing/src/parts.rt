@@ -1,9 +1,10 @@
 //! Lines that are written part by part, in large slices to a sink.
 
-ghost use Rattle.std.specs.Prelude.{◌≡◌, ◌+◌, ◌<◌, ◌≤◌, ℕ, List, ◌∷◌, ◌++◌, length, take, drop, IfOk, IfErr, OnOk};
+ghost use Rattle.std.specs.Prelude.{◌≡◌, ◌+◌, ◌<◌, ◌≤◌, ℕ, List, ◌∷◌, ◌++◌, length, drop, IfOk, IfErr, OnOk};
 ghost use Rattle.std.specs.List.{concat};
 ghost use Rattle.minelib_lines.specs.Lines.{text_of};
 ghost use Rattle.minelib_writing.specs.inner.KeptParts.{HoldsFrom};
+ghost use Rattle.minelib_writing.specs.inner.Parts.{text_from};
 ghost use Rattle.minelib_writing.specs.declared.parts.TheConstants.{MOST_AT_ONCE};
 ghost use Rattle.devices.specs.sinks.SinkSteps.{refusals, IsAppendCut};
 ghost use Rattle.devices.specs.sinks.Writes.{IsWrittenOn, WritesOn};
@@ -38,7 +39,7 @@ pub trait Parted {
         ensures within { IfOk result (λ n. index + n ≤ length (parts self.now)) }
         ensures few { IfOk result (λ n. n ≤ MOST_AT_ONCE) }
         ensures appended { IfOk result (λ n.
-            out.new.items ≡ out.old.items ++ concat (take n (drop index (parts self.now)))) }
+            out.new.items ≡ out.old.items ++ text_from (parts self.now) index n) }
         ensures kept { IfOk result (λ n. HoldsFrom (kept self.now) index (index + n)) };
 
     /// The parts are the lines, each with its LF.
@@ -79,8 +80,7 @@ fn write_some<S: Sink, L: Parted>(
     ensures some { IfOk result (λ n. 0 < n) }
     ensures within { IfOk result (λ n. index + n ≤ length (L.parts parted.now)) }
     ensures few { IfOk result (λ n. n ≤ MOST_AT_ONCE) }
-    ensures written { IfOk result
-        (λ n. IsWrittenOn (concat (take n (drop index (L.parts parted.now))))
+    ensures written { IfOk result (λ n. IsWrittenOn (text_from (L.parts parted.now) index n)
         buffer.old.items buffer.new.items (S.state sink.old) (S.state sink.new)) }
     ensures refused { IfErr result
         (λ fault. IsAppendCut (refusals fault) (concat (drop index (L.parts parted.now)))

@@ -1,9 +1,10 @@
 //! The lines of predecessors, one for each block.
 
-ghost use Rattle.std.specs.Prelude.{◌≡◌, ◌+◌, ◌<◌, ◌≤◌, ◌^◌, ◌++◌, ◌∷◌, [], All, length, take, drop, slice_index_or, sum_by, IfOk, OnOk};
+ghost use Rattle.std.specs.Prelude.{◌≡◌, ◌+◌, ◌<◌, ◌≤◌, ◌^◌, ◌++◌, ◌∷◌, [], All, length, slice_index_or, sum_by, IfOk, OnOk};
 ghost use Rattle.precedence.specs.IdRuns.{ids_of};
 ghost use Rattle.minelib_lines.specs.Lines.{line_of, lines_from, text_of};
 ghost use Rattle.minelib_writing.specs.Written.{prec_line};
+ghost use Rattle.minelib_writing.specs.inner.Parts.{line_of_preds};
 ghost use Rattle.plan_parts.specs.declared.ranges.TheConstants.{MAX_BLOCKS};
 ghost use Rattle.devices.specs.sinks.Writes.{WritesOn};
 
@@ -74,8 +75,7 @@ fn write_line<S: Sink, M: MadeLists>(
     requires own { id < texts.now }
     requires preds { All (λ pred. pred < texts.now) (slice_index_or (M.lists preds.old) id []) }
     requires room { arcs.old < 2 ^ 127 }
-    ensures writes { WritesOn
-        (text_of (take 1 (drop id (lines_from prec_line 0 (M.lists preds.old)))))
+    ensures writes { WritesOn (line_of_preds (M.lists preds.old) id)
         buffer.old.items buffer.new.items (S.state sink.old) (S.state sink.new) result }
     ensures kept { M.lists preds.new ≡ M.lists preds.old }
     ensures counted { OnOk result
@@ -99,7 +99,7 @@ fn put_line<M: MadeLists>(
     requires own { id < texts.now }
     requires preds { All (λ pred. pred < texts.now) (slice_index_or (M.lists preds.old) id []) }
     ensures text { OnOk result (out.new.items
-        ≡ out.old.items ++ text_of (take 1 (drop id (lines_from prec_line 0 (M.lists preds.old))))) }
+        ≡ out.old.items ++ line_of_preds (M.lists preds.old) id) }
     ensures kept { M.lists preds.new ≡ M.lists preds.old }
     ensures count { IfOk result (λ n. n ≡ length (slice_index_or (M.lists preds.old) id [])) }
     ensures countable { IfOk result (λ n. n < 2 ^ 63) }
