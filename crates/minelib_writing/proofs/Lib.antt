@@ -5,6 +5,7 @@ pub mod CoefFacts
 pub mod FrontGroup
 pub mod KeptFacts
 pub mod LineFacts
+pub mod BlockLines
 pub mod PartsWritten
 pub mod RunCounts
 pub mod SectionsWritten
