@@ -6,7 +6,8 @@ ghost use Rattle.devices.specs.feeds.Feed.{put_back};
 use std::io;
 use thiserror::Error;
 
-/// A device refused to give bytes. Only a device makes one.
+/// A device refused to give bytes. Outside of this crate it is made of an `io::Error`, which any code can make: that a feed refused is what
+/// its `failures` tell.
 #[derive(Clone, Copy, Debug, Error, PartialEq, Eq)]
 #[error("the feed failed")]
 pub struct FeedFault {
@@ -14,7 +15,7 @@ pub struct FeedFault {
 }
 
 impl FeedFault {
-    /// That of a device which the system refused.
+    /// That of a device which this error refused.
     pub fn of(_error: &io::Error) -> FeedFault {
         FeedFault::new()
     }

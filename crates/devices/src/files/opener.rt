@@ -1,15 +1,18 @@
 //! Feeds of files, opened by their paths.
 
-ghost use Rattle.std.specs.Prelude.{◌≡◌, ◌++◌, List, [], ◌∷◌, IfOk, OnErr};
+ghost use Rattle.std.specs.Prelude.{◌≡◌, ◌++◌, List, [], ◌∷◌, IfOk, OnErr, OnOk};
 ghost use Rattle.devices.specs.files.Opening.{Opening, Opened as WasOpened, Unopened};
 
 use crate::feeds::feed::{Feed, FeedFault};
 use crate::feeds::file_feed::FileFeed;
-use crate::files::file_access::FileAccess;
+use crate::files::file_access::{AtPath, FileAccess};
 
 /// Opens files to be read, by their paths, and remembers for contracts which it was asked for.
 pub trait Opener {
-    /// A feed of a file.
+    /// A file that was opened.
+    type File: AtPath;
+
+    /// A feed of one.
     type Opened: Feed + Send + Drop;
 
     /// What it was asked to open so far, in order.
@@ -21,6 +24,7 @@ pub trait Opener {
     ///
     /// The file cannot be opened.
     fn open(&mut self, path: &str) -> Result<Self::Opened, FeedFault>
+        ensures there { OnOk result ((file : Self.File) × (Self.File.path file ≡ path.now)) }
         ensures opened { IfOk result (λ feed. opened self.new
             ≡ opened self.old ++ WasOpened path.now (Self.Opened.left feed) ∷ []) }
         ensures given { IfOk result (λ feed. Self.Opened.given feed ≡ 0) }
@@ -33,11 +37,14 @@ impl<A: FileAccess> Opener for A
 where
     A::File: Send,
 {
+    type File = A::File;
+
     type Opened = FileFeed<A::File>;
 
     ghost opened = { λ files. A.opened files };
 
     fn open(&mut self, path: &str) -> Result<FileFeed<A::File>, FeedFault>
+        ensures there { OnOk result ((file : A.File) × (A.File.path file ≡ path.now)) }
         ensures path { IfOk result (λ feed. feed.path ≡ path.now) }
         ensures opened { IfOk result (λ feed. A.opened self.new
             ≡ A.opened self.old ++ WasOpened path.now feed.left ∷ []) }

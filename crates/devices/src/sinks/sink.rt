@@ -8,7 +8,8 @@ use pit_units::OrMemory;
 use std::io;
 use thiserror::Error;
 
-/// A device refused to take bytes, or to begin. Only a device makes one.
+/// A device refused to take bytes, or to begin. Outside of this crate it is made of an `io::Error`, which any code can make: that a sink
+/// refused is what the `failures` of its state tell.
 #[derive(Clone, Copy, Debug, Error, PartialEq, Eq)]
 #[error("the sink failed")]
 pub struct SinkFault {
@@ -16,7 +17,7 @@ pub struct SinkFault {
 }
 
 impl SinkFault {
-    /// That of a device which the system refused.
+    /// That of a device which this error refused.
     pub fn of(_error: &io::Error) -> SinkFault {
         SinkFault::new()
     }
