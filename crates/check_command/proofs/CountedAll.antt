@@ -1,6 +1,6 @@
 -- Counting one file after the other counts the texts of all.
-use Rattle.std.specs.Prelude.{◌≡◌, ℕ, ◌≤◌, List, [], length, Option, None, Some, IfSome, Result, Ok, Err}
-use Rattle.std.proofs.Common.{refl, ap, arith}
+use Rattle.std.specs.Prelude.{◌≡◌, ℕ, List, length, Option, None, Some, Result, Ok, Err}
+use Rattle.std.proofs.Common.{refl, ap}
 use Rattle.pit_units.specs.Steps.{◌>>=◌}
 use Rattle.minelib_reading.specs.BlockText.{blocks_in}
 use Rattle.minelib_reading.specs.Denotes.{cpit_denoted, denoted}
@@ -10,6 +10,7 @@ use Rattle.minelib_reading.specs.ModelText.{model_in}
 use Rattle.minelib_reading.specs.PrecText.{preds_in}
 use Rattle.minelib_lines.specs.declared.problem.Problem.TheVariants as problem
 use Rattle.plan_parts.specs.declared.block.Block.{Block}
+use Rattle.text_lines.specs.Fed.{IsTextOf}
 use Rattle.text_lines.specs.Reading.{in_file}
 use Rattle.text_lines.specs.declared.text_fault.LineFault.{LineFault}
 use Rattle.text_lines.specs.declared.text_fault.TextFault.{TextFault}
@@ -19,9 +20,9 @@ use Rattle.check_command.specs.Counts.{Texts, counted, cpit_counted}
 use Rattle.check_command.specs.inner.CountSteps.{counted_in, counted_on, no_counts}
 use Rattle.check_command.specs.declared.counts.Counts.{Counts}
 
-module _ (left : Option (List ℕ)) (limit : ℕ) (c : Counts) where
-  pub blocks_told : (answer : Result ℕ LineFault) → IsFedAnswer blocks_counted left limit answer
-      → IsFedAnswer (counted_in Blocks c) left limit (answer >>= λ n. Ok (record c { blocks = n }))
+module _ (left : Option (List ℕ)) (limit gave : ℕ) (c : Counts) where
+  pub blocks_told : (answer : Result ℕ LineFault) → IsFedAnswer blocks_counted left limit gave answer
+      → IsFedAnswer (counted_in Blocks c) left limit gave (answer >>= λ n. Ok (record c { blocks = n }))
   unfolding counted_in
   blocks_told answer fed = record {
     text = fed.text;
@@ -29,8 +30,8 @@ module _ (left : Option (List ℕ)) (limit : ℕ) (c : Counts) where
     answers = ap (λ r. r >>= λ n. Ok (record c { blocks = n })) fed.answers;
   }
 
-  pub arcs_told : (answer : Result ℕ LineFault) → IsFedAnswer (arcs_counted c.blocks) left limit answer
-      → IsFedAnswer (counted_in Prec c) left limit (answer >>= λ arcs. Ok (record c { arcs = arcs }))
+  pub arcs_told : (answer : Result ℕ LineFault) → IsFedAnswer (arcs_counted c.blocks) left limit gave answer
+      → IsFedAnswer (counted_in Prec c) left limit gave (answer >>= λ arcs. Ok (record c { arcs = arcs }))
   unfolding counted_in
   arcs_told answer fed = record {
     text = fed.text;
@@ -38,8 +39,8 @@ module _ (left : Option (List ℕ)) (limit : ℕ) (c : Counts) where
     answers = ap (λ r. r >>= λ arcs. Ok (record c { arcs = arcs })) fed.answers;
   }
 
-  pub model_told : (answer : Result (ℕ × ℕ) LineFault) → IsFedAnswer (model_counted problem.Pcpsp c.blocks) left limit answer
-      → IsFedAnswer (counted_in Pcpsp c) left limit (answer >>= λ x. Ok (record c { coefficients = x.0; limits = x.1 }))
+  pub model_told : (answer : Result (ℕ × ℕ) LineFault) → IsFedAnswer (model_counted problem.Pcpsp c.blocks) left limit gave answer
+      → IsFedAnswer (counted_in Pcpsp c) left limit gave (answer >>= λ x. Ok (record c { coefficients = x.0; limits = x.1 }))
   unfolding counted_in
   model_told answer fed = record {
     text = fed.text;
@@ -47,8 +48,8 @@ module _ (left : Option (List ℕ)) (limit : ℕ) (c : Counts) where
     answers = ap (λ r. r >>= λ x. Ok (record c { coefficients = x.0; limits = x.1 })) fed.answers;
   }
 
-  pub cpit_told : (answer : Result (ℕ × ℕ) LineFault) → IsFedAnswer (model_counted problem.Cpit c.blocks) left limit answer
-      → IsFedAnswer (counted_in Cpit c) left limit (answer >>= λ x. Ok (record c { cpit = Some x.0 }))
+  pub cpit_told : (answer : Result (ℕ × ℕ) LineFault) → IsFedAnswer (model_counted problem.Cpit c.blocks) left limit gave answer
+      → IsFedAnswer (counted_in Cpit c) left limit gave (answer >>= λ x. Ok (record c { cpit = Some x.0 }))
   unfolding counted_in
   cpit_told answer fed = record {
     text = fed.text;
@@ -57,17 +58,16 @@ module _ (left : Option (List ℕ)) (limit : ℕ) (c : Counts) where
   }
 
 -- of a file behind good ones
-pub told : (file : TextFile) (c : Counts) (left : Option (List ℕ)) (limit : ℕ) (answer : Result Counts LineFault)
-    → IsFedAnswer (counted_in file c) left limit answer → IsFedAnswer (counted_on file (Ok c)) left limit (in_file file answer)
+pub told : (file : TextFile) (c : Counts) (left : Option (List ℕ)) (limit gave : ℕ) (answer : Result Counts LineFault)
+    → IsFedAnswer (counted_in file c) left limit gave answer → IsFedAnswer (counted_on file (Ok c)) left limit gave (in_file file answer)
 unfolding counted_on
-told file c left limit answer fed = record { text = fed.text; is_text = fed.is_text; answers = ap (in_file file) fed.answers }
+told file c left limit gave answer fed = record { text = fed.text; is_text = fed.is_text; answers = ap (in_file file) fed.answers }
 
 -- and behind a faulty line
-pub passed : (file : TextFile) (fault : TextFault) (left : Option (List ℕ)) (limit : ℕ) → IfSome left (λ bytes. length bytes ≤ limit)
-    → IsFedAnswer (counted_on file (Err fault)) left limit (Err fault)
+pub passed : (file : TextFile) (fault : TextFault) (left : Option (List ℕ)) (limit gave : ℕ) → (text : List ℕ) × IsTextOf left limit gave text
+    → IsFedAnswer (counted_on file (Err fault)) left limit gave (Err fault)
 unfolding counted_on
-passed file fault None limit short = record { text = []; is_text = record { told = tt; short = omega arith }; answers = refl }
-passed file fault (Some bytes) limit short = record { text = bytes; is_text = record { told = refl; short = short }; answers = refl }
+passed file fault left limit gave went = record { text = went.0; is_text = went.1; answers = refl }
 
 -- the counts of the three files, and then of the fourth where there is one
 abbrev pub counted_three : List ℕ → List ℕ → List ℕ → Result Counts TextFault

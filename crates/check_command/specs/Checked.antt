@@ -27,14 +27,19 @@ module _ (base : List ℕ) where
   IsMissing file old new refused =
       (file ≢ Cpit) × (new ≡ old ++ Unopened (path_of base file) ∷ []) × (refused ≡ FeedFailed (source.Text file))
 
-  -- by what a feed still gives, where it tells that, how many bytes it gave, and how many pulls it refused
-  module _ {F : Type 0} (left : F → Option (List ℕ)) (given failures : F → ℕ) where
+  -- by what a feed still gives, where it tells that, how many bytes it gave, and how many pulls it refused; and by the paths at which files were
+  -- opened
+  module _ {F T : Type 0} (left : F → Option (List ℕ)) (given failures : F → ℕ) (path : T → List ℕ) where
+    -- a file was opened at the path of this one
+    abbrev pub IsThere : TextFile → Type 0
+    IsThere file = (opened : T) × (path opened ≡ path_of base file)
+
     -- the feed of a file that told this when it was opened: it stands behind the bytes that it gave
     abbrev pub IsFeedOf : Option (List ℕ) → F → Type 0
     IsFeedOf told feed = left feed ≡ left_after (given feed) told
 
-    -- of what was opened before and is now: this file was opened, no other, and this is its text, which its feed gave to its end without a
-    -- refused pull
+    -- of what was opened before and is now: this file was opened, no other, and this is its text, as many bytes as its feed gave to its end,
+    -- without a refused pull
     pub record HasText (file : TextFile) (text : List ℕ) (old new : List Opening) : Type 0 where
       pub told : Option (List ℕ)
       pub opened : new ≡ old ++ Opened (path_of base file) told ∷ []
@@ -43,7 +48,9 @@ module _ (base : List ℕ) where
       pub feed : F
       pub of_file : IsFeedOf told feed
       pub ended : IfSome (left feed) (λ bytes. bytes ≡ [])
+      pub whole : given feed ≡ length text
       pub works : failures feed ≡ 0
+      pub there : IsThere file
 
     -- the same, or there is no text and the file could not be opened
     abbrev pub HasTextIfThere : TextFile → Option (List ℕ) → (old new : List Opening) → Type 0
@@ -78,6 +85,7 @@ module _ (base : List ℕ) where
         (told : Option (List ℕ)) × (new ≡ old ++ Opened (path_of base file) told ∷ [])
         × ((feed : F) × IsFeedOf told feed
         × IsUnread (source.Text file) told GREATEST_LIMIT 0 (given feed) 0 (failures feed) refused)
+        × IsThere file
 
     -- the first file that cannot be opened or read, or is too long
     pub record IsUnreadAt (file : TextFile) (old new : List Opening) (refused : Refused) : Type 0 where
@@ -97,18 +105,19 @@ module _ (base : List ℕ) where
     abbrev pub TellsFiles : (old new : List Opening) → (out_old out_new : List ℕ) → Type 0
     TellsFiles old new out_old out_new = (texts : Texts) × AreTexts texts old new × TellsCounts texts out_old out_new
 
-  -- the same of files that were opened, whichever they are
-  abbrev pub TellsOpenedFiles : (out_old out_new : List ℕ) → Type 0
-  TellsOpenedFiles out_old out_new =
+  -- the same of files that were opened at these paths, whatever they hold
+  abbrev pub TellsOpenedFiles : {T : Type 0} → (T → List ℕ) → (out_old out_new : List ℕ) → Type 0
+  TellsOpenedFiles path out_old out_new =
       (opened : List Opening)
-      × TellsFiles (λ (feed : FileFeedView). feed.left) (λ (feed : FileFeedView). feed.given) (λ (feed : FileFeedView). feed.failures) [] opened
-      out_old out_new
+      × TellsFiles (λ (feed : FileFeedView). feed.left) (λ (feed : FileFeedView). feed.given) (λ (feed : FileFeedView). feed.failures) path []
+      opened out_old out_new
 
   -- why such files are not counted
-  abbrev pub IsFoundInOpenedFiles : Refused → Type 0
-  IsFoundInOpenedFiles refused =
+  abbrev pub IsFoundInOpenedFiles : {T : Type 0} → (T → List ℕ) → Refused → Type 0
+  IsFoundInOpenedFiles path refused =
       (opened : List Opening)
-      × IsFoundIn (λ (feed : FileFeedView). feed.left) (λ (feed : FileFeedView). feed.given) (λ (feed : FileFeedView). feed.failures) [] opened refused
+      × IsFoundIn (λ (feed : FileFeedView). feed.left) (λ (feed : FileFeedView). feed.given) (λ (feed : FileFeedView). feed.failures) path []
+      opened refused
 
 -- a check ends with 0 where its counts were told; else with 1, 3 or 4
 abbrev pub IsCheckStatus : ℕ → Type 0

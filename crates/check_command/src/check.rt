@@ -13,8 +13,9 @@ use crate::counts::Counts;
 use command_io::refused::Refused;
 use command_io::refused::fault_line::tell;
 use command_io::refused::source::Source;
+use devices::files::file_access::AtPath;
 use devices::files::opener::Opener;
-use devices::files::system_files::SystemFiles;
+use devices::files::system_files::{SystemFile, SystemFiles};
 use std::alloc::Global;
 use std::rt::Files;
 use text_lines::text_fault::{TextFault, TextFile};
@@ -35,13 +36,13 @@ pub fn check<O: Opener>(
     out: &mut Vec<u8>,
     err: &mut Vec<u8>,
 ) -> u8
-    ensures done { result ≡ 0 → TellsFiles base.now O.Opened.left O.Opened.given
-        O.Opened.failures (O.opened files.old) (O.opened files.new) out.old.items out.new.items }
+    ensures done { result ≡ 0 → TellsFiles base.now O.Opened.left O.Opened.given O.Opened.failures
+        O.File.path (O.opened files.old) (O.opened files.new) out.old.items out.new.items }
     ensures quiet { result ≡ 0 → err.new.items ≡ err.old.items }
     ensures refused { result ≢ 0 → out.new.items ≡ out.old.items }
     ensures status { IsCheckStatus result }
     ensures told { result ≢ 0 → EndsBy (IsFoundIn base.now O.Opened.left O.Opened.given O.Opened.failures
-        (O.opened files.old) (O.opened files.new)) err.old.items err.new.items result }
+        O.File.path (O.opened files.old) (O.opened files.new)) err.old.items err.new.items result }
     ensures memory { result ≡ 4 → err.new.items ≡ err.old.items }
 {
     match tell_counts(alloc, base, files, out) {
@@ -50,7 +51,7 @@ pub fn check<O: Opener>(
     }
 }
 
-/// The same of the files of the system. No contract can say what they hold: what is told is of some files at these paths.
+/// The same of the files of the system, which it opened at these paths. No contract can say what they hold.
 pub fn check_files<R: Files>(
     rt: &R,
     alloc: Global,
@@ -60,11 +61,13 @@ pub fn check_files<R: Files>(
 ) -> u8
 where
     R::File: Send,
-    ensures done { result ≡ 0 → TellsOpenedFiles base.now out.old.items out.new.items }
+    ensures done { result ≡ 0 → TellsOpenedFiles base.now
+        (⟦<SystemFile<R::File> as AtPath>⟧.path) out.old.items out.new.items }
     ensures quiet { result ≡ 0 → err.new.items ≡ err.old.items }
     ensures refused { result ≢ 0 → out.new.items ≡ out.old.items }
     ensures status { IsCheckStatus result }
-    ensures told { result ≢ 0 → EndsBy (IsFoundInOpenedFiles base.now) err.old.items err.new.items result }
+    ensures told { result ≢ 0 → EndsBy (IsFoundInOpenedFiles base.now
+        (⟦<SystemFile<R::File> as AtPath>⟧.path)) err.old.items err.new.items result }
     ensures memory { result ≡ 4 → err.new.items ≡ err.old.items }
 {
     check(alloc, &mut SystemFiles::new(rt), base, out, err)
@@ -77,11 +80,11 @@ fn tell_counts<O: Opener>(
     files: &mut O,
     out: &mut Vec<u8>,
 ) -> Result<(), Refused>
-    ensures counts { OnOk result (TellsFiles base.now O.Opened.left O.Opened.given
-        O.Opened.failures (O.opened files.old) (O.opened files.new) out.old.items out.new.items) }
+    ensures counts { OnOk result (TellsFiles base.now O.Opened.left O.Opened.given O.Opened.failures
+        O.File.path (O.opened files.old) (O.opened files.new) out.old.items out.new.items) }
     ensures kept { OnErr result (out.new.items ≡ out.old.items) }
     ensures fault { IfErr result (IsFoundIn base.now O.Opened.left O.Opened.given O.Opened.failures
-        (O.opened files.old) (O.opened files.new)) }
+        O.File.path (O.opened files.old) (O.opened files.new)) }
 {
     let counts = match count_all(alloc, base, files)? {
         Ok(counts) => counts,
@@ -99,9 +102,9 @@ fn count_all<O: Opener>(
     files: &mut O,
 ) -> Result<Result<Counts, TextFault>, Refused>
     ensures counts { IfOk result (CountsAll base.now O.Opened.left O.Opened.given O.Opened.failures
-        (O.opened files.old) (O.opened files.new)) }
+        O.File.path (O.opened files.old) (O.opened files.new)) }
     ensures fault { IfErr result (IsFoundIn base.now O.Opened.left O.Opened.given O.Opened.failures
-        (O.opened files.old) (O.opened files.new)) }
+        O.File.path (O.opened files.old) (O.opened files.new)) }
 {
     let blocks = count_file(alloc, base, TextFile::Blocks, files, Ok(Counts::new()))?;
     let prec = count_file(alloc, base, TextFile::Prec, files, blocks)?;
@@ -123,11 +126,11 @@ fn count_file<O: Opener>(
     requires needed { file ≢ TextFile.Cpit }
     requires few { IfOk so_far (λ counts. counts.blocks ≤ MAX_BLOCKS) }
     ensures counts { IfOk result
-        (CountsFile base.now O.Opened.left O.Opened.given O.Opened.failures
+        (CountsFile base.now O.Opened.left O.Opened.given O.Opened.failures O.File.path
         file so_far (O.opened files.old) (O.opened files.new)) }
     ensures few { IfOk result (λ answer. IfOk answer (λ counts. counts.blocks ≤ MAX_BLOCKS)) }
-    ensures fault { IfErr result (λ refused. FailsIn base.now O.Opened.left O.Opened.given O.Opened.failures file
-        (O.opened files.old) (O.opened files.new) refused
+    ensures fault { IfErr result (λ refused. FailsIn base.now O.Opened.left O.Opened.given O.Opened.failures
+        O.File.path file (O.opened files.old) (O.opened files.new) refused
         ⊎ (IsMissing base.now file (O.opened files.old) (O.opened files.new) refused
         ⊎ (refused ≡ Run OutOfMemory))) }
 {
@@ -148,12 +151,12 @@ fn count_if_there<O: Opener>(
 ) -> Result<Option<Result<Counts, TextFault>>, Refused>
     requires few { IfOk so_far (λ counts. counts.blocks ≤ MAX_BLOCKS) }
     ensures counts { IfOk result
-        (CountsIfThere base.now O.Opened.left O.Opened.given O.Opened.failures
+        (CountsIfThere base.now O.Opened.left O.Opened.given O.Opened.failures O.File.path
         file so_far (O.opened files.old) (O.opened files.new)) }
     ensures few { IfOk result (λ found. IfSome found (λ answer. IfOk answer
         (λ counts. counts.blocks ≤ MAX_BLOCKS))) }
-    ensures fault { IfErr result (λ refused. FailsIn base.now O.Opened.left O.Opened.given O.Opened.failures file
-        (O.opened files.old) (O.opened files.new) refused ⊎ (refused ≡ Run OutOfMemory)) }
+    ensures fault { IfErr result (λ refused. FailsIn base.now O.Opened.left O.Opened.given O.Opened.failures
+        O.File.path file (O.opened files.old) (O.opened files.new) refused ⊎ (refused ≡ Run OutOfMemory)) }
 {
     let path = format!(in alloc; "{base}.{file}")?;
     match files.open(path.as_str()) {

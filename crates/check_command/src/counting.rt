@@ -34,7 +34,8 @@ pub fn count_on<F: Feed>(
 
     // What an answer tells of the text.
     ensures counts { IfOk result
-        (IsFedAnswer (counted_on file so_far) (F.left feed.old) GREATEST_LIMIT) }
+        (IsFedAnswer (counted_on file so_far) (F.left feed.old) GREATEST_LIMIT
+        (F.given feed.new - F.given feed.old)) }
     ensures few { IfOk result (λ answer. IfOk answer (λ counts. counts.blocks ≤ MAX_BLOCKS)) }
 
     // The feed is used up then, and refused no pull.
@@ -73,7 +74,8 @@ fn count_in<F: Feed>(
 
     // What an answer tells of the text.
     ensures counts { IfOk result
-        (IsFedAnswer (counted_in file counts) (F.left feed.old) GREATEST_LIMIT) }
+        (IsFedAnswer (counted_in file counts) (F.left feed.old) GREATEST_LIMIT
+        (F.given feed.new - F.given feed.old)) }
     ensures few { IfOk result (λ answer. IfOk answer (λ counts. counts.blocks ≤ MAX_BLOCKS)) }
 
     // The feed is used up then, and refused no pull.

@@ -8,10 +8,10 @@ use Rattle.minelib_reading.specs.ModelText.{model_in}
 use Rattle.minelib_reading.specs.PrecText.{preds_in}
 use Rattle.minelib_lines.specs.declared.problem.Problem.{Problem}
 
--- what a rule answers of the text of a feed
-pub record IsFedAnswer {A : Type 0} (rule : List ℕ → A) (left : Option (List ℕ)) (limit : ℕ) (answer : A) : Type 0 where
+-- what a rule answers of the text of a feed, which gave so many bytes
+pub record IsFedAnswer {A : Type 0} (rule : List ℕ → A) (left : Option (List ℕ)) (limit gave : ℕ) (answer : A) : Type 0 where
   pub text : List ℕ
-  pub is_text : IsTextOf left limit text
+  pub is_text : IsTextOf left limit gave text
   pub answers : answer ≡ rule text
 
 -- the number of blocks that a text states

@@ -31,7 +31,8 @@ pub fn count_blocks<F: Feed>(alloc: Global, feed: &mut F, limit: u64) -> FedResu
     requires { limit ≤ GREATEST_LIMIT }
 
     // What an answer tells of the text.
-    ensures counts { IfOk result (IsFedAnswer blocks_counted (F.left feed.old) limit) }
+    ensures counts { IfOk result (IsFedAnswer blocks_counted (F.left feed.old) limit
+        (F.given feed.new - F.given feed.old)) }
     ensures few { IfOk result (λ answer. IfOk answer (λ blocks. blocks ≤ MAX_BLOCKS)) }
 
     // The feed is used up then, and refused no pull.
@@ -70,7 +71,8 @@ pub fn count_arcs<F: Feed>(
     requires limit { limit ≤ GREATEST_LIMIT }
 
     // What an answer tells of the text.
-    ensures counts { IfOk result (IsFedAnswer (arcs_counted blocks) (F.left feed.old) limit) }
+    ensures counts { IfOk result (IsFedAnswer (arcs_counted blocks) (F.left feed.old) limit
+        (F.given feed.new - F.given feed.old)) }
 
     // The feed is used up then, and refused no pull.
     ensures used_up { OnOk result (IfSome (F.left feed.new) (λ bytes. bytes ≡ [])) }
@@ -114,7 +116,8 @@ pub fn count_model<F: Feed>(
 
     // What an answer tells of the text.
     ensures counts { IfOk result
-        (IsFedAnswer (model_counted problem blocks) (F.left feed.old) limit) }
+        (IsFedAnswer (model_counted problem blocks) (F.left feed.old) limit
+        (F.given feed.new - F.given feed.old)) }
 
     // The feed is used up then, and refused no pull.
     ensures used_up { OnOk result (IfSome (F.left feed.new) (λ bytes. bytes ≡ [])) }

@@ -7,7 +7,7 @@ use Rattle.devices.proofs.Giving.{put_back-append}
 use Rattle.pit_units.specs.declared.or_memory.OrMemory.{OrMemory}
 use Rattle.pit_units.specs.declared.or_memory.OrMemory.TheVariants.{Fault, OutOfMemory}
 use Rattle.pit_units.specs.Steps.{◌>>=◌}
-use Rattle.text_lines.specs.Fed.{IsFedReading}
+use Rattle.text_lines.specs.Fed.{IsFedReading, IsTextOf}
 use Rattle.text_lines.specs.Reading.{Leaves, read_lines}
 use Rattle.text_lines.specs.TextLines.{end_of, lines_in, lines_of, numbered_lines}
 use Rattle.text_lines.specs.declared.text_fault.LineFault.{LineFault}
@@ -55,9 +55,16 @@ short_told None new text limit gave none short = tt
 short_told (Some all) new text limit gave none short = rw (sym (text_told (Some all) new text gave none)) short
 
 -- a text that went by
-pub passed : (limit : ℕ) (old new : Option (List ℕ)) → GaveAll (limit + 1) old new
+pub passed : (limit gave : ℕ) (old new : Option (List ℕ)) → GaveAll (limit + 1) gave old new
     → IfSome old (λ bytes. length bytes ≤ limit) × IfSome new (λ bytes. bytes ≡ [])
-passed limit old new all = (short_told old new all.bytes limit all.left all.none (omega (arith, all.few)), all.none)
+passed limit gave old new all = (short_told old new all.bytes limit all.left all.none (omega (arith, all.few)), all.none)
+
+pub passed_text : (limit gave : ℕ) (old new : Option (List ℕ)) → GaveAll (limit + 1) gave old new
+    → (text : List ℕ) × IsTextOf old limit gave text
+passed_text limit gave old new all = (
+  all.bytes,
+  record { told = text_told old new all.bytes all.left all.none; short = omega (arith, all.few); whole = all.count },
+)
 
 pub too_many : (limit : ℕ) (old new : Option (List ℕ)) → Gave (limit + 1) old new → IfSome old (λ bytes. limit < length bytes)
 too_many limit old new gave = long_told old new gave.bytes limit gave.left (omega (arith, gave.count))
@@ -195,40 +202,51 @@ unfolding end_to_come
 last_end w count all = rw (append-nil w.held, take_all count w.held all) refl
 
 -- the text has ended, and its last lines are those that are held
-pub read_whole : {S : Type 0} (admit : S → List ℕ → Result S TextKind) (before now after : S) (w : WaitingView) (rest limit : ℕ)
+pub read_whole : {S : Type 0} (admit : S → List ℕ → Result S TextKind) (before now after : S) (w : WaitingView) (rest limit gave : ℕ)
     (old new : Option (List ℕ)) (answer : Result ℕ LineFault) → SoFar admit before now w rest (limit + 1) old new → 0 < rest
-    → IfSome new (λ bytes. bytes ≡ []) → IsLastReading admit now after w answer → IsFedReading admit old limit before after answer
-read_whole admit before now after w rest limit old new (Ok end) so some none last = record {
+    → gave + rest ≡ limit + 1 → IfSome new (λ bytes. bytes ≡ []) → IsLastReading admit now after w answer
+    → IsFedReading admit old limit gave before after answer
+read_whole admit before now after w rest limit gave old new (Ok end) so some counts none last = record {
   text = so.text;
-  is_text = record { told = text_told old new so.text so.gave none; short = omega (arith, so.count, some) };
+  is_text = record {
+    told = text_told old new so.text so.gave none;
+    short = omega (arith, so.count, some);
+    whole = omega (arith, so.count, counts);
+  };
   reads = (
     ap (λ bytes. read_lines admit before (lines_in bytes)) (sym (append-nil so.text)) ∙ so.reads [] ∙ last.0,
     last.1 ∙ sym (so.ends []) ∙ ap end_of (append-nil so.text),
   );
 }
-read_whole admit before now after w rest limit old new (Err fault) so some none last = record {
+read_whole admit before now after w rest limit gave old new (Err fault) so some counts none last = record {
   text = so.text;
-  is_text = record { told = text_told old new so.text so.gave none; short = omega (arith, so.count, some) };
+  is_text = record {
+    told = text_told old new so.text so.gave none;
+    short = omega (arith, so.count, some);
+    whole = omega (arith, so.count, counts);
+  };
   reads = ap (λ bytes. read_lines admit before (lines_in bytes)) (sym (append-nil so.text)) ∙ so.reads [] ∙ last;
 }
 
 -- a line is faulty, and the rest of the text went by
-pub read_faulty : {S : Type 0} (admit : S → List ℕ → Result S TextKind) (before now after : S) (w : WaitingView) (rest limit : ℕ)
+pub read_faulty : {S : Type 0} (admit : S → List ℕ → Result S TextKind) (before now after : S) (w : WaitingView) (rest limit more gave : ℕ)
     (old left new : Option (List ℕ)) (fault : LineFault) → SoFar admit before now w rest (limit + 1) old left
-    → IsFaulty admit now w fault → GaveAll rest left new → IsFedReading admit old limit before after (Err fault)
-read_faulty admit before now after w rest limit old left new fault so bad all = record {
+    → IsFaulty admit now w fault → GaveAll rest more left new → gave + rest ≡ limit + 1 + more
+    → IsFedReading admit old limit gave before after (Err fault)
+read_faulty admit before now after w rest limit more gave old left new fault so bad all counts = record {
   text = so.text ++ all.bytes;
   is_text = record {
     told = text_told old new (so.text ++ all.bytes) (so.gave ∙ ap (put_back so.text) all.left ∙ put_back-append so.text all.bytes new) all.none;
     short = rw (length-append so.text all.bytes) (omega (arith, so.count, all.few));
+    whole = rw (length-append so.text all.bytes) (omega (arith, so.count, all.count, counts));
   };
   reads = so.reads all.bytes ∙ bad all.bytes;
 }
 
-pub last_told : {S : Type 0} (admit : S → List ℕ → Result S TextKind) (before now after : S) (w : WaitingView) (rest limit : ℕ)
+pub last_told : {S : Type 0} (admit : S → List ℕ → Result S TextKind) (before now after : S) (w : WaitingView) (rest limit gave : ℕ)
     (old new : Option (List ℕ)) (result : Result (Result ℕ LineFault) SlurpFault) → SoFar admit before now w rest (limit + 1) old new → 0 < rest
-    → IfSome new (λ bytes. bytes ≡ []) → IfOk result (IsLastReading admit now after w)
-    → IfOk result (IsFedReading admit old limit before after)
-last_told admit before now after w rest limit old new (Ok answer) so some none last =
-    read_whole admit before now after w rest limit old new answer so some none last
-last_told admit before now after w rest limit old new (Err fault) so some none last = tt
+    → gave + rest ≡ limit + 1 → IfSome new (λ bytes. bytes ≡ []) → IfOk result (IsLastReading admit now after w)
+    → IfOk result (IsFedReading admit old limit gave before after)
+last_told admit before now after w rest limit gave old new (Ok answer) so some counts none last =
+    read_whole admit before now after w rest limit gave old new answer so some counts none last
+last_told admit before now after w rest limit gave old new (Err fault) so some counts none last = tt

@@ -1,10 +1,10 @@
 //! Reading the lines of a text while a feed gives it.
 
-ghost use Rattle.std.specs.Prelude.{◌≡◌, ◌≢◌, ◌+◌, ◌-◌, ◌≤◌, Err, [], length, IfOk, IfErr, OnOk, IfSome, IsTrue};
+ghost use Rattle.std.specs.Prelude.{◌≡◌, ◌≢◌, ◌+◌, ◌-◌, ◌≤◌, ℕ, List, Err, [], length, IfOk, IfErr, OnOk, IfSome, IsTrue};
 ghost use Rattle.devices.specs.feeds.FeedSteps.{left_after};
 ghost use Rattle.devices.specs.declared.feeds.slurp.SlurpFault.TheVariants as SlurpFault;
 ghost use Rattle.devices.specs.declared.feeds.slurp.TheConstants.{GREATEST_LIMIT};
-ghost use Rattle.text_lines.specs.Fed.{FailsAsFed, IsFedReading};
+ghost use Rattle.text_lines.specs.Fed.{FailsAsFed, IsFedReading, IsTextOf};
 
 use crate::line_by_line::Admit;
 use crate::text_fault::LineFault;
@@ -38,7 +38,8 @@ pub fn read_fed<S: Admit, F: Feed>(
 
     // What an answer says of the text, and that the feed is used up then.
     ensures read { IfOk result
-        (IsFedReading S.admit_line (F.left feed.old) limit state.old state.new) }
+        (IsFedReading S.admit_line (F.left feed.old) limit (F.given feed.new - F.given feed.old)
+        state.old state.new) }
     ensures used_up { OnOk result (IfSome (F.left feed.new) (λ bytes. bytes ≡ [])) }
     ensures within { OnOk result (F.given feed.new ≤ F.given feed.old + limit) }
     ensures works { OnOk result (F.failures feed.new ≡ F.failures feed.old) }
@@ -83,11 +84,13 @@ pub fn read_fed<S: Admit, F: Feed>(
 /// # Errors
 ///
 /// Those of `read_fed`, with `OutOfMemory` where the first bytes have no room.
-#[tactic(auto, using(crate::proofs::FedSteps::passed, crate::proofs::FedSteps::too_many))]
+#[tactic(auto, using(crate::proofs::FedSteps::passed, crate::proofs::FedSteps::passed_text, crate::proofs::FedSteps::too_many))]
 pub fn pass_text<F: Feed>(alloc: Global, feed: &mut F, limit: u64) -> Result<(), SlurpFault>
     requires { limit ≤ GREATEST_LIMIT }
 
-    // On success the text was within the limit, and the feed is used up.
+    // On success the text was within the limit, and the feed gave it whole, and is used up.
+    ensures text { OnOk result ((text : List ℕ)
+        × IsTextOf (F.left feed.old) limit (F.given feed.new - F.given feed.old) text) }
     ensures short { OnOk result (IfSome (F.left feed.old) (λ bytes. length bytes ≤ limit)) }
     ensures used_up { OnOk result (IfSome (F.left feed.new) (λ bytes. bytes ≡ [])) }
     ensures within { OnOk result (F.given feed.new ≤ F.given feed.old + limit) }

@@ -106,7 +106,8 @@ impl Waiting {
         requires room { most ≤ GREATEST_LIMIT + 1 }
 
         // On success the feed gave all that it had.
-        ensures all { OnOk result (GaveAll most (F.left feed.old) (F.left feed.new)) }
+        ensures all { OnOk result (GaveAll most (F.given feed.new - F.given feed.old)
+            (F.left feed.old) (F.left feed.new)) }
         ensures within { OnOk result (F.given feed.new < F.given feed.old + most) }
         ensures works { OnOk result (F.failures feed.new ≡ F.failures feed.old) }
 

@@ -8,10 +8,10 @@ use Rattle.check_command.specs.Counts.{Texts, counted}
 use Rattle.check_command.specs.declared.counts.Counts.{Counts}
 use Rattle.check_command.specs.inner.CountSteps.{counted_on}
 
-module _ (base : List ℕ) {F : Type 0} (left : F → Option (List ℕ)) (given failures : F → ℕ) where
+module _ (base : List ℕ) {F T : Type 0} (left : F → Option (List ℕ)) (given failures : F → ℕ) (path : T → List ℕ) where
   -- this is counted of the text of the file, behind those before
   abbrev pub CountsFile : TextFile → Result Counts TextFault → (old new : List Opening) → Result Counts TextFault → Type 0
-  CountsFile file so_far old new answer = (text : List ℕ) × HasText base left given failures file text old new × (answer ≡ counted_on file so_far text)
+  CountsFile file so_far old new answer = (text : List ℕ) × HasText base left given failures path file text old new × (answer ≡ counted_on file so_far text)
 
   -- the same, or the file cannot be opened
   abbrev pub CountsIfThere : TextFile → Result Counts TextFault → (old new : List Opening) → Option (Result Counts TextFault) → Type 0
@@ -20,4 +20,4 @@ module _ (base : List ℕ) {F : Type 0} (left : F → Option (List ℕ)) (given 
 
   -- this is counted of the texts of the files
   abbrev pub CountsAll : (old new : List Opening) → Result Counts TextFault → Type 0
-  CountsAll old new answer = (texts : Texts) × AreTexts base left given failures texts old new × (counted texts ≡ answer)
+  CountsAll old new answer = (texts : Texts) × AreTexts base left given failures path texts old new × (counted texts ≡ answer)

@@ -64,9 +64,10 @@ pub record Held (n : ℕ) (old new : WaitingView) (left_old left_new : Option (L
   pub held : new.held ≡ old.held ++ bytes
   pub left : left_old ≡ put_back bytes left_new
 
--- a feed gave fewer bytes than these, and has none left, as far as it tells
-pub record GaveAll (most : ℕ) (left_old left_new : Option (List ℕ)) : Type 0 where
+-- a feed gave so many bytes, fewer than these, and has none left, as far as it tells
+pub record GaveAll (most gave : ℕ) (left_old left_new : Option (List ℕ)) : Type 0 where
   pub bytes : List ℕ
+  pub count : length bytes ≡ gave
   pub few : length bytes < most
   pub left : left_old ≡ put_back bytes left_new
   pub none : IfSome left_new (λ rest. rest ≡ [])

@@ -22,8 +22,9 @@ returns-then-count-eq0-clause-read g c =
     let zero : n ≡ 0 = c.if-count-eq0.true in
     let so = held_more admit c.args.state.now c.loop-rest.state c.loop-rest.waiting c.pull.new.self c.loop-rest.rest (c.loop-rest.rest - n) n
     (c.args.limit + 1) _ _ _ c.loop-rest.invariant.so_far held (omega (arith, c.in_ok-count.ensures.within)) in
-    last_told admit c.args.state.now c.loop-rest.state c.take_last.new.state c.pull.new.self (c.loop-rest.rest - n) c.args.limit _ _
+    last_told admit c.args.state.now c.loop-rest.state c.take_last.new.state c.pull.new.self (c.loop-rest.rest - n) c.args.limit _ _ _
     c.take_last.result so (omega (arith, zero, c.loop-rest-test.true))
+    (omega (arith, zero, c.loop-rest.invariant.counts, c.loop-rest.invariant.so_far.count, c.in_ok-count.ensures.counts))
     (none_after _ _ held.bytes held.left (held.count ∙ zero) (c.in_ok-count.ensures.end zero)) c.take_last.ensures.read
 
 pub loop-rest-preserved : goal.loop-rest-preserved
@@ -51,8 +52,16 @@ returns-in-Err-Fault-clause-read g c =
     let n = c.in_ok-count.count in
     let so = held_more admit c.args.state.now c.loop-rest.state c.loop-rest.waiting c.pull.new.self c.loop-rest.rest (c.loop-rest.rest - n) n
     (c.args.limit + 1) _ _ _ c.loop-rest.invariant.so_far c.in_ok-count.ensures.held (omega (arith, c.in_ok-count.ensures.within)) in
-    read_faulty admit c.args.state.now c.loop-rest.state c.take_ended.new.state c.pull.new.self (c.loop-rest.rest - n) c.args.limit _ _ _
+    read_faulty admit c.args.state.now c.loop-rest.state c.take_ended.new.state c.pull.new.self (c.loop-rest.rest - n) c.args.limit _ _ _ _ _
     c.in-Err-Fault.fault so (rw c.in-Err-Fault.field-0-is at c.in-Err-Fault.ensures.takes) c.in_ok-pass-in-Err-Fault.ensures.all
+    (omega (
+      arith,
+      c.loop-rest.invariant.counts,
+      c.loop-rest.invariant.so_far.count,
+      c.in_ok-count.ensures.counts,
+      c.in_ok-count.ensures.within,
+      c.pass.ensures.onward,
+    ))
 
 pub take_ended-requires-clause-front : goal.take_ended-requires-clause-front
 take_ended-requires-clause-front g c =
