@@ -8,11 +8,11 @@ use Rattle.std.proofs.Math.Bool.{or-false}
 use Rattle.rows.specs.declared.item.Item.{Item}
 use Rattle.rows.specs.declared.item.Item.TheVariants.{Row, End}
 use Rattle.rows.specs.declared.item.Valued.{Valued}
-use Rattle.collector.specs.inner.Shelves.{slot, file_of, ArePut, IsShelved, IsKept}
+use Rattle.collector.specs.inner.Shelves.{slot, file_of, AreStored, IsShelved, IsKept}
 use Rattle.collector.specs.Fault.{is_after, fault}
 use Rattle.collector.specs.Found.{row_at, end_at, has_past}
 use Rattle.collector.specs.inner.WithAt.{with_at}
-use Rattle.collector.proofs.Slots.{eqb-other, slot-put, slot-kept}
+use Rattle.collector.proofs.Slots.{eqb-other, slot-store, slot-kept}
 use Rattle.collector.proofs.WithAt.{length-with_at}
 
 -- with one item more, the first look-up that finds something answers
@@ -85,7 +85,7 @@ shelved-row held file rows end v kept same single in_places before = record {
       ∙ ⊎_elim
       (λ here. else-first _ _ (subst (λ (p : ℕ). is_some (row_at file p held) ≡ false) here single)
       ∙ found v file place same here
-      ∙ sym (subst (λ (p : ℕ). slot (with_at rows v.place v) p ≡ Some v) here (slot-put rows v)))
+      ∙ sym (subst (λ (p : ℕ). slot (with_at rows v.place v) p ≡ Some v) here (slot-store rows v)))
       (λ differs. ap (λ o. cond (is_some (row_at file place held)) (row_at file place held) o)
       (not_found v file place same differs)
       ∙ else-none (row_at file place held) ∙ kept.row place ∙ sym (slot-kept rows v place differs))
@@ -135,45 +135,45 @@ shelved-other held file rows end (End f count) kept differs = record {
 
 -- one item more, which has no fault
 pub kept_more : (files : ℕ) (held : List Item) (rows rows' : ℕ → List Valued) (ends ends' : ℕ → Option ℕ) (item : Item) →
-    IsKept files held rows ends → fault files held item ≡ None → ArePut item rows ends rows' ends' →
+    IsKept files held rows ends → fault files held item ≡ None → AreStored item rows ends rows' ends' →
     IsKept files (held ++ item ∷ []) rows' ends'
-kept_more files held rows rows' ends ends' (Row v) kept sound put =
+kept_more files held rows rows' ends ends' (Row v) kept sound store =
     let clear = no-fault (is_some (row_at v.file v.place held)) (leb files v.file || leb 1000000 v.place)
     (is_after (end_at v.file held) v.place) _ _ _ sound in
     let inside = or_parts (leb files v.file) (leb 1000000 v.place) clear.1 in
     let in_files : v.file < files = leb-false files v.file inside.0 in
     let in_places : v.place < 1000000 = leb-false 1000000 v.place inside.1 in
     let here : (file : ℕ) → v.file ≡ file → rows' file ≡ with_at (rows file) v.place v
-    = λ file e. put.0 file ∙ cond-true (eqb v.file file) _ _ (eq-eqb v.file file e) in
+    = λ file e. store.0 file ∙ cond-true (eqb v.file file) _ _ (eq-eqb v.file file e) in
     let elsewhere : (file : ℕ) → (v.file ≡ file → ⊥) → rows' file ≡ rows file
-    = λ file differs. put.0 file ∙ cond-false (eqb v.file file) _ _ (eqb-other v.file file differs) in
+    = λ file differs. store.0 file ∙ cond-false (eqb v.file file) _ _ (eqb-other v.file file differs) in
     record {
       outside = λ file past. elsewhere file (λ e. omega arith) ∙ kept.outside file past;
       shelved = λ file. ⊎_elim
-          (λ same. rw (here file same, put.1 file)
+          (λ same. rw (here file same, store.1 file)
           (shelved-row held file (rows file) (ends file) v (kept.shelved file) same
           (subst (λ (f : ℕ). is_some (row_at f v.place held) ≡ false) same clear.0) in_places
           (ap (λ o. is_after o v.place) (sym (kept.shelved file).ended)
           ∙ subst (λ (f : ℕ). is_after (end_at f held) v.place ≡ false) same clear.2)))
-          (λ differs. rw (elsewhere file differs, put.1 file)
+          (λ differs. rw (elsewhere file differs, store.1 file)
           (shelved-other held file (rows file) (ends file) (Row v) (kept.shelved file) differs))
           (cases_eq v.file file);
     }
-kept_more files held rows rows' ends ends' (End f count) kept sound put =
+kept_more files held rows rows' ends ends' (End f count) kept sound store =
     let clear = no-fault (leb files f) (is_some (end_at f held)) (ltb 1000000 count || has_past f count held) _ _ _ sound in
     let allowed = or_parts (ltb 1000000 count) (has_past f count held) clear.2 in
     let here : (file : ℕ) → f ≡ file → ends' file ≡ Some count
-    = λ file e. put.1 file ∙ cond-true (eqb f file) _ _ (eq-eqb f file e) in
+    = λ file e. store.1 file ∙ cond-true (eqb f file) _ _ (eq-eqb f file e) in
     let elsewhere : (file : ℕ) → (f ≡ file → ⊥) → ends' file ≡ ends file
-    = λ file differs. put.1 file ∙ cond-false (eqb f file) _ _ (eqb-other f file differs) in
+    = λ file differs. store.1 file ∙ cond-false (eqb f file) _ _ (eqb-other f file differs) in
     record {
-      outside = λ file past. put.0 file ∙ kept.outside file past;
+      outside = λ file past. store.0 file ∙ kept.outside file past;
       shelved = λ file. ⊎_elim
-          (λ same. rw (put.0 file, here file same)
+          (λ same. rw (store.0 file, here file same)
           (shelved-end held file f count (rows file) (ends file) (kept.shelved file) same
           (subst (λ (g : ℕ). is_some (end_at g held) ≡ false) same clear.1)
           (subst (λ (g : ℕ). has_past g count held ≡ false) same allowed.1)))
-          (λ differs. rw (put.0 file, elsewhere file differs)
+          (λ differs. rw (store.0 file, elsewhere file differs)
           (shelved-other held file (rows file) (ends file) (End f count) (kept.shelved file) differs))
           (cases_eq f file);
     }

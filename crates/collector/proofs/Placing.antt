@@ -7,10 +7,10 @@ use Rattle.std.proofs.lemmas.List.{length-map, take_more}
 use Rattle.std.proofs.lemmas.List.Elements.{All-append, All-cons, All-nil, All-tail}
 use Rattle.std.proofs.lemmas.Option.{get_or_from_slice_get, none-some, same_Some, slice_get-get_or, slice_get-map, slice_get_within}
 use Rattle.collector.specs.Complete.{Fits}
-use Rattle.collector.specs.inner.Places.{spots_in, IsPut, IsPutAs, IsPlaced, AreFew}
+use Rattle.collector.specs.inner.Places.{spots_in, IsStored, IsStoredAs, IsPlaced, AreFew}
 use Rattle.collector.specs.inner.WithAt.{with_at}
 use Rattle.collector.proofs.Slots.{eqb-other}
-use Rattle.collector.proofs.WithAt.{get-kept, get-put, length-put}
+use Rattle.collector.proofs.WithAt.{get-kept, get-store, length-store}
 use Rattle.rows.specs.ItemsView.{items_in, PackedView}
 use Rattle.rows.specs.Packed.{mark_of, row_in, row_of, row_on}
 use Rattle.rows.specs.declared.item.Item.{Item}
@@ -26,33 +26,33 @@ spot-found lists None w e = absurd (none-some w e)
 spot-found lists (Some s) w e = (s, refl, e)
 
 -- one row more is put at its place
-module _ (lists : List (List Item)) (old new : List (List SpotView)) (file place : ℕ) (s : SpotView) (put : IsPut file place s old new) where
+module _ (lists : List (List Item)) (old new : List (List SpotView)) (file place : ℕ) (s : SpotView) (store : IsStored file place s old new) where
   own : spots_in new file ≡ with_at (spots_in old file) place s
-  own = put file ∙ cond-true (eqb file file) _ _ (eq-eqb file file refl)
+  own = store file ∙ cond-true (eqb file file) _ _ (eq-eqb file file refl)
 
   other-file : (f : ℕ) → (file ≡ f → ⊥) → spots_in new f ≡ spots_in old f
-  other-file f differs = put f ∙ cond-false (eqb file f) _ _ (eqb-other file f differs)
+  other-file f differs = store f ∙ cond-false (eqb file f) _ _ (eqb-other file f differs)
 
   abbrev pub found : (f p : ℕ) → Type 0
   found f p = (w : Valued) × (option_and_then (row_on lists) (slice_get (spots_in new f) p) ≡ Some w) × (w.file ≡ f) × (w.place ≡ p)
 
-  pub put-placed : (v : Valued) → row_on lists s ≡ Some v → v.file ≡ file → v.place ≡ place → found file place
-  put-placed v at f p = (
+  pub store-placed : (v : Valued) → row_on lists s ≡ Some v → v.file ≡ file → v.place ≡ place → found file place
+  store-placed v at f p = (
     v,
     ap (λ xs. option_and_then (row_on lists) (slice_get xs place)) own
-        ∙ ap (option_and_then (row_on lists)) (get-put (spots_in old file) place s) ∙ at,
+        ∙ ap (option_and_then (row_on lists)) (get-store (spots_in old file) place s) ∙ at,
     f,
     p,
   )
 
-  pub put-kept : (v : Valued) → row_on lists s ≡ Some v → v.file ≡ file → v.place ≡ place → (item : Item)
+  pub store-kept : (v : Valued) → row_on lists s ≡ Some v → v.file ≡ file → v.place ≡ place → (item : Item)
       → IsPlaced lists old item → IsPlaced lists new item
-  put-kept v at f p (End n count) was = tt
-  put-kept v at f p (Row u) was =
+  store-kept v at f p (End n count) was = tt
+  store-kept v at f p (Row u) was =
       let there = spot-found lists (slice_get (spots_in old u.file) u.place) was.0 was.1 in
       let within = slice_get_within (spots_in old u.file) u.place there.0 there.1 in
       ⊎_elim (λ same. ⊎_elim (λ here.
-      subst (λ (k : ℕ). found k u.place) same (subst (λ (k : ℕ). found file k) here (put-placed v at f p)))
+      subst (λ (k : ℕ). found k u.place) same (subst (λ (k : ℕ). found file k) here (store-placed v at f p)))
       (λ elsewhere. (
         was.0,
         ap (λ xs. option_and_then (row_on lists) (slice_get xs u.place))
@@ -72,11 +72,11 @@ module _ (lists : List (List Item)) (old new : List (List SpotView)) (file place
       ))
       (cases_eq file u.file)
 
-  pub put-few : (counts : ℕ → ℕ) → place < counts file → AreFew counts old → AreFew counts new
-  put-few counts below few f =
+  pub store-few : (counts : ℕ → ℕ) → place < counts file → AreFew counts old → AreFew counts new
+  store-few counts below few f =
       ⊎_elim (λ same. subst (λ (k : ℕ). length (spots_in new k) ≤ counts k) same
       (subst (λ (xs : List SpotView). length xs ≤ counts file) (sym own)
-      (length-put (spots_in old file) place (counts file) s (few file) below)))
+      (length-store (spots_in old file) place (counts file) s (few file) below)))
       (λ differs. subst (λ (xs : List SpotView). length xs ≤ counts f) (sym (other-file f differs)) (few f))
       (cases_eq file f)
 
@@ -106,21 +106,21 @@ on-list lists l p s item is_list is_position within at =
 
 -- the item is put as it is marked
 module _ (lists : List (List Item)) (old new : List (List SpotView)) (s : SpotView) where
-  pub item-placed : (item : Item) → row_on lists s ≡ row_in item → IsPutAs (mark_of item) s old new → IsPlaced lists new item
-  item-placed (Row v) at put = put-placed lists old new v.file v.place s put v at refl refl
-  item-placed (End f n) at put = tt
+  pub item-placed : (item : Item) → row_on lists s ≡ row_in item → IsStoredAs (mark_of item) s old new → IsPlaced lists new item
+  item-placed (Row v) at store = store-placed lists old new v.file v.place s store v at refl refl
+  item-placed (End f n) at store = tt
 
-  pub item-kept : (item : Item) → row_on lists s ≡ row_in item → IsPutAs (mark_of item) s old new → (other : Item)
+  pub item-kept : (item : Item) → row_on lists s ≡ row_in item → IsStoredAs (mark_of item) s old new → (other : Item)
       → IsPlaced lists old other → IsPlaced lists new other
-  item-kept (Row v) at put other was = put-kept lists old new v.file v.place s put v at refl refl other was
-  item-kept (End f n) at put (End g m) was = tt
-  item-kept (End f n) at put (Row u) was =
-      (was.0, ap (λ xs. option_and_then (row_on lists) (slice_get xs u.place)) (put u.file) ∙ was.1, was.2, was.3)
+  item-kept (Row v) at store other was = store-kept lists old new v.file v.place s store v at refl refl other was
+  item-kept (End f n) at store (End g m) was = tt
+  item-kept (End f n) at store (Row u) was =
+      (was.0, ap (λ xs. option_and_then (row_on lists) (slice_get xs u.place)) (store u.file) ∙ was.1, was.2, was.3)
 
-  pub item-few : (files : ℕ) (counts : ℕ → ℕ) (item : Item) → Fits files counts item → IsPutAs (mark_of item) s old new
+  pub item-few : (files : ℕ) (counts : ℕ → ℕ) (item : Item) → Fits files counts item → IsStoredAs (mark_of item) s old new
       → AreFew counts old → AreFew counts new
-  item-few files counts (Row v) fits put few = put-few lists old new v.file v.place s put counts fits.1 few
-  item-few files counts (End f n) fits put few = λ file. subst (λ (xs : List SpotView). length xs ≤ counts file) (sym (put file)) (few file)
+  item-few files counts (Row v) fits store few = store-few lists old new v.file v.place s store counts fits.1 few
+  item-few files counts (End f n) fits store few = λ file. subst (λ (xs : List SpotView). length xs ≤ counts file) (sym (store file)) (few file)
 
 -- one item more of a list
 pub all-next : (P : Item → Type 0) (items : List Item) (i : ℕ) (item : Item) → slice_get items i ≡ Some item → P item → All P (take i items)

@@ -7,7 +7,7 @@ use Rattle.std.specs.Option.{option_and_then, unwrap_or, option_map}
 use Rattle.std.proofs.lemmas.Option.{slice_get_read}
 use Rattle.rows.specs.declared.item.Valued.{Valued}
 use Rattle.collector.specs.declared.shelf.Shelf.{Shelf}
-use Rattle.collector.specs.inner.Shelves.{rows_on_shelf, end_on_shelf, row_fault, end_fault, item_fault, ArePut, IsKept}
+use Rattle.collector.specs.inner.Shelves.{rows_on_shelf, end_on_shelf, row_fault, end_fault, item_fault, AreStored, IsKept}
 use Rattle.collector.specs.Fault.{fault}
 use Rattle.collector.specs.CollectorView.{CollectorView}
 use Rattle.collector.proofs.Kept.{kept_more}
@@ -28,13 +28,13 @@ end_fault-at shelves file count s within read =
     ∙ ap (λ o. end_fault (unwrap_or (option_map (λ (t : Shelf). t.rows) o) []) (option_and_then (λ (t : Shelf). t.end) o) count) found)
 
 -- one item more, as the shelves are written back
-pub kept-put : (held after : List Item) (item : Item) (old new lent back : List Shelf) (view : CollectorView) →
+pub kept-store : (held after : List Item) (item : Item) (old new lent back : List Shelf) (view : CollectorView) →
     record { files = length old; items = held } ≡ view → (length old ≤ 255) × IsKept (length old) held (rows_on_shelf old) (end_on_shelf old) →
-    None ≡ fault view.files view.items item → lent ≡ old → ArePut item (rows_on_shelf lent) (end_on_shelf lent) (rows_on_shelf new) (end_on_shelf new) →
+    None ≡ fault view.files view.items item → lent ≡ old → AreStored item (rows_on_shelf lent) (end_on_shelf lent) (rows_on_shelf new) (end_on_shelf new) →
     length new ≡ length lent → after ≡ held ++ item ∷ [] → back ≡ new →
     (length back ≤ 255) × IsKept (length back) after (rows_on_shelf back) (end_on_shelf back)
-kept-put held after item old new lent back view is_view kept sound is_old put same is_after is_back =
-    let put_old = rw is_old at put in
+kept-store held after item old new lent back view is_view kept sound is_old store same is_after is_back =
+    let put_old = rw is_old at store in
     let same_old : length new ≡ length old = same ∙ ap length is_old in
     let sound_old : fault (length old) held item ≡ None
     = sym (subst (λ (v : CollectorView). None ≡ fault v.files v.items item) (sym is_view) sound) in

@@ -7,7 +7,7 @@ use Rattle.std.proofs.lemmas.Option.{slice_get_past}
 use Rattle.rows.specs.declared.item.Valued.{Valued}
 use Rattle.collector.specs.inner.Shelves.{if_at, slot}
 use Rattle.collector.specs.inner.WithAt.{with_at}
-use Rattle.collector.proofs.WithAt.{get-kept, get-new, get-put}
+use Rattle.collector.proofs.WithAt.{get-kept, get-new, get-store}
 
 pub eqb-other : (a b : ℕ) → (a ≡ b → ⊥) → eqb a b ≡ false
 eqb-other a b differs = false_from_ne_true (eqb a b) (λ e. differs (eqb-true a b e))
@@ -25,8 +25,8 @@ pub slot-past : (rows : List Valued) (place : ℕ) → length rows ≤ place →
 slot-past rows place past = ap (option_and_then (if_at place)) (slice_get_past rows place past)
 
 -- the row that was put, at its place
-pub slot-put : (rows : List Valued) (v : Valued) → slot (with_at rows v.place v) v.place ≡ Some v
-slot-put rows v = slot-at (with_at rows v.place v) v.place v (get-put rows v.place v) ∙ if_at-same v v.place refl
+pub slot-store : (rows : List Valued) (v : Valued) → slot (with_at rows v.place v) v.place ≡ Some v
+slot-store rows v = slot-at (with_at rows v.place v) v.place v (get-store rows v.place v) ∙ if_at-same v v.place refl
 
 -- and what the other places had: a place that is filled by a row of another place is as empty as before
 pub slot-kept : (rows : List Valued) (v : Valued) (place : ℕ) → (v.place ≡ place → ⊥)

@@ -51,12 +51,12 @@ length-with_at xs place x =
     ))
     (cases_lt place (length xs))
 
-pub length-put : {A : Type 0} (xs : List A) (place most : ℕ) (x : A) → length xs ≤ most → place < most → length (with_at xs place x) ≤ most
-length-put xs place most x few below = ⊎_elim (λ h. omega (arith, h.1)) (λ h. omega (arith, h.1)) (length-with_at xs place x)
+pub length-store : {A : Type 0} (xs : List A) (place most : ℕ) (x : A) → length xs ≤ most → place < most → length (with_at xs place x) ≤ most
+length-store xs place most x few below = ⊎_elim (λ h. omega (arith, h.1)) (λ h. omega (arith, h.1)) (length-with_at xs place x)
 
 -- the element that was put
-pub get-put : {A : Type 0} (xs : List A) (place : ℕ) (x : A) → slice_get (with_at xs place x) place ≡ Some x
-get-put xs place x =
+pub get-store : {A : Type 0} (xs : List A) (place : ℕ) (x : A) → slice_get (with_at xs place x) place ≡ Some x
+get-store xs place x =
     ⊎_elim (λ within. ap (λ ys. slice_get ys place) (with_within xs place x within) ∙ get-set_same xs place x within)
     (λ past. ap (λ ys. slice_get ys place) (with_past xs place x past) ∙ get-filled xs x (place + 1 - length xs) place past (omega arith))
     (cases_lt place (length xs))

@@ -1,7 +1,7 @@
 //! What is held of all files.
 
 ghost use Rattle.std.specs.Prelude.{◌≡◌, ℕ, ◌<◌, ◌≤◌, ◌++◌, [], ◌∷◌, length, map, if◌then◌else◌, ◌==◌, Some, Err, IfOk, IfErr, IfSome, IfNone, OnOk, OnErr};
-ghost use Rattle.collector.specs.inner.Shelves.{rows_on_shelf, end_on_shelf, item_fault, file_of, ArePut, AreSame, IsFilled, IsFirstLacking};
+ghost use Rattle.collector.specs.inner.Shelves.{rows_on_shelf, end_on_shelf, item_fault, file_of, AreStored, AreSame, IsFilled, IsFirstLacking};
 ghost use Rattle.collector.specs.inner.WithAt.{with_at};
 ghost use Rattle.collector.specs.Fault.{fault};
 ghost use Rattle.collector.specs.Lists.{AreLists, IsFinishFault};
@@ -75,7 +75,7 @@ impl Collector {
         if let Some(why) = self.fault_of(&item) {
             return Err(why);
         }
-        put_item(&mut self.shelves, &item)?;
+        store_item(&mut self.shelves, &item)?;
         self.history = self.history.with(&item);
         Ok(())
     }
@@ -120,25 +120,25 @@ fn fault_on(shelves: &[Shelf], item: &Item) -> Option<AddFault>
 }
 
 // Puts an item on the shelf of its file. The shelves stay as they were where memory is refused.
-fn put_item(shelves: &mut [Shelf], item: &Item) -> Result<(), AllocError>
+fn store_item(shelves: &mut [Shelf], item: &Item) -> Result<(), AllocError>
     requires { file_of item.now < length shelves.old }
-    ensures ok { OnOk result (ArePut item.now (rows_on_shelf shelves.old) (end_on_shelf shelves.old)
+    ensures ok { OnOk result (AreStored item.now (rows_on_shelf shelves.old) (end_on_shelf shelves.old)
         (rows_on_shelf shelves.new) (end_on_shelf shelves.new)) }
     ensures err { OnErr result (AreSame (rows_on_shelf shelves.old) (end_on_shelf shelves.old)
         (rows_on_shelf shelves.new) (end_on_shelf shelves.new)) }
     ensures count { length shelves.new ≡ length shelves.old }
 {
     match item {
-        Item::Row(row) => put_row(shelves, row),
+        Item::Row(row) => store_row(shelves, row),
         Item::End { file, rows } => {
-            put_end(shelves, *file, *rows);
+            store_end(shelves, *file, *rows);
             Ok(())
         }
     }
 }
 
 // Puts a row on the shelf of its file. The shelves stay as they were where memory is refused.
-fn put_row(shelves: &mut [Shelf], row: &Valued) -> Result<(), AllocError>
+fn store_row(shelves: &mut [Shelf], row: &Valued) -> Result<(), AllocError>
     requires { row.now.file < length shelves.old }
     ensures rows { OnOk result ((file : ℕ) → rows_on_shelf shelves.new file
         ≡ (if row.now.file == file then with_at (rows_on_shelf shelves.old file) row.now.place row.now else rows_on_shelf
@@ -147,11 +147,11 @@ fn put_row(shelves: &mut [Shelf], row: &Valued) -> Result<(), AllocError>
     ensures ends { (file : ℕ) → end_on_shelf shelves.new file ≡ end_on_shelf shelves.old file }
     ensures count { length shelves.new ≡ length shelves.old }
 {
-    shelves[row.file as usize].put_row(row)
+    shelves[row.file as usize].store_row(row)
 }
 
 // Puts an end mark on the shelf of its file.
-fn put_end(shelves: &mut [Shelf], file: u8, count: u32)
+fn store_end(shelves: &mut [Shelf], file: u8, count: u32)
     requires { file < length shelves.old }
     ensures rows { (other : ℕ) → rows_on_shelf shelves.new other ≡ rows_on_shelf shelves.old other }
     ensures ends { (other : ℕ) → end_on_shelf shelves.new other

@@ -3,11 +3,11 @@
 #![tactic(auto)]
 
 mod add_fault;
+mod by_place;
 mod collector;
 pub mod laws;
 mod missing;
 mod ordering;
-mod places;
 mod shelf;
 
 pub use add_fault::AddFault;

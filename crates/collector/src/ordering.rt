@@ -4,14 +4,14 @@ ghost use Rattle.std.specs.Prelude.{◌≡◌, ℕ, ◌<◌, ◌≤◌, [], All,
 ghost use Rattle.std.specs.List.{flat_map};
 ghost use Rattle.collector.specs.Complete.{Fits, IsComplete};
 ghost use Rattle.collector.specs.Lists.{AreRows};
-ghost use Rattle.collector.specs.inner.Places.{AreFew, IsOfFile, IsPlaced, IsPut, IsPutAs, items_on};
+ghost use Rattle.collector.specs.inner.Places.{AreFew, IsOfFile, IsPlaced, IsStored, IsStoredAs, items_on};
 ghost use Rattle.rows.specs.ItemsView.{items_in};
 ghost use Rattle.rows.specs.Packed.{mark_of};
 ghost use Rattle.plan_parts.specs.declared.ranges.TheConstants.{MAX_VALUERS, MAX_ZONES};
 ghost use Rattle.rows.specs.declared.item.Item.{Item as AnItem};
 ghost use Rattle.rows.specs.declared.spot.TheConstants.{LISTS, POSITIONS};
 
-use crate::places::Places;
+use crate::by_place::ByPlace;
 use rows::{Mark, PackedItems, RowLists, Spot};
 use std::alloc::{AllocError, Global};
 
@@ -24,24 +24,24 @@ pub fn in_order(alloc: Global, files: u8, lists: Vec<PackedItems>) -> Result<Row
     ensures { IfOk result (AreRows files (flat_map (λ list. list) (items_in lists.items))) }
 {
     let mut places = no_places(alloc, files)?;
-    put_lists(&mut places, &lists)?;
+    store_lists(&mut places, &lists)?;
     let spots = all_spots(alloc, places)?;
     Ok(RowLists::new(lists, spots))
 }
 
 // No places of any of so many files.
-fn no_places(alloc: Global, files: u8) -> Result<Vec<Places<Spot>>, AllocError>
+fn no_places(alloc: Global, files: u8) -> Result<Vec<ByPlace<Spot>>, AllocError>
     ensures { IfOk result (λ places. places.items ≡ replicate files []) }
 {
     let mut places = Vec::with_capacity(alloc, files as usize)?;
     for _ in 0..files {
-        places.push(Places::new(alloc))?;
+        places.push(ByPlace::new(alloc))?;
     }
     Ok(places)
 }
 
 // Puts the rows of all lists at their places.
-fn put_lists(places: &mut [Places<Spot>], lists: &[PackedItems]) -> Result<(), AllocError>
+fn store_lists(places: &mut [ByPlace<Spot>], lists: &[PackedItems]) -> Result<(), AllocError>
     requires few { length lists.now ≤ MAX_VALUERS }
     requires short { length (flat_map (λ list. list) (items_in lists.now)) ≤ POSITIONS }
     requires files { All (λ item. IsOfFile (length places.old) (mark_of item)) (flat_map (λ list. list) (items_in lists.now)) }
@@ -53,13 +53,17 @@ fn put_lists(places: &mut [Places<Spot>], lists: &[PackedItems]) -> Result<(), A
     ensures count { length places.new ≡ length places.old }
 {
     for list in 0..lists.len() {
-        put_list(places, lists, list as u8)?;
+        store_list(places, lists, list as u8)?;
     }
     Ok(())
 }
 
 // Puts the rows of a list at their places. What stood at a place is still a row of that place.
-fn put_list(places: &mut [Places<Spot>], lists: &[PackedItems], list: u8) -> Result<(), AllocError>
+fn store_list(
+    places: &mut [ByPlace<Spot>],
+    lists: &[PackedItems],
+    list: u8,
+) -> Result<(), AllocError>
     requires there { list < length lists.now }
     requires told { list < LISTS }
     requires short { length (items_on (items_in lists.now) list) ≤ POSITIONS }
@@ -74,34 +78,39 @@ fn put_list(places: &mut [Places<Spot>], lists: &[PackedItems], list: u8) -> Res
     let items = &lists[list as usize];
     for position in 0..items.len() {
         let mark = items.mark_at(position);
-        put_marked(places, mark, Spot::new(list, position as u32))?;
+        store_marked(places, mark, Spot::new(list, position as u32))?;
     }
     Ok(())
 }
 
 // Puts the row that is marked so at this spot; an end mark is put nowhere.
-fn put_marked(places: &mut [Places<Spot>], mark: Mark, spot: Spot) -> Result<(), AllocError>
+fn store_marked(places: &mut [ByPlace<Spot>], mark: Mark, spot: Spot) -> Result<(), AllocError>
     requires { IsOfFile (length places.old) mark }
-    ensures put { OnOk result (IsPutAs mark spot places.old places.new) }
+    ensures stored { OnOk result (IsStoredAs mark spot places.old places.new) }
     ensures count { length places.new ≡ length places.old }
 {
     match mark {
-        Mark::Row { file, place } => put_row(places, file, place, spot),
+        Mark::Row { file, place } => store_row(places, file, place, spot),
         Mark::End { .. } => Ok(()),
     }
 }
 
 // Puts the row of a file and a place at this spot.
-fn put_row(places: &mut [Places<Spot>], file: u8, place: u32, spot: Spot) -> Result<(), AllocError>
+fn store_row(
+    places: &mut [ByPlace<Spot>],
+    file: u8,
+    place: u32,
+    spot: Spot,
+) -> Result<(), AllocError>
     requires { file < length places.old }
-    ensures put { OnOk result (IsPut file place spot places.old places.new) }
+    ensures stored { OnOk result (IsStored file place spot places.old places.new) }
     ensures count { length places.new ≡ length places.old }
 {
-    places[file as usize].put(place, spot)
+    places[file as usize].store(place, spot)
 }
 
 // The spots of all files, one file's behind those of the file before it. Those of each file are freed once they are copied.
-fn all_spots(alloc: Global, places: Vec<Places<Spot>>) -> Result<Vec<Spot>, AllocError>
+fn all_spots(alloc: Global, places: Vec<ByPlace<Spot>>) -> Result<Vec<Spot>, AllocError>
     ensures { IfOk result (λ spots. spots.items ≡ flat_map (λ of_file. of_file) places.items) }
 {
     let mut spots = Vec::new(alloc);

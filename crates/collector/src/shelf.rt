@@ -6,7 +6,7 @@ ghost use Rattle.collector.specs.inner.WithAt.{with_at};
 ghost use Rattle.plan_parts.specs.declared.ranges.TheConstants.{MAX_ROWS};
 
 use crate::add_fault::AddFault;
-use crate::places::Places;
+use crate::by_place::ByPlace;
 use plan_parts::ranges::MAX_ROWS;
 use rows::Valued;
 use std::alloc::{AllocError, Global};
@@ -15,7 +15,7 @@ use std::alloc::{AllocError, Global};
 #[derive(Drop)]
 pub struct Shelf {
     /// The rows, each at its place.
-    pub rows: Places<Valued>,
+    pub rows: ByPlace<Valued>,
     /// The count of the end mark, if that is held.
     pub end: Option<u32>,
 }
@@ -27,7 +27,7 @@ impl Shelf {
         ensures end { result.end ≡ None }
     {
         Shelf {
-            rows: Places::new(alloc),
+            rows: ByPlace::new(alloc),
             end: None,
         }
     }
@@ -61,12 +61,12 @@ impl Shelf {
     }
 
     /// Puts a row at its place. The shelf stays as it was where memory is refused.
-    pub fn put_row(&mut self, row: &Valued) -> Result<(), AllocError>
+    pub fn store_row(&mut self, row: &Valued) -> Result<(), AllocError>
         ensures ok { OnOk result (self.new.rows ≡ with_at self.old.rows row.now.place row.now) }
         ensures err { OnErr result (self.new.rows ≡ self.old.rows) }
         ensures end { self.new.end ≡ self.old.end }
     {
-        self.rows.put(row.place, *row)
+        self.rows.store(row.place, *row)
     }
 
     /// The least place with no row, or `None` where each place below the end mark's count has its row.

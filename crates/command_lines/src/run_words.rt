@@ -60,13 +60,13 @@ fn settings_in(found: &ArgMatches<'_>) -> Option<Settings>
         ((settings : ASettings) → FindsSettings (rows_of (found_of found.now)) settings → ⊥)
         (FindsSettings (rows_of (found_of found.now))) }
 {
-    let valuers = number_in(found, "valuers", MAX_VALUERS)?;
-    let capacity = number_in(found, "capacity", MAX_CAPACITY)?;
+    let valuers = number_of_argument(found, "valuers", MAX_VALUERS)?;
+    let capacity = number_of_argument(found, "capacity", MAX_CAPACITY)?;
     Some(Settings { valuers, capacity })
 }
 
 // The number from 1 to `most` that clap found for an argument.
-fn number_in(found: &ArgMatches<'_>, id: &str, most: usize) -> Option<usize>
+fn number_of_argument(found: &ArgMatches<'_>, id: &str, most: usize) -> Option<usize>
     ensures { MatchOption result
         ((n : ℕ) → FindsNumber (rows_of (found_of found.now)) id.now most n → ⊥)
         (FindsNumber (rows_of (found_of found.now)) id.now most) }

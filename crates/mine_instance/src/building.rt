@@ -138,13 +138,13 @@ fn values_by(
     let mut own = Vec::new(alloc);
     for position in numbering.positions() {
         own.clear();
-        put_values(&mut own, rows[*position as usize].worths.as_slice())?;
+        push_values(&mut own, rows[*position as usize].worths.as_slice())?;
         values.push(own.as_slice())?;
     }
     Ok(values)
 }
 
-fn put_values(own: &mut Vec<Dec>, worths: &[i128]) -> Result<(), AllocError>
+fn push_values(own: &mut Vec<Dec>, worths: &[i128]) -> Result<(), AllocError>
     requires { All IsWorth worths.now }
     ensures { OnOk result (own.new.items ≡ own.old.items ++ map in_hundreds worths.now) }
 {
@@ -161,12 +161,12 @@ fn coefs_at(alloc: Global, pairs: &[Covering], blocks: &[Block]) -> Result<Coefs
 {
     let mut coefs = Vec::new(alloc);
     for (id, block) in blocks.iter().enumerate() {
-        put_coefs(&mut coefs, id as u32, block, pairs)?;
+        push_coefs(&mut coefs, id as u32, block, pairs)?;
     }
     Ok(Coefs::new(coefs))
 }
 
-fn put_coefs(
+fn push_coefs(
     coefs: &mut Vec<Coef>,
     b: u32,
     block: &Block,
@@ -193,12 +193,12 @@ fn covered_pairs(alloc: Global, plan: &Plan) -> Result<Vec<Covering>, AllocError
 {
     let mut pairs = Vec::new(alloc);
     for destination in 0..plan.formulas().len() {
-        put_covering(&mut pairs, plan.resources(), destination as u8)?;
+        push_covering(&mut pairs, plan.resources(), destination as u8)?;
     }
     Ok(pairs)
 }
 
-fn put_covering(
+fn push_covering(
     pairs: &mut Vec<Covering>,
     resources: &[Resource],
     destination: u8,
@@ -208,12 +208,12 @@ fn put_covering(
         ≡ pairs.old.items ++ covering resources.now destination) }
 {
     for (number, resource) in resources.iter().enumerate() {
-        put_if_covers(pairs, resource, number as u8, destination)?;
+        push_if_covers(pairs, resource, number as u8, destination)?;
     }
     Ok(())
 }
 
-fn put_if_covers(
+fn push_if_covers(
     pairs: &mut Vec<Covering>,
     resource: &Resource,
     number: u8,

@@ -71,14 +71,14 @@ fn chosen_of<C: CoefList, V: ValueList>(
     while from < coefs.len() {
         let group = coefs.group(from);
         let destination = values.of_block(group.b as usize).first_greatest();
-        put_at(&mut chosen, &group, destination)?;
+        push_at(&mut chosen, &group, destination)?;
         from += group.pairs.len();
     }
     Ok(chosen)
 }
 
 // Those of a group at a destination.
-fn put_at(chosen: &mut Vec<Coef>, group: &CoefGroup, destination: usize) -> Result<(), AllocError>
+fn push_at(chosen: &mut Vec<Coef>, group: &CoefGroup, destination: usize) -> Result<(), AllocError>
     ensures { OnOk result (chosen.new.items ≡ chosen.old.items
         ++ map at_only_destination (filter (λ coef. coef.d == destination) (coefs_in group.now))) }
 {

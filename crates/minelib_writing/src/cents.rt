@@ -20,7 +20,7 @@ const ROOM: usize = POINT + LONGEST;
 
 /// Appends a byte and the shortest text of so many cents in units of 100 cents behind it. They are not made a decimal first.
 #[inline(always)]
-pub fn put_cents_behind(out: &mut Vec<u8>, before: u8, cents: i64) -> Result<(), AllocError>
+pub fn append_cents_behind(out: &mut Vec<u8>, before: u8, cents: i64) -> Result<(), AllocError>
     ensures text { OnOk result
         (out.new.items ≡ out.old.items ++ before ∷ shortest (in_hundreds cents)) }
     ensures kept { IsInDecimalRange (in_hundreds cents) }

@@ -16,7 +16,7 @@ const ROOM: usize = 2 * DIGITS + 1;
 
 /// Appends a text and the byte that ends it.
 #[inline(always)]
-pub fn put_text(out: &mut Vec<u8>, text: &[u8], end: u8) -> Result<(), AllocError>
+pub fn append_text(out: &mut Vec<u8>, text: &[u8], end: u8) -> Result<(), AllocError>
     ensures { OnOk result (out.new.items ≡ out.old.items ++ (text.now ++ end ∷ [])) }
 {
     out.extend_from_slice(text)?;
@@ -27,7 +27,7 @@ pub fn put_text(out: &mut Vec<u8>, text: &[u8], end: u8) -> Result<(), AllocErro
 /// Appends a whole number.
 #[inline(always)]
 #[tactic(auto, using(crate::proofs::numbers::OneDigit::one_digit))]
-pub fn put_whole(out: &mut Vec<u8>, number: u64) -> Result<(), AllocError>
+pub fn append_whole(out: &mut Vec<u8>, number: u64) -> Result<(), AllocError>
     ensures { OnOk result (out.new.items ≡ out.old.items ++ decimal number) }
 {
     if number < 10 {
@@ -41,11 +41,11 @@ pub fn put_whole(out: &mut Vec<u8>, number: u64) -> Result<(), AllocError>
 
 /// Appends a whole number and the byte that ends it.
 #[inline(always)]
-pub fn put_whole_to(out: &mut Vec<u8>, number: u64, end: u8) -> Result<(), AllocError>
+pub fn append_whole_to(out: &mut Vec<u8>, number: u64, end: u8) -> Result<(), AllocError>
     ensures { OnOk result (out.new.items ≡ out.old.items ++ (decimal number ++ end ∷ [])) }
 {
     if number < 10 {
-        put_whole(out, number)?;
+        append_whole(out, number)?;
         out.push(end)?;
         return Ok(());
     }
@@ -68,16 +68,16 @@ fn write_number(room: &mut [u8], number: u64) -> usize
 
 /// Appends a byte and a whole number behind it.
 #[inline(always)]
-pub fn put_whole_behind(out: &mut Vec<u8>, before: u8, number: u64) -> Result<(), AllocError>
+pub fn append_whole_behind(out: &mut Vec<u8>, before: u8, number: u64) -> Result<(), AllocError>
     ensures { OnOk result (out.new.items ≡ out.old.items ++ before ∷ decimal number) }
 {
     out.push(before)?;
-    put_whole(out, number)
+    append_whole(out, number)
 }
 
 /// Appends the shortest text of a decimal and the byte that ends it.
 #[inline(always)]
-pub fn put_decimal_to(
+pub fn append_decimal_to(
     alloc: Global,
     out: &mut Vec<u8>,
     number: Dec,
@@ -93,7 +93,7 @@ pub fn put_decimal_to(
 
 /// Appends a byte and the shortest text of a decimal behind it.
 #[inline(always)]
-pub fn put_decimal_behind(
+pub fn append_decimal_behind(
     alloc: Global,
     out: &mut Vec<u8>,
     before: u8,

@@ -5,7 +5,7 @@ ghost use Rattle.precedence.specs.IdRuns.{ids_of, ids_of_run};
 ghost use Rattle.minelib_writing.specs.inner.Spaced.{spaced};
 ghost use Rattle.plan_parts.specs.declared.ranges.TheConstants.{MAX_BLOCKS};
 
-use crate::fields::put_whole_behind;
+use crate::fields::append_whole_behind;
 use precedence::IdRun;
 use std::alloc::{AllocError, Global};
 use std::marker::Model;
@@ -40,7 +40,7 @@ impl IdText {
         let mut starts = Vec::with_capacity(alloc, count + 1)?;
         starts.push(0)?;
         for id in 0..count {
-            put_whole_behind(&mut text, b' ', id as u64)?;
+            append_whole_behind(&mut text, b' ', id as u64)?;
             starts.push(text.len() as u32)?;
         }
         Ok(IdText { text, starts })
@@ -48,42 +48,42 @@ impl IdText {
 
     /// Appends an identifier.
     #[inline(always)]
-    pub fn put_one(&self, out: &mut Vec<u8>, id: u32) -> Result<(), AllocError>
+    pub fn append_one(&self, out: &mut Vec<u8>, id: u32) -> Result<(), AllocError>
         requires { id < self.now }
         ensures { OnOk result (out.new.items ≡ out.old.items ++ decimal id) }
     {
         let index = id as usize;
         let start = self.starts[index] as usize;
         let end = self.starts[index + 1] as usize;
-        out.extend_from_slice(part(self.text.as_slice(), start + 1, end))
+        out.extend_from_slice(bytes_between(self.text.as_slice(), start + 1, end))
     }
 
     /// Appends the identifiers of runs, each behind a space.
     #[inline(always)]
-    pub fn put(&self, out: &mut Vec<u8>, runs: &[IdRun]) -> Result<(), AllocError>
+    pub fn append(&self, out: &mut Vec<u8>, runs: &[IdRun]) -> Result<(), AllocError>
         requires { All (λ id. id < self.now) (ids_of runs.now) }
         ensures { OnOk result (out.new.items ≡ out.old.items ++ spaced (ids_of runs.now)) }
     {
         for run in runs {
-            self.put_run(out, *run)?;
+            self.append_run(out, *run)?;
         }
         Ok(())
     }
 
     #[inline(always)]
-    fn put_run(&self, out: &mut Vec<u8>, run: IdRun) -> Result<(), AllocError>
+    fn append_run(&self, out: &mut Vec<u8>, run: IdRun) -> Result<(), AllocError>
         requires { run.first + run.len ≤ self.now }
         ensures { OnOk result (out.new.items ≡ out.old.items ++ spaced (ids_of_run run)) }
     {
         let first = run.first as usize;
         let start = self.starts[first] as usize;
         let end = self.starts[first + run.len as usize] as usize;
-        out.extend_from_slice(part(self.text.as_slice(), start, end))
+        out.extend_from_slice(bytes_between(self.text.as_slice(), start, end))
     }
 }
 
 #[inline(always)]
-fn part(text: &[u8], start: usize, end: usize) -> &[u8]
+fn bytes_between(text: &[u8], start: usize, end: usize) -> &[u8]
     requires in_order { start ≤ end }
     requires within { end ≤ length text.now }
     ensures { result.now ≡ take (end - start) (drop start text.now) }

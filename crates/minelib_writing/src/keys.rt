@@ -6,7 +6,7 @@ ghost use Rattle.minelib_lines.specs.HeaderTable.{key_line, key_lines};
 ghost use Rattle.minelib_lines.specs.Lines.{text_of};
 ghost use Rattle.devices.specs.sinks.Writes.{WritesOn};
 
-use crate::fields::{put_decimal_to, put_text, put_whole_to};
+use crate::fields::{append_decimal_to, append_text, append_whole_to};
 use devices::sinks::sink::Sink;
 use devices::sinks::slices::flush_full;
 use devices::sinks::write_fault::WriteFault;
@@ -26,12 +26,12 @@ pub fn write_keys<S: Sink>(
     ensures { WritesOn (text_of (key_lines (text_in values.now) keys.now))
         buffer.old.items buffer.new.items (S.state sink.old) (S.state sink.new) result }
 {
-    put_keys(alloc, buffer, values, keys)?;
+    append_keys(alloc, buffer, values, keys)?;
     flush_full(sink, buffer)?;
     Ok(())
 }
 
-fn put_keys(
+fn append_keys(
     alloc: Global,
     out: &mut Vec<u8>,
     values: &KeyValues,
@@ -41,12 +41,12 @@ fn put_keys(
         ≡ out.old.items ++ text_of (key_lines (text_in values.now) keys.now)) }
 {
     for key in keys {
-        put_key(alloc, out, values, *key)?;
+        append_key(alloc, out, values, *key)?;
     }
     Ok(())
 }
 
-fn put_key(
+fn append_key(
     alloc: Global,
     out: &mut Vec<u8>,
     values: &KeyValues,
@@ -55,13 +55,13 @@ fn put_key(
     ensures { OnOk result (out.new.items
         ≡ out.old.items ++ (key_line key (text_in values.now key) ++ 10 ∷ [])) }
 {
-    put_text(out, key.row().word, b':')?;
+    append_text(out, key.row().word, b':')?;
     out.push(b' ')?;
-    put_value(alloc, out, values, key)
+    append_value(alloc, out, values, key)
 }
 
 // Appends the value of a key.
-fn put_value(
+fn append_value(
     alloc: Global,
     out: &mut Vec<u8>,
     values: &KeyValues,
@@ -71,8 +71,8 @@ fn put_value(
         ≡ out.old.items ++ (text_in values.now key ++ 10 ∷ [])) }
 {
     match values.of(key) {
-        KeyValue::Text(text) => put_text(out, text, b'\n'),
-        KeyValue::Whole(number) => put_whole_to(out, number, b'\n'),
-        KeyValue::Decimal(number) => put_decimal_to(alloc, out, number, b'\n'),
+        KeyValue::Text(text) => append_text(out, text, b'\n'),
+        KeyValue::Whole(number) => append_whole_to(out, number, b'\n'),
+        KeyValue::Decimal(number) => append_decimal_to(alloc, out, number, b'\n'),
     }
 }

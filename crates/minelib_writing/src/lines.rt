@@ -20,7 +20,7 @@ pub trait Line {
 
     /// Appends the line of the item, whose place in its list is `index`, with its LF. Where memory is refused a part of it may be
     /// appended.
-    fn put(&self, alloc: Global, index: usize, out: &mut Vec<u8>) -> Result<(), AllocError>
+    fn append(&self, alloc: Global, index: usize, out: &mut Vec<u8>) -> Result<(), AllocError>
         ensures text { OnOk result (out.new.items
             ≡ out.old.items ++ (line_of (fields index self.now) ++ 10 ∷ [])) }
         ensures kept { OnOk result (kept self.now) };
@@ -48,7 +48,7 @@ impl<'a, T: Line> Parted for Lines<'a, T> {
     }
 
     fn append(&self, alloc: Global, index: usize, out: &mut Vec<u8>) -> Result<usize, AllocError> {
-        item_of_line(self.items, index).put(alloc, index, out)?;
+        item_of_line(self.items, index).append(alloc, index, out)?;
         Ok(1)
     }
 }

@@ -9,7 +9,7 @@ ghost use Rattle.minelib_writing.specs.declared.parts.TheConstants.{MOST_AT_ONCE
 ghost use Rattle.devices.specs.sinks.SinkSteps.{refusals, IsAppendCut};
 ghost use Rattle.devices.specs.sinks.Writes.{IsWrittenOn, WritesOn};
 
-use crate::fields::put_text;
+use crate::fields::append_text;
 use devices::sinks::sink::Sink;
 use devices::sinks::slices::flush_full;
 use devices::sinks::write_fault::WriteFault;
@@ -106,7 +106,7 @@ pub fn write_titled<S: Sink, L: Parted>(
     ensures kept { OnOk result
         (HoldsFrom (L.kept parted.now) 0 (length (L.parts parted.now))) }
 {
-    put_text(buffer, title, b'\n')?;
+    append_text(buffer, title, b'\n')?;
     flush_full(sink, buffer)?;
     write_parts(alloc, sink, buffer, parted)
 }

@@ -11,7 +11,7 @@ use Rattle.precedence.specs.Codes.{place_code}
 use Rattle.precedence.specs.Cone.{is_above, is_within_slopes, slope_along_x, slope_along_y}
 use Rattle.precedence.specs.inner.Reach.{CountsRow, slope_across}
 use Rattle.precedence.specs.inner.Rows.{center, is_in_row}
-use Rattle.precedence.specs.declared.cones.cone_rows.Counts.{Counts}
+use Rattle.precedence.specs.declared.cones.cone_rows.SideCounts.{SideCounts}
 use Rattle.precedence.specs.declared.cones.cone_rows.Row.{Row}
 
 -- `high` lies in the row i of the bench dz above `low`
@@ -47,7 +47,7 @@ beside : (low high middle x y west east : ℕ) → high + x ≡ (low + middle) +
 beside low high middle x y west east e far few = grind (arith, nat_tests)
 
 -- a row with these counts tells which of its blocks lie above
-module _ (grid : Grid) (cone : Cone) (rows dz i : ℕ) (counts : Counts) (counted : CountsRow grid cone rows dz i counts)
+module _ (grid : Grid) (cone : Cone) (rows dz i : ℕ) (counts : SideCounts) (counted : CountsRow grid cone rows dz i counts)
     (low high : Block) (up : 1 ≤ dz) (within : dz ≤ cone.k) (small : rows < 10000) (at : IsAt rows dz i low high) where
   slopes : Slope → ℕ → Bool
   slopes along dx = is_within_slopes grid along (slope_across cone rows i) dx (abs_diff i rows) dz

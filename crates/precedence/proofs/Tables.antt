@@ -12,7 +12,7 @@ use Rattle.precedence.specs.inner.Reach.{CountsRow}
 use Rattle.precedence.specs.inner.Rows.{center, edge, is_in_row, is_in_rows, LieApart, IsWithin, Tells, IsTable}
 use Rattle.precedence.specs.inner.ZoneTables.{IsWider}
 use Rattle.precedence.specs.declared.cones.cone_rows.Extent.{Extent}
-use Rattle.precedence.specs.declared.cones.cone_rows.Counts.{Counts}
+use Rattle.precedence.specs.declared.cones.cone_rows.SideCounts.{SideCounts}
 use Rattle.precedence.specs.declared.cones.cone_rows.Row.{Row}
 use Rattle.precedence.proofs.Geometry.{IsAt, row_told}
 
@@ -72,7 +72,7 @@ between high low edge next first past above begin end order told = ⊎_elim
     (cases_lt high (low + edge))
 
 module _ (grid : Grid) (cone : Cone) (extent : Extent) (dz i : ℕ) (up : 1 ≤ dz) (within : dz ≤ cone.k) (inside : i ≤ 2 * extent.rows)
-    (counts : Counts) (counted : CountsRow grid cone extent.rows dz i counts)
+    (counts : SideCounts) (counted : CountsRow grid cone extent.rows dz i counts)
     (row : Row) (first : row.first ≡ center extent.rows dz i + 1 - counts.west)
     (past : row.past ≡ center extent.rows dz i + max counts.east 1) where
   after_edge : edge extent.rows dz i ≤ row.first

@@ -21,7 +21,7 @@ use std::marker::Model;
 
 // Whether the text has given all its records.
 #[derive(Clone, Copy)]
-enum Stage {
+enum Progress {
     // No record was asked for yet.
     Unread,
     // A record may follow.
@@ -41,7 +41,7 @@ enum Stage {
 pub struct RecordReader<R: Read> {
     alloc: Global,
     reader: Reader<R>,
-    stage: Stage,
+    stage: Progress,
 }
 
 impl<R: Read> Model for RecordReader<R> {
@@ -66,7 +66,7 @@ impl RecordReader<Cursor<Vec<u8>>> {
         RecordReader {
             alloc,
             reader: reader_of(alloc, Cursor::new(text)),
-            stage: Stage::Unread,
+            stage: Progress::Unread,
         }
     }
 }
@@ -82,7 +82,7 @@ impl<'a> RecordReader<&'a [u8]> {
         RecordReader {
             alloc,
             reader: reader_of(alloc, text),
-            stage: Stage::Unread,
+            stage: Progress::Unread,
         }
     }
 }
@@ -101,22 +101,22 @@ impl<R: Read> RecordReader<R> {
         ensures cells { result ≡ Ok true → 0 < length (fields_of row.new) }
     {
         let found = match self.stage {
-            Stage::Unread => take_first(self.alloc, &mut self.reader, row),
-            Stage::Reading => take_record(&mut self.reader, row),
-            Stage::Ended => return Ok(false),
-            Stage::Refused => return Err(AllocError),
+            Progress::Unread => take_first(self.alloc, &mut self.reader, row),
+            Progress::Reading => take_record(&mut self.reader, row),
+            Progress::Ended => return Ok(false),
+            Progress::Refused => return Err(AllocError),
         };
         match found {
             Ok(true) => {
-                self.stage = Stage::Reading;
+                self.stage = Progress::Reading;
                 Ok(true)
             }
             Ok(false) => {
-                self.stage = Stage::Ended;
+                self.stage = Progress::Ended;
                 Ok(false)
             }
             Err(refusal) => {
-                self.stage = Stage::Refused;
+                self.stage = Progress::Refused;
                 Err(refusal)
             }
         }

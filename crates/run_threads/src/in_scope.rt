@@ -8,7 +8,7 @@ use crate::handing_over::HandedOver;
 use crate::in_scope::giving_up::GaveUp;
 use crate::in_scope::settling::{give_up, settle};
 use crate::in_scope::starting::{start_readers, start_valuers};
-use crate::opened::Opened;
+use crate::opened::OpenedLane;
 use crate::ready::Ready;
 use crate::starts::{Counted, GivenFeeds, Starter};
 use devices::feeds::feed::Feed;
@@ -58,7 +58,7 @@ pub fn hand_over_in<'s, E, T: Threads, R: Wait + Sync, F: Feed + Send + Drop + '
         readers,
         room,
     } = ready;
-    let Opened {
+    let OpenedLane {
         closer,
         puts,
         takes,

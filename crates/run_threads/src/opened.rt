@@ -9,7 +9,7 @@ use std::alloc::{AllocError, Global};
 
 /// A lane that was just opened: its closer, a put end for each file, and a take end for each valuer, which sent and took nothing.
 #[derive(Drop)]
-pub struct Opened {
+pub struct OpenedLane {
     pub closer: Closer,
     pub puts: Vec<PutEnd>,
     pub takes: Vec<TakeEnd>,
@@ -27,7 +27,7 @@ pub fn open_lane(
     files: u8,
     valuers: u8,
     capacity: usize,
-) -> Result<Opened, AllocError>
+) -> Result<OpenedLane, AllocError>
     requires files { (1 ≤ files) × (files ≤ MAX_ZONES) }
     requires valuers { (1 ≤ valuers) × (valuers ≤ MAX_VALUERS) }
     requires capacity { (1 ≤ capacity) × (capacity ≤ MAX_CAPACITY) }
@@ -36,7 +36,7 @@ pub fn open_lane(
     ensures capacity { IfOk result (λ lane. lane.closer.lane.2 ≡ capacity) }
 {
     let (closer, puts, takes) = open(alloc, files, valuers, capacity)?;
-    Ok(Opened {
+    Ok(OpenedLane {
         closer,
         puts,
         takes,

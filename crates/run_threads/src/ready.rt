@@ -3,7 +3,7 @@
 ghost use Rattle.std.specs.Prelude.{◌≡◌, ◌≤◌, [], length, vec_len, vec_capacity};
 ghost use Rattle.run_threads.specs.inner.Ready.{IsRoomFor};
 
-use crate::opened::Opened;
+use crate::opened::OpenedLane;
 use crate::promises::{ReaderHandle, ValuerHandle};
 use crate::result_room::ResultRoom;
 use crate::shared::Shared;
@@ -14,7 +14,7 @@ use devices::feeds::feed::Feed;
 pub struct Ready<'s, R, F: Feed, G> {
     pub shared: Shared<'s, R, G>,
     pub feeds: Vec<F>,
-    pub lane: Opened,
+    pub lane: OpenedLane,
     pub valuers: Vec<ValuerHandle>,
     pub readers: Vec<ReaderHandle<F>>,
     pub room: ResultRoom,

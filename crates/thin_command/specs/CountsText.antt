@@ -1,9 +1,9 @@
 -- The words that tell how many blocks there are, and how many of their arcs are left.
 use Rattle.std.specs.Prelude.{ℕ, List, ◌++◌, codes}
 use Rattle.std.specs.Fmt.{decimal}
-use Rattle.thin_command.specs.declared.counts.Counts.{Counts}
+use Rattle.thin_command.specs.declared.counts.ThinCounts.{ThinCounts}
 
 -- `rows N arcs M of L`
-abbrev pub counts_words : Counts → List ℕ
+abbrev pub counts_words : ThinCounts → List ℕ
 counts_words counts =
     codes "rows " ++ (decimal counts.rows ++ (codes " arcs " ++ (decimal counts.left ++ (codes " of " ++ decimal counts.whole))))

@@ -24,14 +24,14 @@ use Rattle.plan_parts.specs.declared.settings.Settings.{Settings}
 use Rattle.run_threads.specs.Refusing.{HasFailed}
 use Rattle.run_threads.specs.Starts.{AreSpent, StartsView}
 use Rattle.thin_command.specs.CountsText.{counts_words}
-use Rattle.thin_command.specs.declared.counts.Counts.{Counts}
+use Rattle.thin_command.specs.declared.counts.ThinCounts.{ThinCounts}
 
 -- the precedence file of an instance with what is left of each list
 abbrev pub thin_text : Instance → List ℕ
 thin_text i = text_prec (record i { preds = fewer i.preds })
 
 -- its blocks, the arcs that are left, and all arcs
-abbrev pub counts_of : Instance → Counts
+abbrev pub counts_of : Instance → ThinCounts
 counts_of i = record { rows = length i.blocks; left = sum_by length (fewer i.preds); whole = sum_by length i.preds }
 
 -- the sink was cut off: it failed, or memory was refused

@@ -4,7 +4,7 @@ use std::fmt;
 
 /// The counts of a thin precedence file, shown as the line that the program prints of them.
 #[derive(Clone, Copy, Debug, PartialEq, Eq)]
-pub struct Counts {
+pub struct ThinCounts {
     /// The number of blocks.
     pub rows: usize,
     /// The number of arcs that are left.
@@ -13,14 +13,14 @@ pub struct Counts {
     pub whole: u128,
 }
 
-impl fmt::Display for Counts {
+impl fmt::Display for ThinCounts {
     ghost use Rattle.std.specs.Prelude.{Some};
     ghost use Rattle.thin_command.specs.CountsText.{counts_words};
 
     ghost output = { λ counts. Some (counts_words counts) };
 
     fn fmt<W: fmt::Write>(&self, f: &mut fmt::Formatter<W>) -> fmt::Result {
-        let Counts { rows, left, whole } = self;
+        let ThinCounts { rows, left, whole } = self;
         write!(f, "rows {rows} arcs {left} of {whole}")
     }
 }

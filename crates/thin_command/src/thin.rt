@@ -7,7 +7,7 @@ ghost use Rattle.run_threads.specs.Starts.{none_spent, AreSettled};
 ghost use Rattle.thin_command.specs.CountsText.{counts_words};
 ghost use Rattle.thin_command.specs.Thin.{IsNotThinned, TellsThinned};
 
-use crate::counts::Counts;
+use crate::counts::ThinCounts;
 use crate::thin_writing::write_fewer;
 use command_io::refused::Refused;
 use command_io::refused::fault_line::tell;
@@ -119,7 +119,7 @@ pub fn thin<R: Threads + Wait + Sync, O: Opener, S: Sink>(
 }
 
 // Appends the line of the counts to `out`. Where memory is refused `out` is as it was.
-fn append_counts(alloc: Global, counts: Counts, out: &mut Vec<u8>) -> Result<(), AllocError>
+fn append_counts(alloc: Global, counts: ThinCounts, out: &mut Vec<u8>) -> Result<(), AllocError>
     ensures told { OnOk result
         (out.new.items ≡ out.old.items ++ (counts_words counts ++ 10 ∷ [])) }
     ensures kept { OnErr result (out.new.items ≡ out.old.items) }

@@ -7,7 +7,7 @@ ghost use Rattle.plan_parts.specs.declared.ranges.TheConstants.{MAX_BLOCKS};
 ghost use Rattle.thin_command.specs.Thin.{IsStopped, counts_of, thin_text};
 ghost use Rattle.thin_command.specs.inner.Answered.{in_sink};
 
-use crate::counts::Counts;
+use crate::counts::ThinCounts;
 use devices::sinks::sink::Sink;
 use devices::sinks::write_fault::WriteFault;
 use fewer_arcs::FewerPreds;
@@ -32,7 +32,7 @@ pub fn write_fewer<S: Sink>(
     alloc: Global,
     instance: Instance<FoundPreds, FoundCoefs, FoundValues>,
     sink: &mut S,
-) -> Result<Counts, Refusal>
+) -> Result<ThinCounts, Refusal>
     requires { IsValid instance }
     ensures written { OnOk result
         (IsWritten (thin_text instance) (S.state sink.old) (S.state sink.new)) }
@@ -44,7 +44,7 @@ pub fn write_fewer<S: Sink>(
     let whole = count_all(alloc, &preds)?;
     let mut fewer = FewerPreds::new(alloc, preds);
     let left = in_sink(write_lists(alloc, &mut fewer, sink))?;
-    Ok(Counts { rows, left, whole })
+    Ok(ThinCounts { rows, left, whole })
 }
 
 // How many predecessors all blocks have: row by row of the cones, or list by list where that is faster.

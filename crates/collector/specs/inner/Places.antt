@@ -19,8 +19,8 @@ abbrev pub spots_in : List (List SpotView) → ℕ → List SpotView
 spots_in places file = unwrap_or (slice_get places file) []
 
 -- the file has the spot at the place, and all else is as before
-abbrev pub IsPut : ℕ → ℕ → SpotView → List (List SpotView) → List (List SpotView) → Type 0
-IsPut file place spot old new =
+abbrev pub IsStored : ℕ → ℕ → SpotView → List (List SpotView) → List (List SpotView) → Type 0
+IsStored file place spot old new =
     (other : ℕ) → spots_in new other ≡ (if file == other then with_at (spots_in old other) place spot else spots_in old other)
 
 -- at the place of the row stands a row of its file and place
@@ -31,9 +31,9 @@ IsPlaced lists places (Row v) =
 IsPlaced lists places (End file count) = Unit {0}
 
 -- the row that is marked so has the spot at its place, and all else is as before
-abbrev pub IsPutAs : Mark → SpotView → List (List SpotView) → List (List SpotView) → Type 0
-IsPutAs (mark.Row file place) spot old new = IsPut file place spot old new
-IsPutAs (mark.End file count) spot old new = (other : ℕ) → spots_in new other ≡ spots_in old other
+abbrev pub IsStoredAs : Mark → SpotView → List (List SpotView) → List (List SpotView) → Type 0
+IsStoredAs (mark.Row file place) spot old new = IsStored file place spot old new
+IsStoredAs (mark.End file count) spot old new = (other : ℕ) → spots_in new other ≡ spots_in old other
 
 -- the file of a row is one of so many
 abbrev pub IsOfFile : ℕ → Mark → Type 0

@@ -66,10 +66,10 @@ abbrev pub AreSame : (ℕ → List Valued) → (ℕ → Option ℕ) → (ℕ →
 AreSame rows ends rows' ends' = ((file : ℕ) → rows' file ≡ rows file) × ((file : ℕ) → ends' file ≡ ends file)
 
 -- the item's file has it, and all else is as before
-abbrev pub ArePut : Item → (ℕ → List Valued) → (ℕ → Option ℕ) → (ℕ → List Valued) → (ℕ → Option ℕ) → Type 0
-ArePut (Row v) rows ends rows' ends' =
+abbrev pub AreStored : Item → (ℕ → List Valued) → (ℕ → Option ℕ) → (ℕ → List Valued) → (ℕ → Option ℕ) → Type 0
+AreStored (Row v) rows ends rows' ends' =
     ((file : ℕ) → rows' file ≡ (if v.file == file then with_at (rows file) v.place v else rows file)) × ((file : ℕ) → ends' file ≡ ends file)
-ArePut (End f count) rows ends rows' ends' =
+AreStored (End f count) rows ends rows' ends' =
     ((file : ℕ) → rows' file ≡ rows file) × ((file : ℕ) → ends' file ≡ (if f == file then Some count else ends file))
 
 -- these rows and this end mark are those of the file among the items

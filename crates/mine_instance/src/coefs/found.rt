@@ -97,12 +97,12 @@ fn heavy_of(alloc: Global, blocks: &[Block]) -> Result<Vec<HeavyBlock>, AllocErr
     let count = blocks.iter().filter(|block| block.kg != 0).count();
     let mut heavy = Vec::with_capacity(alloc, count)?;
     for (id, block) in blocks.iter().enumerate() {
-        put_if_heavy(&mut heavy, id as u32, block)?;
+        push_if_heavy(&mut heavy, id as u32, block)?;
     }
     Ok(heavy)
 }
 
-fn put_if_heavy(heavy: &mut Vec<HeavyBlock>, b: u32, block: &Block) -> Result<(), AllocError>
+fn push_if_heavy(heavy: &mut Vec<HeavyBlock>, b: u32, block: &Block) -> Result<(), AllocError>
     ensures { OnOk result (heavy.new.items ≡ heavy.old.items ++ heavy_one (b, block.now)) }
 {
     if block.kg != 0 {

@@ -18,7 +18,7 @@ ghost use Rattle.plan_parts.specs.Name.{is_name};
 ghost use Rattle.plan_parts.specs.declared.ranges.TheConstants.{MAX_BLOCKS};
 
 use crate::kept::KeptItems;
-use crate::model::header::{blank_header, number_in};
+use crate::model::header::{blank_header, number_of_key};
 use crate::model::items::{coef_of_line, is_limit_behind, limit_of_line, values_of_line};
 use crate::model::key::{Header, ModelKey, Section};
 use crate::model::key_lines::{cut_at_colon, is_heading, is_limits, is_next, key_of, only_value};
@@ -244,7 +244,7 @@ impl<T: TakeItems> ModelDraft<T> {
             return Err(OrMemory::Fault(TextKind::Twice));
         }
         let value = only_value(values)?;
-        let number = number_in(self.problem, self.blocks, key, value)?;
+        let number = number_of_key(self.problem, self.blocks, key, value)?;
         self.name = name_with(self.alloc, key, value, self.name.take())?;
         self.header = self.header.with(key, number as u32);
         Ok(())

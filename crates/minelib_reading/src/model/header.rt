@@ -33,7 +33,7 @@ pub fn blank_header(problem: Problem) -> Header
 ///
 /// What is wrong with the value, or `Count` where NBLOCKS is another number.
 #[tactic(auto, using(crate::proofs::keys::KeyNumbers::number_taken, crate::proofs::keys::KeyNumbers::fine_field))]
-pub fn number_in(
+pub fn number_of_key(
     problem: Problem,
     blocks: usize,
     key: HeaderKey,

@@ -47,7 +47,7 @@ impl Header {
     pub fn with(mut self, key: HeaderKey, number: u32) -> Header
         ensures { result ≡ with_key self key number }
     {
-        put(&mut self.numbers, key, number);
+        keep(&mut self.numbers, key, number);
         self
     }
 
@@ -85,7 +85,7 @@ impl Header {
 
 // Keeps the number of a key at its place.
 #[tactic(auto, using(crate::proofs::keys::HeaderFacts::key_set))]
-fn put(numbers: &mut [Option<u32>; KEYS], key: HeaderKey, number: u32)
+fn keep(numbers: &mut [Option<u32>; KEYS], key: HeaderKey, number: u32)
     ensures { record { numbers = numbers.new }
         ≡ with_key (record { numbers = numbers.old }) key number }
 {

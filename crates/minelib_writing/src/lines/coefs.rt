@@ -9,7 +9,7 @@ ghost use Rattle.mine_instance.specs.coefs.Groups.{coefs_in, pairs_of};
 ghost use Rattle.minelib_writing.specs.Written.{cpit_coef_line};
 ghost use Rattle.minelib_writing.specs.inner.CoefParts.{coef_lines, coef_part, coef_text, cpit_coef_text, FitsForm};
 
-use crate::fields::{put_decimal_to, put_whole_to};
+use crate::fields::{append_decimal_to, append_whole_to};
 use crate::lines::Line;
 use crate::parts::{MOST_AT_ONCE, Parted};
 use itoa::write_digits;
@@ -70,7 +70,7 @@ impl<'a, C: CoefList, V: ValueList> Parted for CoefLines<'a, C, V> {
             let group = group_within(self.coefs, index + count, most - count);
             next_tonnes(alloc, &mut room, tonnes, group.v)?;
             tonnes = group.v;
-            put_group(out, &mut room, &group, &self.form)?;
+            append_group(out, &mut room, &group, &self.form)?;
             count += group.pairs.len();
         }
         Ok(count)
@@ -113,7 +113,7 @@ fn new_room(alloc: Global, tonnes: Dec) -> Result<Vec<u8>, AllocError>
 {
     let mut room = Vec::new(alloc);
     room.resize(TONNES, b' ')?;
-    put_decimal_to(alloc, &mut room, tonnes, b'\n')?;
+    append_decimal_to(alloc, &mut room, tonnes, b'\n')?;
     Ok(room)
 }
 
@@ -134,12 +134,12 @@ fn next_tonnes(
         return Ok(());
     }
     room.truncate(TONNES);
-    put_decimal_to(alloc, room, tonnes, b'\n')
+    append_decimal_to(alloc, room, tonnes, b'\n')
 }
 
 // Appends the lines of a group, whose tonnes stand in the room.
 #[inline(always)]
-fn put_group<V: ValueList>(
+fn append_group<V: ValueList>(
     out: &mut Vec<u8>,
     room: &mut Vec<u8>,
     group: &CoefGroup,
@@ -155,17 +155,17 @@ fn put_group<V: ValueList>(
         (drop 14 room.new.items ≡ 32 ∷ (shortest group.now.v ++ 10 ∷ [])) }
 {
     match form {
-        CoefForm::OfAll => put_all(out, room, group),
+        CoefForm::OfAll => append_all(out, room, group),
         CoefForm::OfChosen(values) => {
             let destination = values.of_block(group.b as usize).first_greatest();
-            put_at(out, room, group, destination)
+            append_at(out, room, group, destination)
         }
     }
 }
 
 // Appends the lines `b d r v` of a group.
 #[inline(always)]
-fn put_all(out: &mut Vec<u8>, room: &mut Vec<u8>, group: &CoefGroup) -> Result<(), AllocError>
+fn append_all(out: &mut Vec<u8>, room: &mut Vec<u8>, group: &CoefGroup) -> Result<(), AllocError>
     requires tonnes { drop 14 room.old.items ≡ 32 ∷ (shortest group.now.v ++ 10 ∷ []) }
     requires digits { All (λ c. (c.d < 10) × (c.r < 10)) (coefs_in group.now) }
     ensures text { OnOk result
@@ -183,7 +183,7 @@ fn put_all(out: &mut Vec<u8>, room: &mut Vec<u8>, group: &CoefGroup) -> Result<(
 
 // Appends the lines `b r v` of those of a group at a destination.
 #[inline(always)]
-fn put_at(
+fn append_at(
     out: &mut Vec<u8>,
     room: &mut Vec<u8>,
     group: &CoefGroup,
@@ -270,9 +270,9 @@ impl Line for Coef {
 
     ghost kept = { λ c. IsInDecimalRange c.v };
 
-    fn put(&self, alloc: Global, _index: usize, out: &mut Vec<u8>) -> Result<(), AllocError> {
-        put_whole_to(out, u64::from(self.b), b' ')?;
-        put_whole_to(out, u64::from(self.r), b' ')?;
-        put_decimal_to(alloc, out, self.v, b'\n')
+    fn append(&self, alloc: Global, _index: usize, out: &mut Vec<u8>) -> Result<(), AllocError> {
+        append_whole_to(out, u64::from(self.b), b' ')?;
+        append_whole_to(out, u64::from(self.r), b' ')?;
+        append_decimal_to(alloc, out, self.v, b'\n')
     }
 }

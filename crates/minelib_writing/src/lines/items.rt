@@ -7,7 +7,7 @@ ghost use Rattle.mine_instance.specs.Kept.{HasDecimals};
 ghost use Rattle.minelib_lines.specs.Lines.{line_of};
 ghost use Rattle.minelib_writing.specs.Written.{block_line, bound_fields, limit_line, one_value_line};
 
-use crate::fields::{put_decimal_to, put_text, put_whole_to};
+use crate::fields::{append_decimal_to, append_text, append_whole_to};
 use crate::lines::Line;
 use pit_units::Dec;
 use plan_parts::block::Block;
@@ -19,35 +19,35 @@ impl Line for Block {
 
     ghost kept = { λ b. ⊤ };
 
-    fn put(&self, alloc: Global, index: usize, out: &mut Vec<u8>) -> Result<(), AllocError> {
-        put_whole_to(out, index as u64, b' ')?;
-        put_place(out, self)?;
-        put_ore(alloc, out, self)?;
-        put_whole_to(out, u64::from(self.zone), b'\n')
+    fn append(&self, alloc: Global, index: usize, out: &mut Vec<u8>) -> Result<(), AllocError> {
+        append_whole_to(out, index as u64, b' ')?;
+        append_place(out, self)?;
+        append_ore(alloc, out, self)?;
+        append_whole_to(out, u64::from(self.zone), b'\n')
     }
 }
 
 #[inline(always)]
-fn put_place(out: &mut Vec<u8>, block: &Block) -> Result<(), AllocError>
+fn append_place(out: &mut Vec<u8>, block: &Block) -> Result<(), AllocError>
     ensures { OnOk result (out.new.items ≡ out.old.items
         ++ ((decimal block.now.x ++ 32 ∷ []) ++ (decimal block.now.y ++ 32 ∷ [])
         ++ (decimal block.now.z ++ 32 ∷ []))) }
 {
-    put_whole_to(out, u64::from(block.x), b' ')?;
-    put_whole_to(out, u64::from(block.y), b' ')?;
-    put_whole_to(out, u64::from(block.z), b' ')
+    append_whole_to(out, u64::from(block.x), b' ')?;
+    append_whole_to(out, u64::from(block.y), b' ')?;
+    append_whole_to(out, u64::from(block.z), b' ')
 }
 
 #[inline(always)]
-fn put_ore(alloc: Global, out: &mut Vec<u8>, block: &Block) -> Result<(), AllocError>
+fn append_ore(alloc: Global, out: &mut Vec<u8>, block: &Block) -> Result<(), AllocError>
     ensures { OnOk result (out.new.items ≡ out.old.items
         ++ ((shortest (pos (block.now.kg * 1000)) ++ 32 ∷ [])
         ++ (shortest (pos block.now.grade) ++ 32 ∷ []))) }
 {
     let tonnes = Dec::new(i128::from(block.kg) * 1000).unwrap();
     let grade = Dec::new(i128::from(block.grade)).unwrap();
-    put_decimal_to(alloc, out, tonnes, b' ')?;
-    put_decimal_to(alloc, out, grade, b' ')
+    append_decimal_to(alloc, out, tonnes, b' ')?;
+    append_decimal_to(alloc, out, grade, b' ')
 }
 
 impl Line for Limit {
@@ -55,31 +55,31 @@ impl Line for Limit {
 
     ghost kept = { λ l. HasDecimals l.bound };
 
-    fn put(&self, alloc: Global, _index: usize, out: &mut Vec<u8>) -> Result<(), AllocError> {
-        put_whole_to(out, u64::from(self.resource), b' ')?;
-        put_whole_to(out, u64::from(self.period), b' ')?;
-        put_bound(alloc, out, &self.bound)
+    fn append(&self, alloc: Global, _index: usize, out: &mut Vec<u8>) -> Result<(), AllocError> {
+        append_whole_to(out, u64::from(self.resource), b' ')?;
+        append_whole_to(out, u64::from(self.period), b' ')?;
+        append_bound(alloc, out, &self.bound)
     }
 }
 
-fn put_bound(alloc: Global, out: &mut Vec<u8>, bound: &Bound) -> Result<(), AllocError>
+fn append_bound(alloc: Global, out: &mut Vec<u8>, bound: &Bound) -> Result<(), AllocError>
     ensures text { OnOk result (out.new.items
         ≡ out.old.items ++ (line_of (bound_fields bound.now) ++ 10 ∷ [])) }
     ensures kept { OnOk result (HasDecimals bound.now) }
 {
     match bound {
         Bound::AtMost(v) => {
-            put_text(out, b"L", b' ')?;
-            put_decimal_to(alloc, out, *v, b'\n')
+            append_text(out, b"L", b' ')?;
+            append_decimal_to(alloc, out, *v, b'\n')
         }
         Bound::AtLeast(v) => {
-            put_text(out, b"G", b' ')?;
-            put_decimal_to(alloc, out, *v, b'\n')
+            append_text(out, b"G", b' ')?;
+            append_decimal_to(alloc, out, *v, b'\n')
         }
         Bound::Between(v, w) => {
-            put_text(out, b"I", b' ')?;
-            put_decimal_to(alloc, out, *v, b' ')?;
-            put_decimal_to(alloc, out, *w, b'\n')
+            append_text(out, b"I", b' ')?;
+            append_decimal_to(alloc, out, *v, b' ')?;
+            append_decimal_to(alloc, out, *w, b'\n')
         }
     }
 }
@@ -90,8 +90,8 @@ impl Line for Dec {
 
     ghost kept = { IsInDecimalRange };
 
-    fn put(&self, alloc: Global, index: usize, out: &mut Vec<u8>) -> Result<(), AllocError> {
-        put_whole_to(out, index as u64, b' ')?;
-        put_decimal_to(alloc, out, *self, b'\n')
+    fn append(&self, alloc: Global, index: usize, out: &mut Vec<u8>) -> Result<(), AllocError> {
+        append_whole_to(out, index as u64, b' ')?;
+        append_decimal_to(alloc, out, *self, b'\n')
     }
 }

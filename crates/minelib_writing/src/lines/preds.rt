@@ -8,7 +8,7 @@ ghost use Rattle.minelib_writing.specs.inner.Parts.{line_of_preds};
 ghost use Rattle.plan_parts.specs.declared.ranges.TheConstants.{MAX_BLOCKS};
 ghost use Rattle.devices.specs.sinks.Writes.{WritesOn};
 
-use crate::fields::put_whole_behind;
+use crate::fields::append_whole_behind;
 use crate::id_text::IdText;
 use devices::sinks::sink::Sink;
 use devices::sinks::slices::flush_full;
@@ -82,13 +82,13 @@ fn write_line<S: Sink, M: MadeLists>(
         (arcs.new ≡ arcs.old + length (slice_index_or (M.lists preds.old) id [])) }
     ensures countable { OnOk result (length (slice_index_or (M.lists preds.old) id []) < 2 ^ 63) }
 {
-    *arcs += u128::from(put_line(buffer, preds, id, texts, runs)?);
+    *arcs += u128::from(append_line(buffer, preds, id, texts, runs)?);
     flush_full(sink, buffer)?;
     Ok(())
 }
 
 // Appends the line of a block, and answers how many predecessors it has.
-fn put_line<M: MadeLists>(
+fn append_line<M: MadeLists>(
     out: &mut Vec<u8>,
     preds: &mut M,
     id: u32,
@@ -106,10 +106,15 @@ fn put_line<M: MadeLists>(
 {
     runs.clear();
     preds.add_runs(runs, id)?;
-    put_preds(out, id, runs.as_slice(), texts)
+    append_preds(out, id, runs.as_slice(), texts)
 }
 
-fn put_preds(out: &mut Vec<u8>, id: u32, runs: &[IdRun], texts: &IdText) -> Result<u64, AllocError>
+fn append_preds(
+    out: &mut Vec<u8>,
+    id: u32,
+    runs: &[IdRun],
+    texts: &IdText,
+) -> Result<u64, AllocError>
     requires own { id < texts.now }
     requires preds { All (λ pred. pred < texts.now) (ids_of runs.now) }
     requires countable { length (ids_of runs.now) < 2 ^ 63 }
@@ -118,9 +123,9 @@ fn put_preds(out: &mut Vec<u8>, id: u32, runs: &[IdRun], texts: &IdText) -> Resu
     ensures count { IfOk result (λ n. n ≡ length (ids_of runs.now)) }
 {
     let count = count_of(runs);
-    texts.put_one(out, id)?;
-    put_whole_behind(out, b' ', count)?;
-    texts.put(out, runs)?;
+    texts.append_one(out, id)?;
+    append_whole_behind(out, b' ', count)?;
+    texts.append(out, runs)?;
     out.push(b'\n')?;
     Ok(count)
 }

@@ -10,8 +10,8 @@ ghost use Rattle.mine_instance.specs.OfModel.{in_hundreds};
 ghost use Rattle.minelib_lines.specs.Lines.{line_of, lines_from};
 ghost use Rattle.minelib_writing.specs.Written.{greatest_line, value_line};
 
-use crate::cents::put_cents_behind;
-use crate::fields::{put_decimal_behind, put_whole, put_whole_behind};
+use crate::cents::append_cents_behind;
+use crate::fields::{append_decimal_behind, append_whole, append_whole_behind};
 use crate::parts::Parted;
 use mine_instance::values::block::BlockValues;
 use mine_instance::values::greatest::{first_greatest_of_cents, greatest};
@@ -41,12 +41,12 @@ impl<'a, V: ValueList> Parted for ValueLines<'a, V> {
     }
 
     fn append(&self, alloc: Global, index: usize, out: &mut Vec<u8>) -> Result<usize, AllocError> {
-        put_values(alloc, out, index, self.values.of_block(index))?;
+        append_values(alloc, out, index, self.values.of_block(index))?;
         Ok(1)
     }
 }
 
-fn put_values(
+fn append_values(
     alloc: Global,
     out: &mut Vec<u8>,
     id: usize,
@@ -56,43 +56,43 @@ fn put_values(
         ≡ out.old.items ++ (line_of (decimal id ∷ map shortest (values_in values.entry)) ++ 10 ∷ [])) }
     ensures kept { OnOk result (All IsInDecimalRange (values_in values.entry)) }
 {
-    put_whole(out, id as u64)?;
-    put_decimals(alloc, out, values)?;
+    append_whole(out, id as u64)?;
+    append_decimals(alloc, out, values)?;
     out.push(b'\n')?;
     Ok(())
 }
 
 // Appends values, each behind a space.
 #[inline(always)]
-fn put_decimals(alloc: Global, out: &mut Vec<u8>, values: BlockValues) -> Result<(), AllocError>
+fn append_decimals(alloc: Global, out: &mut Vec<u8>, values: BlockValues) -> Result<(), AllocError>
     ensures text { OnOk result (out.new.items
         ≡ out.old.items ++ flat_map (λ value. 32 ∷ shortest value) (values_in values.entry)) }
     ensures kept { OnOk result (All IsInDecimalRange (values_in values.entry)) }
 {
     match values {
-        BlockValues::Hundreds(values) => put_hundreds(alloc, out, values),
-        BlockValues::Cents(cents) => put_cents(out, cents),
+        BlockValues::Hundreds(values) => append_hundreds(alloc, out, values),
+        BlockValues::Cents(cents) => append_cents(out, cents),
     }
 }
 
-fn put_hundreds(alloc: Global, out: &mut Vec<u8>, values: &[Dec]) -> Result<(), AllocError>
+fn append_hundreds(alloc: Global, out: &mut Vec<u8>, values: &[Dec]) -> Result<(), AllocError>
     ensures text { OnOk result (out.new.items
         ≡ out.old.items ++ flat_map (λ value. 32 ∷ shortest value) values.now) }
     ensures kept { OnOk result (All IsInDecimalRange values.now) }
 {
     for value in values {
-        put_decimal_behind(alloc, out, b' ', *value)?;
+        append_decimal_behind(alloc, out, b' ', *value)?;
     }
     Ok(())
 }
 
-fn put_cents(out: &mut Vec<u8>, values: &[i64]) -> Result<(), AllocError>
+fn append_cents(out: &mut Vec<u8>, values: &[i64]) -> Result<(), AllocError>
     ensures text { OnOk result (out.new.items
         ≡ out.old.items ++ flat_map (λ cents. 32 ∷ shortest (in_hundreds cents)) values.now) }
     ensures kept { OnOk result (All (λ cents. IsInDecimalRange (in_hundreds cents)) values.now) }
 {
     for cents in values {
-        put_cents_behind(out, b' ', *cents)?;
+        append_cents_behind(out, b' ', *cents)?;
     }
     Ok(())
 }
@@ -120,12 +120,12 @@ impl<'a, V: ValueList> Parted for GreatestLines<'a, V> {
     }
 
     fn append(&self, alloc: Global, index: usize, out: &mut Vec<u8>) -> Result<usize, AllocError> {
-        put_greatest(alloc, out, index, self.values.of_block(index))?;
+        append_greatest(alloc, out, index, self.values.of_block(index))?;
         Ok(1)
     }
 }
 
-fn put_greatest(
+fn append_greatest(
     alloc: Global,
     out: &mut Vec<u8>,
     id: usize,
@@ -137,15 +137,15 @@ fn put_greatest(
         ++ 10 ∷ [])) }
     ensures kept { OnOk result (IsInDecimalRange (greatest (values_in values.entry))) }
 {
-    put_whole(out, id as u64)?;
-    put_greatest_decimal(alloc, out, values)?;
+    append_whole(out, id as u64)?;
+    append_greatest_decimal(alloc, out, values)?;
     out.push(b'\n')?;
     Ok(())
 }
 
 // Appends the greatest of some values behind a space.
 #[inline(always)]
-fn put_greatest_decimal(
+fn append_greatest_decimal(
     alloc: Global,
     out: &mut Vec<u8>,
     values: BlockValues,
@@ -156,9 +156,9 @@ fn put_greatest_decimal(
     ensures kept { OnOk result (IsInDecimalRange (greatest (values_in values.entry))) }
 {
     match values {
-        BlockValues::Hundreds(values) => put_decimal_behind(alloc, out, b' ', greatest(values)),
+        BlockValues::Hundreds(values) => append_decimal_behind(alloc, out, b' ', greatest(values)),
         BlockValues::Cents(cents) => {
-            put_cents_behind(out, b' ', cents[first_greatest_of_cents(cents)])
+            append_cents_behind(out, b' ', cents[first_greatest_of_cents(cents)])
         }
     }
 }

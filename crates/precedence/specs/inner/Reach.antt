@@ -5,7 +5,7 @@ use Rattle.plan_parts.specs.declared.cone.Cone.{Cone}
 use Rattle.plan_parts.specs.declared.cone.Slope.{Slope}
 use Rattle.plan_parts.specs.declared.grid.Grid.{Grid}
 use Rattle.precedence.specs.Cone.{square, is_within_slopes}
-use Rattle.precedence.specs.declared.cones.cone_rows.Counts.{Counts}
+use Rattle.precedence.specs.declared.cones.cone_rows.SideCounts.{SideCounts}
 use Rattle.precedence.specs.declared.cones.cone_rows.Reach.{Reach}
 use Rattle.plan_parts.specs.declared.ranges.TheConstants.{GRID_CELLS}
 
@@ -25,7 +25,7 @@ slope_across cone rows i = if nat_lt rows i then cone.north else cone.south
 abbrev pub CountsSide : Grid → Slope → Slope → ℕ → ℕ → ℕ → Type 0
 CountsSide grid along across dy dz count = (d : ℕ) → d < GRID_CELLS → is_within_slopes grid along across d dy dz ≡ nat_lt d count
 
-pub record CountsRow (grid : Grid) (cone : Cone) (rows dz i : ℕ) (counts : Counts) : Type 0 where
+pub record CountsRow (grid : Grid) (cone : Cone) (rows dz i : ℕ) (counts : SideCounts) : Type 0 where
   pub few_west : counts.west ≤ GRID_CELLS
   pub few_east : counts.east ≤ GRID_CELLS
   pub west : CountsSide grid cone.west (slope_across cone rows i) (abs_diff i rows) dz counts.west

@@ -48,7 +48,7 @@ pub fn extents_of(alloc: Global, blocks: &[Block], zones: usize) -> Result<Vec<E
         let block = blocks[i];
         let zone = block.zone as usize;
         bounds = widened(bounds, &block);
-        extents[zone] = reaching(extents[zone], bounds, &block);
+        extents[zone] = extent_to_bounds(extents[zone], bounds, &block);
     }
     Ok(extents)
 }
@@ -68,7 +68,7 @@ fn widened(bounds: Bounds, block: &Block) -> Bounds
 }
 
 // The extent that also reaches from the block to each one that the bounds hold.
-fn reaching(extent: Extent, bounds: Bounds, block: &Block) -> Extent
+fn extent_to_bounds(extent: Extent, bounds: Bounds, block: &Block) -> Extent
     requires north { bounds.north < GRID_CELLS }
     requires top { bounds.top < GRID_CELLS }
     ensures wider { IsWider result extent }

@@ -32,7 +32,7 @@ pub struct Reach {
 
 /// How many of the distances 0, 1, .. along x lie inside in a row of a cone, on each side: at most 10,000.
 #[derive(Clone, Copy, Debug)]
-pub struct Counts {
+pub struct SideCounts {
     pub west: u16,
     pub east: u16,
 }

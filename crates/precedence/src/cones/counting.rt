@@ -6,14 +6,21 @@ ghost use Rattle.precedence.specs.Cone.{square};
 ghost use Rattle.precedence.specs.inner.Reach.{takes_in, slope_across, CountsAll, CountsRow, CountsSide};
 ghost use Rattle.plan_parts.specs.declared.ranges.TheConstants.{GRID_CELLS, MAX_SIZE, MAX_SLOPE};
 
-use crate::cones::cone_rows::{Counts, Reach};
+use crate::cones::cone_rows::{Reach, SideCounts};
 use plan_parts::cone::{Cone, Slope};
 use plan_parts::grid::Grid;
 use plan_parts::ranges::GRID_CELLS;
 
 /// How many blocks of the row `i` of the bench `dz` above lie inside the slopes, where the block's own row is `rows`.
 /// `nearby` is a guess, such as the counts of a row nearby: it changes the time and not the answer.
-pub fn row_counts(grid: Grid, cone: Cone, rows: u16, dz: u16, i: u16, nearby: Counts) -> Counts
+pub fn row_counts(
+    grid: Grid,
+    cone: Cone,
+    rows: u16,
+    dz: u16,
+    i: u16,
+    nearby: SideCounts,
+) -> SideCounts
     requires grid { IsGrid grid }
     requires cone { IsCone cone }
     requires rows { rows < GRID_CELLS }
@@ -23,7 +30,7 @@ pub fn row_counts(grid: Grid, cone: Cone, rows: u16, dz: u16, i: u16, nearby: Co
 {
     let across = slope_across(cone, rows, i);
     let dy = i.abs_diff(rows);
-    Counts {
+    SideCounts {
         west: side_count(grid, cone.west, across, dy, dz, nearby.west),
         east: side_count(grid, cone.east, across, dy, dz, nearby.east),
     }

@@ -5,7 +5,7 @@ ghost use Rattle.plan_parts.specs.PlanKept.{IsCone, IsGrid};
 ghost use Rattle.precedence.specs.inner.Rows.{center, edge, IsTable, Tells};
 ghost use Rattle.plan_parts.specs.declared.ranges.TheConstants.{GRID_CELLS};
 
-use crate::cones::cone_rows::{Counts, Extent, Row};
+use crate::cones::cone_rows::{Extent, Row, SideCounts};
 use crate::cones::counting::row_counts;
 use crate::places::code::{BENCH, ROW};
 use plan_parts::cone::Cone;
@@ -47,7 +47,7 @@ fn add_bench(
     requires before { Tells grid cone extent (edge extent.rows dz 0) rows.old.items }
     ensures { OnOk result (Tells grid cone extent (edge extent.rows (dz + 1) 0) rows.new.items) }
 {
-    let mut counts = Counts { west: 0, east: 0 };
+    let mut counts = SideCounts { west: 0, east: 0 };
     for i in 0..2 * extent.rows + 1 {
         counts = row_counts(grid, cone, extent.rows, dz, i, counts);
         add_row(rows, bench_row(extent, dz, i, counts))?;
@@ -67,7 +67,7 @@ fn add_row(rows: &mut Vec<Row>, row: Row) -> Result<(), AllocError>
 }
 
 // The row `i` of the bench `dz` above, with so many blocks on each side.
-fn bench_row(extent: Extent, dz: u16, i: u16, counts: Counts) -> Row
+fn bench_row(extent: Extent, dz: u16, i: u16, counts: SideCounts) -> Row
     requires up { 1 ≤ dz }
     requires dz { dz < GRID_CELLS }
     requires i { i ≤ 2 * extent.rows }

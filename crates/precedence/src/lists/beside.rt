@@ -28,7 +28,7 @@ pub const BEFORE_ALL: Behind = Behind { id: 0, retry: 0 };
 
 // The blocks at an index along x before `west`, and from `east` on, lie beside a cone.
 #[derive(Clone, Copy, Debug)]
-struct Columns {
+struct Sides {
     west: u64,
     east: u64,
 }
@@ -158,7 +158,7 @@ fn first_not_beside(
 fn pass_beside(
     places: &Places,
     past: &[u64],
-    columns: Columns,
+    columns: Sides,
     i: usize,
     id: usize,
     from: u64,
@@ -203,7 +203,7 @@ fn end_of_chunk(count: usize, id: usize) -> usize
 
 // Whether all blocks of the chunk of an identifier lie beside the columns.
 #[inline(always)]
-fn lies_beside(places: &Places, columns: Columns, id: usize) -> bool
+fn lies_beside(places: &Places, columns: Sides, id: usize) -> bool
     ensures { IsTrue result → (m : ℕ) → id ≤ m → m < id / CHUNK * CHUNK + CHUNK
         → m < length places.now.codes.items
         → IsBeside columns.west columns.east (slice_index places.now.codes.items m) }
@@ -217,18 +217,18 @@ fn lies_beside(places: &Places, columns: Columns, id: usize) -> bool
 }
 
 // The columns of a cone, seen from the code `from`.
-fn columns_of(widths: &Widths, from: u64) -> Columns
+fn columns_of(widths: &Widths, from: u64) -> Sides
     ensures { LeaveOut widths.now from result.west result.east }
 {
     let x = from % ROW;
     let cells = u64::from(GRID_CELLS);
     if x >= cells || widths.west > WIDE || widths.east > WIDE {
-        return Columns {
+        return Sides {
             west: 0,
             east: cells,
         };
     }
-    Columns {
+    Sides {
         west: x.saturating_sub(widths.west),
         east: x + widths.east,
     }

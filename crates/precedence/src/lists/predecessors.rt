@@ -111,7 +111,7 @@ fn piece<'a>(flat: &'a [u32], ends: &[usize], index: usize) -> &'a [u32]
     ensures { slice_get (pieces flat.now 0 ends.now) index ≡ Some result.now }
 {
     let start = start_of_piece(ends, index);
-    part(flat, start, ends[index])
+    ids_between(flat, start, ends[index])
 }
 
 #[tactic(auto, using(crate::proofs::Pieces::start_is))]
@@ -123,7 +123,7 @@ fn start_of_piece(ends: &[usize], index: usize) -> usize
 }
 
 // The identifiers from the place `start` up to, and without, the place `end`.
-fn part(ids: &[u32], start: usize, end: usize) -> &[u32]
+fn ids_between(ids: &[u32], start: usize, end: usize) -> &[u32]
     requires in_order { start ≤ end }
     requires within { end ≤ length ids.now }
     ensures { result.now ≡ take (end - start) (drop start ids.now) }

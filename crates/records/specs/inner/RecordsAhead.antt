@@ -6,8 +6,8 @@ use Rattle.csv.specs.declared.parser.State.{State}
 use Rattle.csv.specs.declared.reader.Reader.{Reader}
 use Rattle.csv.specs.declared.reader.Trim.TheVariants as trim
 use Rattle.records.specs.RecordReader.{RecordReaderView, Rows, Over, GaveUp}
-use Rattle.records.specs.declared.record_reader.Stage.{Stage}
-use Rattle.records.specs.declared.record_reader.Stage.TheVariants as stage
+use Rattle.records.specs.declared.record_reader.Progress.{Progress}
+use Rattle.records.specs.declared.record_reader.Progress.TheVariants as stage
 
 -- the records of the bytes that are left, read on from a state
 abbrev pub rows_from : State → List ℕ → List (List (List ℕ))
@@ -23,7 +23,7 @@ abbrev pub rows_left : {R : Type 0} → (R → Option (List ℕ)) → Reader R �
 rows_left known reader = rows_of_source (reader_state reader) (source_of known reader)
 
 -- what is ahead at each stage
-abbrev pub ahead_of : {R : Type 0} → (R → Option (List ℕ)) → Stage → Reader R → RecordReaderView
+abbrev pub ahead_of : {R : Type 0} → (R → Option (List ℕ)) → Progress → Reader R → RecordReaderView
 ahead_of known stage.Unread reader = Rows (rows_left known reader)
 ahead_of known stage.Reading reader = Rows (rows_left known reader)
 ahead_of known stage.Ended reader = Over
@@ -55,7 +55,7 @@ TakesNext known old new true fields = IsBetweenRecords known new × (rows_left k
 TakesNext known old new false fields = rows_left known old ≡ []
 
 -- what holds of the reader underneath at each stage: nothing once no record is asked of it any more
-abbrev pub IsSetUp : {R : Type 0} → (R → Option (List ℕ)) → Stage → Reader R → Type 0
+abbrev pub IsSetUp : {R : Type 0} → (R → Option (List ℕ)) → Progress → Reader R → Type 0
 IsSetUp known stage.Unread reader = IsUnread known reader
 IsSetUp known stage.Reading reader = IsBetweenRecords known reader
 IsSetUp known stage.Ended reader = Unit {0}

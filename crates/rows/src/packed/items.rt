@@ -124,20 +124,20 @@ impl<A: Allocator> Keeps for PackedItems<A> {
     fn keep(&mut self, item: Item) -> Result<(), AllocError> {
         make_room_for(&mut self.entries, 1)?;
         make_room_for(&mut self.worths, self.width)?;
-        put_worths(&mut self.worths, &item, self.width);
+        push_worths(&mut self.worths, &item, self.width);
         self.entries.push(Entry::new(&item)).unwrap();
         Ok(())
     }
 }
 
 // Appends what is kept as the worths of an item.
-fn put_worths<A: Allocator>(worths: &mut Vec<i64, A>, item: &Item, width: usize)
+fn push_worths<A: Allocator>(worths: &mut Vec<i64, A>, item: &Item, width: usize)
     requires room { vec_len worths.old + width ≤ vec_capacity worths.old }
     requires fits { IsOfWidth width item.now }
     ensures { worths.new.items ≡ worths.old.items ++ kept_worths width item.now }
 {
     match item {
-        Item::Row(row) => put_cents(worths, row.worths.as_slice()),
+        Item::Row(row) => push_cents(worths, row.worths.as_slice()),
         Item::End { .. } => {
             let end = worths.len() + width;
             worths.resize(end, 0).unwrap();
@@ -145,7 +145,7 @@ fn put_worths<A: Allocator>(worths: &mut Vec<i64, A>, item: &Item, width: usize)
     }
 }
 
-fn put_cents<A: Allocator>(worths: &mut Vec<i64, A>, cents: &[i128])
+fn push_cents<A: Allocator>(worths: &mut Vec<i64, A>, cents: &[i128])
     requires room { vec_len worths.old + length cents.now ≤ vec_capacity worths.old }
     requires fits { All IsWorth cents.now }
     ensures { worths.new.items ≡ worths.old.items ++ cents.now }

@@ -6,8 +6,8 @@ use Rattle.mine_instance.proofs.ModelFacts.{length-values_of, worths_fit}
 use Rattle.mine_instance.proofs.ValueFacts.{row_values}
 use Rattle.mine_instance.proofs.building.values_by.Goals as goal
 
-pub put_values-requires : goal.put_values-requires
-put_values-requires c =
+pub push_values-requires : goal.push_values-requires
+push_values-requires c =
     let own = row_values c.args.plan.now c.args.rows.now _ c.args.numbering.now c.loop-position.position-index
     c.index-rows-position.result c.requires.numbering c.requires.worths c.positions-position-items.ensures.value c.loop-position-test.true in
     rw c.as_slice.ensures.value
@@ -21,7 +21,7 @@ push-requires-clause-width c =
     let row = c.index-rows-position.result in
     let own = row_values plan c.args.rows.now _ c.args.numbering.now i row c.requires.numbering c.requires.worths
     c.positions-position-items.ensures.value c.loop-position-test.true in
-    let values = c.as_slice-in-loop-position.ensures.value ∙ c.in_ok-put_values.ensures
+    let values = c.as_slice-in-loop-position.ensures.value ∙ c.in_ok-push_values.ensures
     ∙ (λ j. c.clear.ensures.items j ++ map in_hundreds (c.as_slice.ensures.value j)) ∙ own.1 in
     let wide = length-values_of plan (get_or blocks i row.block) in
     rw (c.loop-position.invariant, values)
@@ -36,7 +36,7 @@ loop-position-preserved c =
     let row = c.index-rows-position.result in
     let own = row_values plan c.args.rows.now _ c.args.numbering.now i row c.requires.numbering c.requires.worths
     c.positions-position-items.ensures.value c.loop-position-test.true in
-    let values = c.as_slice-in-loop-position.ensures.value ∙ c.in_ok-put_values.ensures
+    let values = c.as_slice-in-loop-position.ensures.value ∙ c.in_ok-push_values.ensures
     ∙ (λ j. c.clear.ensures.items j ++ map in_hundreds (c.as_slice.ensures.value j)) ∙ own.1 in
     let positions = c.positions-position-items.ensures in
     let within : i < length blocks = omega (arith, c.loop-position-test.true, ap length positions.value, positions.each) in

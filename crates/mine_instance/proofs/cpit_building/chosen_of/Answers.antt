@@ -29,6 +29,6 @@ loop-from-preserved g c =
     record {
       within = rw count c.group-group.ensures.within;
       chosen =
-          c.in_ok-put_at.ensures ∙ (λ j. c.loop-from.invariant.chosen j ++ map at_only_destination (same j))
+          c.in_ok-push_at.ensures ∙ (λ j. c.loop-from.invariant.chosen j ++ map at_only_destination (same j))
           ∙ sym (rw count (chosen_more values all (coefs_in group) from (length (pairs_of group.pairs)) c.group-group.ensures.value));
     }

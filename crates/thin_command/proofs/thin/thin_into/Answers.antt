@@ -8,7 +8,7 @@ use Rattle.command_io.specs.declared.refused.Refused.TheVariants.{Run}
 use Rattle.plan_parts.specs.Destinations.{formulas_of}
 use Rattle.run_threads.specs.Starts.{AreSpent}
 use Rattle.thin_command.specs.CountsText.{counts_words}
-use Rattle.thin_command.specs.declared.counts.Counts.{Counts}
+use Rattle.thin_command.specs.declared.counts.ThinCounts.{ThinCounts}
 use Rattle.thin_command.proofs.Thins.{cut_off, refused_line, refused_run, was_read}
 use Rattle.thin_command.proofs.thin.thin_into.Goals as goal
 
@@ -70,5 +70,5 @@ returns-clause-done g c =
       c.in_ok-instance.field-0.instance,
       record { read = read; written = c.in_ok-counts.ensures.written },
       c.in_ok-append_counts.ensures.told
-          ∙ ap (λ (counts : Counts). c.args.out.now.items ++ (counts_words counts ++ 10 ∷ [])) c.in_ok-counts.ensures.counts,
+          ∙ ap (λ (counts : ThinCounts). c.args.out.now.items ++ (counts_words counts ++ 10 ∷ [])) c.in_ok-counts.ensures.counts,
     )

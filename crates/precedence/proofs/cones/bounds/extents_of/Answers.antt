@@ -34,7 +34,7 @@ loop-i-preserved c =
     let i = c.loop-i.i - 1 in
     let b = c.index-blocks-i.result in
     let extents = c.loop-i.extents.items in
-    let more = c.reaching.result in
+    let more = c.extent_to_bounds.result in
     let one = c.widened-bounds.ensures in
     let had = c.loop-i.invariant in
     let inside : i < length blocks = omega (arith, had.inside, c.loop-i-test.true) in
@@ -57,9 +57,9 @@ loop-i-preserved c =
       top = one.top had.top;
       near = λ k j d e le behind lt. ⊎_elim
           (λ same. rw (block_is k d same) (rw (get_or-set_same extents b.zone more e zone)
-          (c.reaching.ensures.within (get_or blocks j d) (held j d (omega arith) lt))))
+          (c.extent_to_bounds.ensures.within (get_or blocks j d) (held j d (omega arith) lt))))
           (λ other. still_reaches extents b.zone (get_or blocks k d).zone more e (get_or blocks k d) (get_or blocks j d) zone
-          (rw was c.reaching.ensures.wider)
+          (rw was c.extent_to_bounds.ensures.wider)
           (had.near k j d e (omega (arith, other)) behind lt))
           (cases_eq k i);
     }

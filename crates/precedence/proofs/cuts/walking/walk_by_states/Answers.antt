@@ -70,8 +70,8 @@ lies_behind-requires-clause-in_order c =
 pub returns-in_err-push-clause-states : goal.returns-in_err-push-clause-states
 returns-in_err-push-clause-states c =
     elim c.if-not-lies_behind.branch [
-    | then-not-lies_behind+in_ok-next+in-Some-2 w ↦ rw w.states-is (rw c.as_slice-all.ensures.value at w.in_ok-next.ensures.states)
-    | else-not-lies_behind w ↦ rw w.states-is c.loop-reached.invariant.states
+      | then-not-lies_behind+in_ok-next+in-Some-2 w ↦ rw w.states-is (rw c.as_slice-all.ensures.value at w.in_ok-next.ensures.states)
+      | else-not-lies_behind w ↦ rw w.states-is c.loop-reached.invariant.states
     ]
 
 pub loop-reached-preserved : goal.loop-reached-preserved
@@ -103,19 +103,19 @@ loop-reached-preserved c =
     c.as_slice-rows.ensures.value ∙ (λ j. (get_or (c.as_slice-all.ensures.value j) number c.index-all-number.result).rows.items)
     ∙ ap rows_of_table (sym (slice_get-get_or tables number c.index-all-number.result at.1)) in
     let told : AreStates tables then.states.items then.edges.items × (c.if-not-lies_behind.state < length tables + length then.states.items)
-        × IsRestBehind rest gap (rows_of_table (slice_get tables number)) after =
+    × IsRestBehind rest gap (rows_of_table (slice_get tables number)) after =
     elim c.if-not-lies_behind.branch [
-    | then-not-lies_behind+in_ok-next+in-Some-2 w ↦ rw (w.states-is, w.state-is) (
-      rw c.as_slice-all.ensures.value at w.in_ok-next.ensures.states,
-      rw c.as_slice-all.ensures.value at (rw w.in-Some-2.is at w.in_ok-next.ensures.within),
-      rw c.as_slice-all.ensures.value at (rw w.in-Some-2.is at w.in_ok-next.ensures.rest),
-    )
-    | else-not-lies_behind w ↦ rw (w.states-is, w.state-is) (
-      inv.states,
-      inv.state,
-      subst (λ (r : List Row). IsRestBehind r gap (rows_of_table (slice_get tables number)) r) own_is
-          (subst (λ (r : List Row). IsRestBehind c.rows_at-own.result.rows.now gap r c.rows_at-own.result.rows.now) rows_are (w.if-not-lies_behind.ensures refl)),
-    )
+      | then-not-lies_behind+in_ok-next+in-Some-2 w ↦ rw (w.states-is, w.state-is) (
+        rw c.as_slice-all.ensures.value at w.in_ok-next.ensures.states,
+        rw c.as_slice-all.ensures.value at (rw w.in-Some-2.is at w.in_ok-next.ensures.within),
+        rw c.as_slice-all.ensures.value at (rw w.in-Some-2.is at w.in_ok-next.ensures.rest),
+      )
+      | else-not-lies_behind w ↦ rw (w.states-is, w.state-is) (
+        inv.states,
+        inv.state,
+        subst (λ (r : List Row). IsRestBehind r gap (rows_of_table (slice_get tables number)) r) own_is
+            (subst (λ (r : List Row). IsRestBehind c.rows_at-own.result.rows.now gap r c.rows_at-own.result.rows.now) rows_are (w.if-not-lies_behind.ensures refl)),
+      )
     ] in
     let left : IsRestBehind rest gap (cone id) after =
     subst (λ (r : List Row). IsRestBehind rest gap r after) (cone_at tables of_zone zones id number at.0) told.2 in

@@ -9,8 +9,8 @@ use Rattle.minelib_writing.proofs.CoefFacts.{group_parts, known_of, of_group}
 use Rattle.minelib_writing.proofs.KeptFacts.{holds_then, kept_part}
 use Rattle.minelib_writing.proofs.lines.coefs.CoefLinesParted.append.Goals as goal
 
-pub put_group-requires-clause-fit : goal.put_group-requires-clause-fit
-put_group-requires-clause-fit g c =
+pub append_group-requires-clause-fit : goal.append_group-requires-clause-fit
+append_group-requires-clause-fit g c =
     let all = g.C.CoefList.list c.args.self.now.coefs.now in
     let group = c.group_within-group.result in
     of_group (FitsForm g.V.ValueList.list c.args.self.now.form) all (coefs_in group) (c.args.index + c.loop-count.count) (length (pairs_of group.pairs))
@@ -35,10 +35,10 @@ loop-count-preserved g c =
     rw more (record {
       few = omega (arith, c.group_within-group.ensures.few, c.loop-count-test.true);
       within = subst (λ k. k ≤ length all) on c.group_within-group.ensures.within;
-      room = c.in_ok-put_group.ensures.tonnes;
+      room = c.in_ok-append_group.ensures.tonnes;
       known = c.in_ok-next_tonnes.ensures.kept;
       text =
-          c.in_ok-put_group.ensures.text ∙ ap (λ text. text ++ next) c.loop-count.invariant.text
+          c.in_ok-append_group.ensures.text ∙ ap (λ text. text ++ next) c.loop-count.invariant.text
           ∙ append_assoc c.args.out.now.items so_far next
           ∙ ap (λ text. c.args.out.now.items ++ text) (sym (group_parts (coef_part g.V.ValueList.list form) all (coefs_in group) index count n value));
       kept = subst (HoldsFrom (HoldsAt (λ c. IsInDecimalRange c.v) all) index) on

@@ -10,9 +10,9 @@ of_block-requires g c = rw length-line_parts at c.requires
 
 pub returns-clause-appended : goal.returns-clause-appended
 returns-clause-appended g c =
-    rw (block_line value_line (g.V.ValueList.list c.args.self.now.values.now) c.args.index _ c.requires c.of_block.ensures) c.in_ok-put_values.ensures.text
+    rw (block_line value_line (g.V.ValueList.list c.args.self.now.values.now) c.args.index _ c.requires c.of_block.ensures) c.in_ok-append_values.ensures.text
 
 pub returns-clause-kept : goal.returns-clause-kept
 returns-clause-kept g c =
     block_kept value_line (g.V.ValueList.list c.args.self.now.values.now) c.args.index _ c.requires c.of_block.ensures
-    (λ of_block. All IsInDecimalRange of_block) c.in_ok-put_values.ensures.kept
+    (λ of_block. All IsInDecimalRange of_block) c.in_ok-append_values.ensures.kept

@@ -8,7 +8,7 @@ use Rattle.rows.proofs.packed.items.PackedItemsKeeps.keep.Goals as goal
 pub invariant_of-self-2 : goal.invariant_of-self-2
 invariant_of-self-2 g c =
     let fits : IsOfWidth c.self.inside.width c.args.item = search rules in
-    let later : c.put_worths.new.worths.items ≡ c.self.inside.worths.items ++ kept_worths c.self.inside.width c.args.item = search rules in
+    let later : c.push_worths.new.worths.items ≡ c.self.inside.worths.items ++ kept_worths c.self.inside.width c.args.item = search rules in
     let after : c.push.new.self.items ≡ c.self.inside.entries.items ++ c.new.result ∷ [] = search rules in (
       still_whole c.self.inside.width c.self.inside.worths.items _ c.self.inside.entries.items _ c.args.item c.new.result c.self.invariant.0
           fits later after,
@@ -19,7 +19,7 @@ invariant_of-self-2 g c =
 pub returns-clause-appended : goal.returns-clause-appended
 returns-clause-appended g c =
     let fits : IsOfWidth c.self.inside.width c.args.item = search rules in
-    let later : c.put_worths.new.worths.items ≡ c.self.inside.worths.items ++ kept_worths c.self.inside.width c.args.item = search rules in
+    let later : c.push_worths.new.worths.items ≡ c.self.inside.worths.items ++ kept_worths c.self.inside.width c.args.item = search rules in
     let after : c.push.new.self.items ≡ c.self.inside.entries.items ++ c.new.result ∷ [] = search rules in
     one_more c.self.inside.width c.self.inside.worths.items _ c.self.inside.entries.items _ c.args.item c.new.result c.self.invariant.0
     fits later after (c.new.ensures c.self.inside.width)

@@ -1,0 +1,61 @@
+//! Items of a file by their places.
+
+ghost use Rattle.std.specs.Prelude.{◌≡◌, [], OnOk, OnErr};
+ghost use Rattle.collector.specs.inner.WithAt.{with_at};
+
+use std::alloc::{AllocError, Global};
+use std::marker::Model;
+
+/// An item for each place of a file, up to the last one that an item was put at. For a place before it that none was put at, that of a
+/// later place stands in.
+#[derive(Drop)]
+pub struct ByPlace<T> {
+    items: Vec<T>,
+}
+
+impl<T> Model for ByPlace<T> {
+    ghost use Rattle.std.specs.Prelude.{List};
+
+    ghost Value = { List T };
+
+    ghost view = { λ p. p.items.items };
+}
+
+impl<T: Copy> ByPlace<T> {
+    /// No places.
+    pub fn new(alloc: Global) -> ByPlace<T>
+        ensures { result ≡ [] }
+    {
+        ByPlace {
+            items: Vec::new(alloc),
+        }
+    }
+
+    /// Puts an item at its place. Where memory is refused all is as it was.
+    pub fn store(&mut self, place: u32, item: T) -> Result<(), AllocError>
+        ensures ok { OnOk result (self.new ≡ with_at self.old place item) }
+        ensures err { OnErr result (self.new ≡ self.old) }
+    {
+        let place = place as usize;
+        if place < self.items.len() {
+            self.items[place] = item;
+            Ok(())
+        } else {
+            self.items.resize(place + 1, item)
+        }
+    }
+
+    /// The items, in the order of the places.
+    pub fn as_slice(&self) -> &[T]
+        ensures { result.now ≡ self.now }
+    {
+        self.items.as_slice()
+    }
+
+    /// The same, handed over.
+    pub fn into_vec(self) -> Vec<T>
+        ensures { result.items ≡ self }
+    {
+        self.items
+    }
+}
