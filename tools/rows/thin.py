@@ -238,6 +238,42 @@ def of_random_zones():
         yield thinned(f"random zones {seed}", cells, zones, sizes)
 
 
+def of_long_rows():
+    """Rows of many blocks along x, where what is left of one block is left of the blocks behind it too, up to a hole, a side or another
+    cone, in the block's own row or in one of those above."""
+    along = range(26)
+    whole = box(along, range(3), range(4))
+    for cells in ("1,1,3", "1,2,2", "2,1,3", "1,1,2,1,1,2,3,2,3", "1,9,1"):
+        yield thinned(f"long rows: full, {cells}", [cells], [whole])
+        for hole in [(12, 1, 0), (12, 1, 1), (13, 0, 2), (9, 2, 3), (0, 1, 1), (25, 1, 1), (24, 1, 2)]:
+            yield thinned(f"long rows: {cells}, a hole at {hole}", [cells], [[place for place in whole if place != hole]])
+    skew = [(x + y + 2 * z, y, z) for x, y, z in whole]
+    yield thinned("long rows: each further east", ["1,1,3"], [skew])
+    yield thinned("long rows: from the end of the grid", ["1,1,3"], [[(x + 9974, y, z) for x, y, z in whole]])
+    yield thinned("long rows: two benches apart", ["1,1,3"], [[(x, y, 2 * z) for x, y, z in whole]])
+    for name, zone_of in [
+        ("the east", lambda x, y, z: x > 12), ("the east above", lambda x, y, z: x > 12 and z > 1), ("the east below", lambda x, y, z: x > 12 and z < 1),
+        ("one block", lambda x, y, z: (x, y, z) == (13, 1, 1)), ("one block on top", lambda x, y, z: (x, y, z) == (13, 1, 3)),
+        ("each third", lambda x, y, z: x % 3 == 0), ("one row", lambda x, y, z: (y, z) == (1, 1)), ("a bench", lambda x, y, z: z == 2),
+    ]:
+        zones = [[place for place in whole if zone_of(*place) == other] for other in (False, True)]
+        for cells in (["1,1,3", "2,1,2"], ["1,1,1", "1,2,3"], ["1,1,3", "1,1,3"]):
+            yield thinned(f"long rows: {name}, {cells}", cells, zones)
+    for seed in range(40):
+        chance = random.Random(seed)
+        cells = [f"1,{chance.randrange(1, 3)},{chance.randrange(1, 4)}" for _ in range(chance.randrange(1, 4))]
+        zones = [[] for _ in cells]
+        for z in range(chance.randrange(2, 5)):
+            for y in range(chance.randrange(1, 4)):
+                zone = chance.choice(zones)
+                for x in range(chance.randrange(3), chance.randrange(20, 30)):
+                    if chance.random() < 0.07:
+                        zone = chance.choice(zones)
+                    if chance.random() > 0.02:
+                        zone.append((x, y, z))
+        yield thinned(f"long rows: random {seed}", cells, zones)
+
+
 def of_masses():
     """What a block holds or is worth decides on no arc."""
     whole, cells = box(range(5), range(5), range(5)), ["1,1,2", "1,1,5", "1,1,2,1,1,2,3,2,6"]
@@ -370,6 +406,7 @@ def trials():
     yield from of_full_rock()
     yield from of_unlike_cones()
     yield from of_random_zones()
+    yield from of_long_rows()
     yield from of_masses()
     yield from of_orders()
     yield from of_many_zones()

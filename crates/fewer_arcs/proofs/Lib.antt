@@ -1,5 +1,6 @@
 pub mod Enough
 pub mod Members
+pub mod Moved
 pub mod One
 pub mod Same
 pub mod SomeLeft

@@ -1,14 +1,13 @@
 -- What is in a list, what a test keeps of it, and what stands behind blocks.
-use Rattle.std.proofs.Common.{◌≡◌, ℕ, ◌+◌, ◌<◌, ◌==◌, ◌||◌, zero, suc, Bool, true, false, cond, not, List, [], ◌∷◌, Contains, drop, filter, length, get_or, refl, subst, sym, ap, ◌∙◌, arith, inl, inr, ⊎_elim, ◌⊎◌}
+use Rattle.std.proofs.Common.{◌≡◌, ℕ, ◌+◌, ◌<◌, ◌||◌, zero, suc, Bool, true, false, cond, List, [], ◌∷◌, Contains, drop, filter, length, get_or, refl, subst, sym, ap, ◌∙◌, arith, inl, inr, ⊎_elim, ◌⊎◌}
 use Rattle.std.specs.List.Sorted.{IsStrictlyIncreasing}
-use Rattle.std.proofs.lemmas.Bool.{cases_Bool, eq-eqb, eqb-true}
+use Rattle.std.proofs.lemmas.Bool.{cases_Bool}
 use Rattle.std.proofs.lemmas.List.{get_or-drop}
 use Rattle.std.proofs.lemmas.List.Filters.{FiltersInPlace}
 use Rattle.std.proofs.lemmas.List.Folds.{list_any_at}
-use Rattle.std.proofs.lemmas.List.Kept.{AllPairs-from_increasing}
 use Rattle.precedence.specs.IdRuns.{is_in}
 use Rattle.precedence.specs.Behind.{is_behind}
-use Rattle.precedence.proofs.Members.{contains_true, true_contains}
+use Rattle.precedence.proofs.Members.{contains_true, same_rising, true_contains}
 use Rattle.fewer_arcs.specs.Left.{IsBehind}
 
 pub in_none : (c : ℕ) → Contains {X = ℕ} [] c → ⊥
@@ -42,18 +41,6 @@ behind_true lists blocks c w =
     let at = w.1 in
     list_any_at (λ d. is_in (get_or lists d []) c) blocks at.0 w.0 at.1
     (ap (λ d. is_in (get_or lists d []) c) at.2 ∙ contains_true (get_or lists w.0 []) c w.2)
-
-pub head_below : (x : ℕ) (xs : List ℕ) (c : ℕ) → IsStrictlyIncreasing (x ∷ xs) → Contains xs c → x < c
-head_below x xs c rising has =
-    let lt = has.1 in
-    let is = has.2 in
-    omega (arith, AllPairs-from_increasing (x ∷ xs) rising 0 (suc has.0) c (omega arith) (omega arith))
-
-pub tail_rises : (x : ℕ) (xs : List ℕ) → IsStrictlyIncreasing (x ∷ xs) → IsStrictlyIncreasing xs
-tail_rises x xs rising k lt = let two : suc k + 1 < length (x ∷ xs) = omega arith in at (rising (suc k) two)
-  where
-    at : get_or xs k 0 < get_or (x ∷ xs) (suc k + 1) 0 → get_or xs k 0 < get_or xs (k + 1) 0
-    at h = let e : suc k + 1 ≡ suc (k + 1) = omega arith in subst (λ n. get_or xs k 0 < get_or (x ∷ xs) n 0) e h
 
 -- ---- what a test keeps
 
@@ -94,30 +81,8 @@ module _ (test : ℕ → Bool) where
 -- rising lists with the same members are one list
 pub one_list : (xs ys : List ℕ) → IsStrictlyIncreasing xs → IsStrictlyIncreasing ys → ((c : ℕ) → Contains xs c → Contains ys c)
     → ((c : ℕ) → Contains ys c → Contains xs c) → xs ≡ ys
-one_list [] [] rx ry there back = refl
-one_list [] (y ∷ ys) rx ry there back = absurd (in_none y (back y (head_in y ys)))
-one_list (x ∷ xs) [] rx ry there back = absurd (in_none x (there x (head_in x xs)))
-one_list (x ∷ xs) (y ∷ ys) rx ry there back =
-    let same : x ≡ y = heads in
-    let rest : xs ≡ ys = one_list xs ys (tail_rises x xs rx) (tail_rises y ys ry)
-    (λ c has. ⊎_elim
-    (λ is. absurd (let less = head_below x xs c rx has in omega arith))
-    (λ in'. in')
-    (cons_cases y ys c (there c (tail_in x xs c has))))
-    (λ c has. ⊎_elim
-    (λ is. absurd (let less = head_below y ys c ry has in omega arith))
-    (λ in'. in')
-    (cons_cases x xs c (back c (tail_in y ys c has)))) in
-    λ j. same j ∷ rest j
-  where
-    heads : x ≡ y
-    heads = ⊎_elim
-        (λ is. sym is)
-        (λ low. ⊎_elim
-        (λ is. is)
-        (λ high. absurd (let a = head_below y ys x ry low in let b = head_below x xs y rx high in omega arith))
-        (cons_cases x xs y (back y (head_in y ys))))
-        (cons_cases y ys x (there x (head_in x xs)))
+one_list xs ys rx ry there back = same_rising xs ys rx ry
+    (λ c h. contains_true ys c (there c (true_contains xs c h))) (λ c h. contains_true xs c (back c (true_contains ys c h)))
 
 -- where a filter in place has come to, the list is as it was
 pub still_there : (test : ℕ → Bool) (xs ys : List ℕ) (k i d : ℕ) → FiltersInPlace test xs ys k i → get_or ys i d ≡ get_or xs i d

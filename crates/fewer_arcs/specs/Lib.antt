@@ -2,3 +2,4 @@ pub mod Fewer
 pub mod Left
 pub mod Mined
 pub mod SayTheSame
+pub mod inner

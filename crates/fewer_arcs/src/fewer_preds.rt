@@ -5,26 +5,35 @@ ghost use Rattle.precedence.specs.Behind.{is_behind};
 ghost use Rattle.precedence.specs.IdRuns.{ids_of, is_in};
 ghost use Rattle.fewer_arcs.specs.Fewer.{fewer, left_of};
 
-use precedence::{EnoughPreds, IdRun, MadeLists, add_runs_of_ids};
+use precedence::{EnoughPreds, IdRun, MadeLists, add_moved_runs, add_runs_of_ids};
 use std::alloc::{AllocError, Global};
 use std::marker::Model;
 
-/// What is left of the lists of others: of each, no block that stands in the list of another one of it. None is kept: that of a block is
-/// made when it is asked for, in room that is kept for the next one. Contracts see the list of all lists.
+/// What is left of the lists of others: of each, no block that stands in the list of another one of it. That of a block is made when it is
+/// asked for, and kept as long as those of the blocks behind it are the same, moved along. Contracts see the list of all lists.
 #[derive(Drop)]
 pub struct FewerPreds<L: EnoughPreds + Drop> {
     lists: L,
     alloc: Global,
+    // room in which predecessors are found
     room: Vec<u32>,
+    // what is left of the list of a block, and for how many blocks behind it the same is left, moved along
+    left: Vec<IdRun>,
+    block: u32,
+    more: u32,
 }
 
 impl<L: EnoughPreds + Drop> Model for FewerPreds<L> {
     ghost use Rattle.std.specs.Prelude.{ℕ, List};
+    ghost use Rattle.precedence.specs.IdRuns.{ids_of};
     ghost use Rattle.fewer_arcs.specs.Fewer.{fewer};
+    ghost use Rattle.fewer_arcs.specs.inner.Kept.{IsLeftBehind};
 
     ghost Value = { List (List ℕ) };
 
     ghost view = { λ f. fewer (L.lists f.lists) };
+
+    ghost invariant = { λ f. IsLeftBehind (L.lists f.lists) (ids_of f.left.items) f.block f.more };
 }
 
 impl<L: EnoughPreds + Drop> FewerPreds<L> {
@@ -36,6 +45,9 @@ impl<L: EnoughPreds + Drop> FewerPreds<L> {
             lists,
             alloc,
             room: Vec::new(alloc),
+            left: Vec::new(alloc),
+            block: 0,
+            more: 0,
         }
     }
 }
@@ -48,7 +60,21 @@ impl<L: EnoughPreds + Drop> MadeLists for FewerPreds<L> {
     }
 
     fn add_runs(&mut self, runs: &mut Vec<IdRun>, id: u32) -> Result<(), AllocError> {
-        add_fewer(self.alloc, runs, &mut self.room, &mut self.lists, id)
+        if self.block < id && id - self.block <= self.more {
+            return add_moved_runs(runs, self.left.as_slice(), id - self.block);
+        }
+        self.more = 0;
+        self.left.clear();
+        add_fewer(
+            self.alloc,
+            &mut self.left,
+            &mut self.room,
+            &mut self.lists,
+            id,
+        )?;
+        self.block = id;
+        self.more = self.lists.moved(id);
+        add_moved_runs(runs, self.left.as_slice(), 0)
     }
 }
 

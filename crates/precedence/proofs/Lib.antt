@@ -4,6 +4,7 @@ pub mod CountedLists
 pub mod Geometry
 pub mod Identifiers
 pub mod Members
+pub mod MovedLists
 pub mod Order
 pub mod Pieces
 pub mod PlacesWhere

@@ -6,6 +6,7 @@ pub mod ConeLaws
 pub mod Enough
 pub mod IdRuns
 pub mod Identifier
+pub mod Moved
 pub mod Numbering
 pub mod SameBlock
 pub mod Zones

@@ -1,3 +1,4 @@
+pub mod Alike
 pub mod Arcs
 pub mod Beside
 pub mod CountedFields
@@ -8,7 +9,6 @@ pub mod PredsFields
 pub mod Reach
 pub mod Rest
 pub mod Rows
-pub mod Search
 pub mod Seen
 pub mod States
 pub mod Steps

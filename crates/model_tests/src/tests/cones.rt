@@ -6,7 +6,7 @@ ghost use Rattle.precedence.specs.Zones.{HasZones};
 use pit_model::plan::Plan;
 use pit_model::read_plan;
 use plan_parts::block::Block;
-use precedence::{Numbering, Preds, number_blocks, preds};
+use precedence::{EnoughPreds, FoundPreds, Numbering, PredLists, Preds, number_blocks, preds};
 use std::alloc::Global;
 use std::test::Fail;
 
@@ -92,5 +92,59 @@ fn have_lists(
 fn nine_above(rt: HostRuntime) -> Result<(), Fail> {
     let lists: Lists = &[(0, &[2, 4, 5, 6, 8])];
     assert!(rt; have_lists(rt.alloc(), ONE_BENCH, NINE_ABOVE, lists, 5)?);
+    Ok(())
+}
+
+// A row of ten blocks below another.
+const TWO_ROWS: &[Place] = &[
+    [0, 0, 0],
+    [1, 0, 0],
+    [2, 0, 0],
+    [3, 0, 0],
+    [4, 0, 0],
+    [5, 0, 0],
+    [6, 0, 0],
+    [7, 0, 0],
+    [8, 0, 0],
+    [9, 0, 0],
+    [0, 0, 1],
+    [1, 0, 1],
+    [2, 0, 1],
+    [3, 0, 1],
+    [4, 0, 1],
+    [5, 0, 1],
+    [6, 0, 1],
+    [7, 0, 1],
+    [8, 0, 1],
+    [9, 0, 1],
+];
+
+fn found_in(alloc: Global, plan: &[u8], places: &[Place]) -> Result<FoundPreds, Fail> {
+    let plan = read_plan(alloc, plan)?;
+    let blocks = blocks_at(alloc, places)?;
+    let numbering = numbered(alloc, blocks.as_slice())?;
+    if !has_zones(&numbering, &plan) {
+        return Err("zones")?;
+    }
+    Ok(FoundPreds::new(alloc, &numbering, &plan)?)
+}
+
+// How many blocks behind a block have its list moved along.
+fn moved(lists: &FoundPreds, block: u32) -> u32 {
+    if (block as usize) < lists.count() {
+        lists.moved(block)
+    } else {
+        0
+    }
+}
+
+// The block in the west has none above it to its west, and those in the east none to their east.
+#[test]
+fn lists_in_a_row_are_moved_along(rt: HostRuntime) -> Result<(), Fail> {
+    let found = found_in(rt.alloc(), ONE_BENCH, TWO_ROWS)?;
+    assert!(rt; moved(&found, 0) == 0);
+    assert!(rt; moved(&found, 1) == 7);
+    assert!(rt; moved(&found, 6) == 2);
+    assert!(rt; moved(&found, 9) == 0);
     Ok(())
 }

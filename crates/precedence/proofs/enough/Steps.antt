@@ -5,7 +5,7 @@ use Rattle.std.proofs.lemmas.Bool.{cases_Bool, cases_lt, eqb-true}
 use Rattle.std.proofs.lemmas.List.Kept.{AllPairs-from_increasing}
 use Rattle.std.proofs.lemmas.List.{get_or_default}
 use Rattle.precedence.specs.IdRuns.{is_in}
-use Rattle.precedence.specs.inner.Search.{lying}
+use Rattle.precedence.specs.inner.Lists.{lying}
 use Rattle.precedence.specs.inner.Rest.{IsRestBehind}
 use Rattle.precedence.specs.inner.Rows.{is_in_rows}
 use Rattle.precedence.specs.inner.Steps.{cone_of, is_behind_id, IsFree, IsWalkedTo}

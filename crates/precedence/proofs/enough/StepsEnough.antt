@@ -3,7 +3,7 @@ use Rattle.std.proofs.Common.{◌≡◌, ℕ, ◌<◌, ◌≤◌, true, false, L
 use Rattle.std.proofs.lemmas.List.{get_or_default}
 use Rattle.precedence.specs.Enough.{AreEnough}
 use Rattle.precedence.specs.IdRuns.{is_in}
-use Rattle.precedence.specs.inner.Search.{lying}
+use Rattle.precedence.specs.inner.Lists.{lying}
 use Rattle.precedence.specs.inner.FoundFields.{found_in, KeepsFound}
 use Rattle.precedence.specs.inner.Rows.{is_in_rows}
 use Rattle.precedence.specs.inner.Steps.{cone_of, is_behind_id, HasEnded, IsWalkedTo}

@@ -8,7 +8,7 @@ use Rattle.std.proofs.lemmas.List.{drop-map, get_or-drop, drop-drop}
 use Rattle.std.proofs.lemmas.Bool.{cases_lt, lt-ltb, le-ltb, le-leb, lt-leb, or_parts}
 use Rattle.precedence.specs.Cone.{places_where}
 use Rattle.precedence.specs.inner.Rows.{is_in_row, is_in_rows, pasts, start_of, LieApart}
-use Rattle.precedence.specs.inner.Search.{run}
+use Rattle.precedence.specs.inner.Lists.{run}
 use Rattle.precedence.specs.declared.cones.cone_rows.Row.{Row}
 use Rattle.precedence.proofs.PlacesWhere.{nowhere, where_at}
 use Rattle.precedence.proofs.runs.Starts.{from_start, no_less, start_before_in, start_grows, start_within}

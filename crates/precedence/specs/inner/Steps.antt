@@ -3,7 +3,7 @@
 use Rattle.std.specs.Prelude.{◌≡◌, ℕ, ◌<◌, ◌≤◌, Bool, true, false, List, length, slice_index, ◌⊎◌}
 use Rattle.std.specs.List.Sorted.{IsStrictlyIncreasing}
 use Rattle.precedence.specs.IdRuns.{is_in}
-use Rattle.precedence.specs.inner.Search.{lying}
+use Rattle.precedence.specs.inner.Lists.{lying}
 use Rattle.precedence.specs.inner.Rows.{is_in_rows}
 use Rattle.precedence.specs.inner.ZoneTables.{zone_rows}
 use Rattle.precedence.specs.declared.cones.cone_rows.Row.{Row}

@@ -15,6 +15,8 @@ pub struct ConeTable {
     /// Where each row is past.
     pub past: Vec<u64>,
     pub widths: Widths,
+    /// The row that is the widest: a guess.
+    pub widest: usize,
     /// The number of rows in the tables before, where the hints for its own begin.
     pub start: usize,
     pub ghost all_past: { past.items ≡ pasts rows.items },

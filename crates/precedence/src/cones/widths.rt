@@ -20,6 +20,20 @@ pub fn widths_of(rows: &[Row]) -> Widths
     Widths { west, east }
 }
 
+/// The number of the first of the widest rows.
+pub fn widest_of(rows: &[Row]) -> usize {
+    let mut widest = 0;
+    let mut most = 0;
+    for i in 0..rows.len() {
+        let width = rows[i].past - rows[i].first;
+        if most < width {
+            most = width;
+            widest = i;
+        }
+    }
+    widest
+}
+
 fn middle_of(past: u64) -> u64
     requires { past < 10 ^ 15 }
     ensures { result ≡ middle past }

@@ -10,7 +10,7 @@ use crate::cones::bounds::extent_for;
 use crate::cones::cone_rows::{Extent, Row};
 use crate::cones::cone_table::ConeTable;
 use crate::cones::row_making::cone_rows;
-use crate::cones::widths::widths_of;
+use crate::cones::widths::{widest_of, widths_of};
 use plan_parts::cone::Cone;
 use plan_parts::grid::Grid;
 use std::alloc::{AllocError, Global};
@@ -124,11 +124,13 @@ fn table_of(
     let rows = cone_rows(alloc, grid, cone, extent_for(cones, extents, cone))?;
     let past = past_of(alloc, rows.as_slice())?;
     let widths = widths_of(rows.as_slice());
+    let widest = widest_of(rows.as_slice());
     Ok(ConeTable {
         cone,
         rows,
         past,
         widths,
+        widest,
         start,
     })
 }

@@ -1,6 +1,7 @@
 //! Blocks between two others: in the cone of the one, and with the other in their own.
 
 ghost use Rattle.std.specs.Prelude.{◌≡◌, ◌<◌, ℕ, false, All, IsTrue, length, max, min};
+ghost use Rattle.precedence.specs.inner.Alike.{AreAlike};
 ghost use Rattle.precedence.specs.inner.Rows.{AreInOrder};
 ghost use Rattle.precedence.specs.inner.Steps.{cone_of, IsBetween, IsBetweenOf, LiesThere};
 ghost use Rattle.precedence.specs.declared.places.code.TheConstants.{CODES};
@@ -12,10 +13,18 @@ use crate::places::Places;
 use crate::places::start_of::start_of;
 use std::cell::Cell;
 
-/// Whether a block lies between two.
-pub fn has_between(places: &Places, zones: &[u8], tables: &ZoneTables, low: u32, high: u32) -> bool
+/// Whether a block lies between two. `alike` tells of each block how many from it on are alike.
+pub fn has_between(
+    places: &Places,
+    zones: &[u8],
+    alike: &[u16],
+    tables: &ZoneTables,
+    low: u32,
+    high: u32,
+) -> bool
     requires each { length zones.now ≡ length places.now.codes.items }
     requires zones { All (λ z. z < length tables.now.of_zone.items) zones.now }
+    requires alike { AreAlike places.now.codes.items tables.now.of_zone.items zones.now alike.now }
     requires below { All (λ t. t < length tables.now.tables.items) tables.now.of_zone.items }
     requires in_order { All (λ t. AreInOrder t.rows.items) tables.now.tables.items }
     requires low { low < length places.now.codes.items }
@@ -33,6 +42,7 @@ pub fn has_between(places: &Places, zones: &[u8], tables: &ZoneTables, low: u32,
         if has_of_table(
             places,
             zones,
+            alike,
             tables.of_zone.as_slice(),
             own,
             from,
@@ -54,6 +64,7 @@ pub fn has_between(places: &Places, zones: &[u8], tables: &ZoneTables, low: u32,
 fn has_of_table(
     places: &Places,
     zones: &[u8],
+    alike: &[u16],
     of_zone: &[usize],
     own: &ConeTable,
     from: u64,
@@ -64,6 +75,7 @@ fn has_of_table(
 ) -> bool
     requires each { length zones.now ≡ length places.now.codes.items }
     requires zones { All (λ z. z < length of_zone.now) zones.now }
+    requires alike { AreAlike places.now.codes.items of_zone.now zones.now alike.now }
     requires own { AreInOrder own.now.rows.items }
     requires table { AreInOrder table.now.rows.items }
     requires from { from < CODES }
@@ -97,7 +109,7 @@ fn has_of_table(
             &near_below,
         );
         let both = meeting(above, below);
-        if has_block(places, zones, of_zone, number, both, &near_block) {
+        if has_block(places, zones, alike, of_zone, number, both, &near_block) {
             return true;
         }
         code = both.past;
@@ -122,6 +134,7 @@ fn meeting(above: Stretch, below: Stretch) -> Stretch
 fn has_block(
     places: &Places,
     zones: &[u8],
+    alike: &[u16],
     of_zone: &[usize],
     number: usize,
     stretch: Stretch,
@@ -129,6 +142,7 @@ fn has_block(
 ) -> bool
     requires each { length zones.now ≡ length places.now.codes.items }
     requires zones { All (λ z. z < length of_zone.now) zones.now }
+    requires alike { AreAlike places.now.codes.items of_zone.now zones.now alike.now }
     ensures some { IsTrue result → (d : ℕ) × (LiesThere places.now.codes.items of_zone.now zones.now
         stretch.first stretch.past number d) }
     ensures none { result ≡ false → (d : ℕ) → LiesThere places.now.codes.items of_zone.now zones.now
@@ -138,15 +152,17 @@ fn has_block(
         return false;
     }
     let codes = places.codes.as_slice();
-    let start = start_of(codes, near.get(), stretch.first);
-    near.set(start);
-    for id in start..codes.len() {
+    let mut id = start_of(codes, near.get(), stretch.first);
+    near.set(id);
+    while id < codes.len() {
         if codes[id] >= stretch.past {
             return false;
         }
         if of_zone[zones[id] as usize] == number {
             return true;
         }
+        // Those that are alike have the same table.
+        id += usize::from(alike[id]).max(1);
     }
     false
 }

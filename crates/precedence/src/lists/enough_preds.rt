@@ -1,10 +1,11 @@
 //! Lists of predecessors of which few stand for all others.
 
-ghost use Rattle.std.specs.Prelude.{◌≡◌, true, ◌<◌, ◌^◌, [], IsTrue, OnOk, length, slice_index_or};
+ghost use Rattle.std.specs.Prelude.{◌≡◌, ℕ, true, ◌+◌, ◌<◌, ◌≤◌, ◌^◌, [], IsTrue, OnOk, length, slice_index_or};
 ghost use Rattle.precedence.specs.Behind.{is_behind};
 ghost use Rattle.precedence.specs.Closed.{AreClosed, ComeLater};
 ghost use Rattle.precedence.specs.Enough.{AreEnough};
 ghost use Rattle.precedence.specs.IdRuns.{is_in};
+ghost use Rattle.precedence.specs.Moved.{IsMoved};
 
 use crate::lists::pred_lists::PredLists;
 use std::alloc::{AllocError, Global};
@@ -32,6 +33,14 @@ pub trait EnoughPreds: PredLists {
         requires listed { is_in (slice_index_or (Self.lists self.now) block []) id ≡ true }
         ensures { result ≡ is_behind (Self.lists self.now)
             (slice_index_or (Self.lists self.now) block []) id };
+
+    /// How many blocks behind a block have its list moved along, as far as is known.
+    fn moved(&self, block: u32) -> u32
+        requires block { block < length (Self.lists self.now) }
+        ensures moved { (t : ℕ) → 0 < t → t ≤ result → IsMoved (Self.lists self.now) block t }
+        ensures within { block + result < length (Self.lists self.now) }
+        ensures small { (c : ℕ) → is_in (slice_index_or (Self.lists self.now) block []) c ≡ true
+            → c + result < 2 ^ 32 };
 
     /// Whether it is known that the lists are closed. Then of those that stand for all others none stands in the list of another
     /// predecessor.

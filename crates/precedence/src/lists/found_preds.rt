@@ -14,11 +14,13 @@ use crate::cuts::between::has_between;
 use crate::cuts::state::States;
 use crate::cuts::states::no_states;
 use crate::cuts::walking::walk;
+use crate::lists::alike::alike_of;
 use crate::lists::arc_counts::arcs_in_cones;
 use crate::lists::beside::{ByChunk, ByRow};
 use crate::lists::enough_preds::EnoughPreds;
 use crate::lists::id_run::IdRun;
 use crate::lists::ids_as_runs::add_ids_of_runs;
+use crate::lists::moving::moved_in_rows;
 use crate::lists::pred_lists::PredLists;
 use crate::lists::predecessors::Preds;
 use crate::lists::row_runs::{Hint, NOTHING_KNOWN, add_runs_in_rows};
@@ -34,16 +36,20 @@ use std::marker::Model;
 const USUAL: usize = 8;
 
 /// The predecessors of each block by identifier, in rising order. They are not kept: those of a block are found when they are asked
-/// for. It takes 9 bytes for each block and 32 for each row of a cone, and what walks keep. Contracts see the list of all lists, as of
+/// for. It takes 11 bytes for each block and 32 for each row of a cone, and what walks keep. Contracts see the list of all lists, as of
 /// `Preds`.
 #[derive(Drop)]
 pub struct FoundPreds {
     places: Places,
     // of each block by identifier
     zones: Vec<u8>,
+    // of each block how many from it on follow one another along x and have one cone
+    alike: Vec<u16>,
     tables: ZoneTables,
     // where the run of each row of the tables was found last: a guess, which changes the time and not the lists
     hints: Vec<Cell<Hint>>,
+    // from which block on none was moved along, and before which it is not asked again: a guess
+    not_moved: Cell<Hint>,
     // the states of walks over the cones that were made so far
     states: States,
     // whether all zones have one cone
@@ -75,13 +81,21 @@ impl FoundPreds {
         let cones = plan.cones();
         let extents = extents_of(alloc, blocks, cones.len())?;
         let tables = tables_of(alloc, plan.grid(), cones, extents.as_slice())?;
+        let alike = alike_of(
+            alloc,
+            places.codes.as_slice(),
+            zones.as_slice(),
+            tables.of_zone.as_slice(),
+        )?;
         let hints = no_hints(alloc, tables.rows())?;
         let closed = tables.tables.len() <= 1;
         Ok(FoundPreds {
             places,
             zones,
+            alike,
             tables,
             hints,
+            not_moved: Cell::new(NOTHING_KNOWN),
             states: no_states(alloc),
             closed,
         })
@@ -96,7 +110,13 @@ impl FoundPreds {
     pub fn arcs(&self, alloc: Global) -> Result<u64, AllocError>
         ensures { IfOk result (λ arcs. arcs ≡ sum_by length self.now) }
     {
-        arcs_in_cones(alloc, &self.places, self.zones.as_slice(), &self.tables)
+        arcs_in_cones(
+            alloc,
+            &self.places,
+            self.zones.as_slice(),
+            self.alike.as_slice(),
+            &self.tables,
+        )
     }
 
     /// All lists, kept. Fails only where memory is refused.
@@ -170,7 +190,40 @@ impl EnoughPreds for FoundPreds {
 
     #[tactic(auto, using(crate::proofs::AllLists::found_length))]
     fn is_behind(&self, block: u32, id: u32) -> bool {
-        has_between(&self.places, self.zones.as_slice(), &self.tables, block, id)
+        has_between(
+            &self.places,
+            self.zones.as_slice(),
+            self.alike.as_slice(),
+            &self.tables,
+            block,
+            id,
+        )
+    }
+
+    #[tactic(auto, using(crate::proofs::AllLists::found_length))]
+    fn moved(&self, block: u32) -> u32 {
+        let asked = self.not_moved.get();
+        if self.places.sparse || (asked.first <= block && block < asked.past) {
+            return 0;
+        }
+        let index = block as usize;
+        let table = self.tables.of(self.zones[index]);
+        let moved = moved_in_rows(
+            &self.places,
+            self.alike.as_slice(),
+            table.rows.as_slice(),
+            &self.hints[table.start.min(self.hints.len())..],
+            table.widest,
+            self.places.codes[index],
+            u64::from(self.alike[index]).saturating_sub(1),
+        );
+        if moved.more == 0 {
+            self.not_moved.set(Hint {
+                first: block,
+                past: block.saturating_add(moved.again.min(u64::from(u32::MAX)) as u32),
+            });
+        }
+        moved.more as u32
     }
 
     fn are_closed(&self) -> bool {

@@ -1,7 +1,7 @@
 //! Lists of identifiers as runs, and runs as lists.
 
-ghost use Rattle.std.specs.Prelude.{◌≡◌, ◌<◌, ◌≤◌, ◌++◌, OnOk, length, take};
-ghost use Rattle.precedence.specs.IdRuns.{ids_of, ids_of_run};
+ghost use Rattle.std.specs.Prelude.{◌≡◌, ◌+◌, ◌<◌, ◌≤◌, ◌^◌, ◌++◌, ℕ, true, OnOk, length, map, take};
+ghost use Rattle.precedence.specs.IdRuns.{ids_of, ids_of_run, is_in};
 
 use crate::lists::id_run::IdRun;
 use std::alloc::AllocError;
@@ -35,6 +35,28 @@ fn front_run(ids: &[u32]) -> IdRun
     IdRun {
         first,
         len: len as u32,
+    }
+}
+
+/// Appends runs of the same identifiers, each of them so much greater.
+pub fn add_moved_runs(runs: &mut Vec<IdRun>, told: &[IdRun], by: u32) -> Result<(), AllocError>
+    requires { (id : ℕ) → is_in (ids_of told.now) id ≡ true → id + by < 2 ^ 32 }
+    ensures { OnOk result (ids_of runs.new.items
+        ≡ ids_of runs.old.items ++ map (λ id. id + by) (ids_of told.now)) }
+{
+    for run in told {
+        runs.push(moved_run(*run, by))?;
+    }
+    Ok(())
+}
+
+fn moved_run(run: IdRun, by: u32) -> IdRun
+    requires { run.first + run.len + by ≤ 2 ^ 32 }
+    ensures { ids_of_run result ≡ map (λ id. id + by) (ids_of_run run) }
+{
+    IdRun {
+        first: run.first + by,
+        len: run.len,
     }
 }
 

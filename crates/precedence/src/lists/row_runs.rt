@@ -6,7 +6,7 @@ ghost use Rattle.precedence.specs.Cone.{places_where};
 ghost use Rattle.precedence.specs.IdRuns.{ids_of};
 ghost use Rattle.precedence.specs.inner.Beside.{AreNoWider};
 ghost use Rattle.precedence.specs.inner.Rows.{is_in_rows, pasts, start_of, AreInOrder};
-ghost use Rattle.precedence.specs.inner.Search.{run};
+ghost use Rattle.precedence.specs.inner.Lists.{run};
 ghost use Rattle.precedence.specs.declared.places.code.TheConstants.{CODES};
 
 use crate::cones::cone_rows::{Row, Widths};
@@ -59,9 +59,9 @@ pub fn add_runs_in_rows<P: PassBlocks>(
     Ok(())
 }
 
-// A row's hint, but for what is before `behind`, from which on blocks are looked for: a row that was left out for long has an old one.
+/// A row's hint, but for what is before `behind`, from which on blocks are looked for: a row that was left out for long has an old one.
 #[inline(always)]
-fn hint_at(hints: &[Cell<Hint>], i: usize, behind: u32) -> Hint {
+pub fn hint_at(hints: &[Cell<Hint>], i: usize, behind: u32) -> Hint {
     let known = match hints.get(i) {
         Some(hint) => hint.get(),
         None => NOTHING_KNOWN,
@@ -72,8 +72,9 @@ fn hint_at(hints: &[Cell<Hint>], i: usize, behind: u32) -> Hint {
     }
 }
 
+/// Keeps where a row's run was found last.
 #[inline(always)]
-fn keep_hint(hints: &[Cell<Hint>], i: usize, run: Hint) {
+pub fn keep_hint(hints: &[Cell<Hint>], i: usize, run: Hint) {
     if let Some(hint) = hints.get(i) {
         hint.set(run);
     }

@@ -1,7 +1,7 @@
 use Rattle.std.proofs.Common.{◌≡◌, ◌++◌, ℕ, List, [], filter, get_or, not, ap, subst, ◌∙◌}
 use Rattle.precedence.specs.Behind.{is_behind}
 use Rattle.precedence.specs.Closed.{AreClosed, ComeLater}
-use Rattle.precedence.specs.IdRuns.{ids_of, is_in}
+use Rattle.precedence.specs.IdRuns.{ids_of}
 use Rattle.fewer_arcs.specs.Fewer.{left_of}
 use Rattle.fewer_arcs.proofs.Enough.{all_left, found_left, found_listed}
 use Rattle.fewer_arcs.proofs.fewer_preds.add_fewer.Goals as goal

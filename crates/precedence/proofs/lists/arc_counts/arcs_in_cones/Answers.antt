@@ -11,6 +11,7 @@ use Rattle.precedence.specs.declared.cones.cone_rows.Row.{Row}
 use Rattle.precedence.specs.declared.cones.cone_table.ConeTable.{ConeTable}
 use Rattle.precedence.proofs.Arcs.{all_tables, codes_rise, few_before, no_table, table_more}
 use Rattle.precedence.proofs.PlacesWhere.{length-places_where}
+use Rattle.precedence.proofs.runs.Alike.{codes_along}
 use Rattle.precedence.proofs.lists.arc_counts.arcs_in_cones.Goals as goal
 
 pub loop-number-init : goal.loop-number-init
@@ -97,3 +98,7 @@ pub arcs_in_rows-arcs-requires-clause-rising : goal.arcs_in_rows-arcs-requires-c
 arcs_in_rows-arcs-requires-clause-rising c =
     rw (c.as_slice-in-loop-number.ensures.value, c.in_ok-own.ensures.own)
     (codes_rise c.as_slice.result.now c.loop-number.number c.args.zones.now c.args.places.now.codes.items c.args.places.now.rising)
+
+pub arcs_in_rows-arcs-requires-clause-alike : goal.arcs_in_rows-arcs-requires-clause-alike
+arcs_in_rows-arcs-requires-clause-alike c =
+    codes_along c.args.places.now.codes.items c.args.tables.now.of_zone.items c.args.zones.now c.args.alike.now c.requires.alike

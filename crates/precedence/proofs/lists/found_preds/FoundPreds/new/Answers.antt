@@ -33,6 +33,7 @@ invariant_of-result c =
           ∙ sym (ap length c.in_ok-places.ensures ∙ length-map blocks place_code);
       zones = rw c.in_ok-zones.ensures (All-map (λ z. z < length tables.of_zone.items) (λ (b : Block). b.zone) blocks
           (λ k d lt. omega (arith, zones k d lt, c.in_ok-tables.ensures.zones, cones)));
+      alike = rw (c.as_slice-2.ensures.value, c.as_slice-3.ensures.value, c.as_slice-4.ensures.value) at c.in_ok-alike.ensures;
       below = c.in_ok-tables.ensures.below;
       in_order = tables_in_order c.grid.result c.cones-cones.result.now c.as_slice.result.now tables.tables.items c.in_ok-tables.ensures.told;
       states = rw (c.no_states.ensures.states, c.no_states.ensures.edges) (no_state tables.tables.items);
@@ -53,3 +54,13 @@ returns c =
     (rw c.as_slice.ensures.value c.in_ok-extents.ensures.near) (rw c.blocks-blocks.ensures.value c.blocks-blocks.ensures.rising)
     (rw c.blocks-blocks.ensures.value c.requires)
     ∙ ap (preds c.args.plan.now) c.blocks-blocks.ensures.value
+
+pub alike_of-requires-clause-zones : goal.alike_of-requires-clause-zones
+alike_of-requires-clause-zones c =
+    let blocks = c.blocks-blocks.result.now in
+    let tables = c.in_ok-tables.tables in
+    let zones : HasZones c.args.plan.now blocks = rw c.blocks-blocks.ensures.value c.requires in
+    let cones = ap length c.cones-cones.ensures.value in
+    rw (c.as_slice-3.ensures.value, c.as_slice-4.ensures.value)
+    (rw c.in_ok-zones.ensures (All-map (λ z. z < length tables.of_zone.items) (λ (b : Block). b.zone) blocks
+    (λ k d lt. omega (arith, zones k d lt, c.in_ok-tables.ensures.zones, cones))))

@@ -1,0 +1,48 @@
+//! Blocks that follow one another along x and have one cone.
+
+ghost use Rattle.std.specs.Prelude.{◌≡◌, ◌+◌, ◌<◌, All, IfOk, length};
+ghost use Rattle.precedence.specs.inner.Alike.{AreAlike, AreAlikeFrom};
+
+use std::alloc::{AllocError, Global};
+
+/// Of each block by identifier how many blocks, it being the first, follow one another along x and have one cone. A row of a model has
+/// at most 10,000.
+pub fn alike_of(
+    alloc: Global,
+    codes: &[u64],
+    zones: &[u8],
+    of_zone: &[usize],
+) -> Result<Vec<u16>, AllocError>
+    requires each { length zones.now ≡ length codes.now }
+    requires zones { All (λ z. z < length of_zone.now) zones.now }
+    ensures { IfOk result (λ alike. AreAlike codes.now of_zone.now zones.now alike.items) }
+{
+    let mut alike = vec![in alloc; 1; codes.len()]?;
+    let mut behind = 0;
+    let mut id = codes.len();
+    while id > 0 {
+        id -= 1;
+        behind = alike_from(codes, zones, of_zone, id, behind);
+        alike[id] = behind;
+    }
+    Ok(alike)
+}
+
+// How many blocks from one on are alike, where from the next one on so many are.
+fn alike_from(codes: &[u64], zones: &[u8], of_zone: &[usize], id: usize, behind: u16) -> u16
+    requires each { length zones.now ≡ length codes.now }
+    requires zones { All (λ z. z < length of_zone.now) zones.now }
+    requires id { id < length codes.now }
+    requires behind { AreAlikeFrom codes.now of_zone.now zones.now (id + 1) behind }
+    ensures { AreAlikeFrom codes.now of_zone.now zones.now id result }
+{
+    let next = id + 1;
+    if behind > 0
+        && codes[next].saturating_sub(codes[id]) == 1
+        && of_zone[zones[next] as usize] == of_zone[zones[id] as usize]
+    {
+        behind.saturating_add(1)
+    } else {
+        1
+    }
+}
