@@ -1,15 +1,16 @@
 //! Laws of the definitions that contracts cite: each function here does nothing, and its contract states one.
 
-ghost use Rattle.std.specs.Prelude.{◌≡◌, ◌↔◌, ◌⊎◌, ◌≤◌, ℕ, ℤ, List, ◌∷◌, Ok, Err};
+ghost use Rattle.std.specs.Prelude.{◌≡◌, ◌↔◌, ◌⊎◌, ◌≤◌, ℕ, ℤ, List, ◌∷◌, Ok, Err, false};
+ghost use Rattle.std.specs.List.{list_any};
 ghost use Rattle.std.specs.List.Sorted.{IsPermutation};
 ghost use Rattle.plan_parts.specs.Plan.{PlanParts};
-ghost use Rattle.plan_parts.specs.PlanKept.{IsPlan};
+ghost use Rattle.plan_parts.specs.PlanKept.{IsPlan, RiseStrictly};
 ghost use Rattle.pit_units.specs.SpelledNumbers.{SpellsBelow, SpellsNumber, SpellsWhole};
 ghost use Rattle.pit_model.specs.Planned.{planned};
 ghost use Rattle.pit_model.specs.SpelledCells.{IsNameOf, SpellsOrigin, SpellsSize};
 ghost use Rattle.pit_model.specs.SpelledPlan.{IsFirstFault, IsFirstSpoiled, IsLacking, SpellPlan};
 ghost use Rattle.records.specs.Records.{records_of};
-ghost use Rattle.pit_model.specs.Stated.{nothing_stated, with_limit};
+ghost use Rattle.pit_model.specs.Stated.{is_same_place, nothing_stated, with_limit};
 ghost use Rattle.pit_model.specs.StatedCells.{below_in, name_in, number_in, origin_in, size_in, whole_in};
 ghost use Rattle.plan_parts.specs.declared.limit.Limit.{Limit};
 ghost use Rattle.pit_model.specs.declared.plan_fault.PlanFault.{PlanFault};
@@ -35,10 +36,13 @@ pub fn faults_are_first()
         → IsFirstSpoiled (records_of text) fault.row ⊎ IsLacking (records_of text) fault }
 {}
 
-/// Putting a limit in its place keeps all others.
-#[tactic(auto, using(crate::proofs::Limits::with_limit_keeps))]
+/// Putting a limit in its place keeps all others. That place is behind the limits that stand before it, by resource and then by period:
+/// limits that rise still do, where none of them is of its resource and period.
+#[tactic(auto, using(crate::proofs::Limits::with_limit_keeps, crate::proofs::Limits::rises))]
 pub fn limits_are_kept()
-    ensures { (l : Limit) (ms : List Limit) → IsPermutation (l ∷ ms) (with_limit l ms) }
+    ensures kept { (l : Limit) (ms : List Limit) → IsPermutation (l ∷ ms) (with_limit l ms) }
+    ensures placed { (l : Limit) (ms : List Limit) → RiseStrictly ms
+        → list_any (λ m. is_same_place l m) ms ≡ false → RiseStrictly (with_limit l ms) }
 {}
 
 /// A plan that records spell keeps what every plan keeps.
