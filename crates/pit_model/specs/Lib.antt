@@ -1,3 +1,4 @@
+pub mod AddedParts
 pub mod DestinationRecords
 pub mod FaultText
 pub mod PlanKeys

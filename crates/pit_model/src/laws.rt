@@ -1,19 +1,22 @@
 //! Laws of the definitions that contracts cite: each function here does nothing, and its contract states one.
 
-ghost use Rattle.std.specs.Prelude.{◌≡◌, ◌↔◌, ◌⊎◌, ◌≤◌, ℕ, ℤ, List, ◌∷◌, Ok, Err, false};
+ghost use Rattle.std.specs.Prelude.{◌≡◌, ◌↔◌, ◌⊎◌, ◌≤◌, ℕ, ℤ, List, ◌∷◌, Ok, Err, Some, false};
 ghost use Rattle.std.specs.List.{list_any};
 ghost use Rattle.std.specs.List.Sorted.{IsPermutation};
 ghost use Rattle.plan_parts.specs.Plan.{PlanParts};
 ghost use Rattle.plan_parts.specs.PlanKept.{IsPlan, RiseStrictly};
 ghost use Rattle.pit_units.specs.SpelledNumbers.{SpellsBelow, SpellsNumber, SpellsWhole};
+ghost use Rattle.pit_model.specs.AddedParts.{AddsPart};
+ghost use Rattle.pit_model.specs.PlanRecords.{key_record};
 ghost use Rattle.pit_model.specs.Planned.{planned};
 ghost use Rattle.pit_model.specs.SpelledCells.{IsNameOf, SpellsOrigin, SpellsSize};
 ghost use Rattle.pit_model.specs.SpelledPlan.{IsFirstFault, IsFirstSpoiled, IsLacking, SpellPlan};
 ghost use Rattle.records.specs.Records.{records_of};
-ghost use Rattle.pit_model.specs.Stated.{is_same_place, nothing_stated, with_limit};
+ghost use Rattle.pit_model.specs.Stated.{Stated, is_same_place, nothing_stated, with_limit};
 ghost use Rattle.pit_model.specs.StatedCells.{below_in, name_in, number_in, origin_in, size_in, whole_in};
 ghost use Rattle.plan_parts.specs.declared.limit.Limit.{Limit};
 ghost use Rattle.pit_model.specs.declared.plan_fault.PlanFault.{PlanFault};
+ghost use Rattle.pit_model.specs.declared.plan_key.PlanKey.{PlanKey};
 
 pub use plan_parts::laws::{floors_go_down, worths_are_in_range};
 
@@ -34,6 +37,12 @@ pub fn faults_are_first()
         ⊎ IsLacking (records_of text) fault) }
     ensures spoiled { (text : List ℕ) (fault : PlanFault) → planned text ≡ Err fault
         → IsFirstSpoiled (records_of text) fault.row ⊎ IsLacking (records_of text) fault }
+{}
+
+/// A record that states something adds one part, which its key names, and changes no other.
+pub fn records_add_one_part()
+    ensures { (k : PlanKey) (s next : Stated) (cells : List (List ℕ))
+        → key_record (Some k) s cells ≡ Ok next → AddsPart k s next }
 {}
 
 /// Putting a limit in its place keeps all others. That place is behind the limits that stand before it, by resource and then by period:
