@@ -1,21 +1,23 @@
 -- Items whose worths stand in one list, of each item as many.
-use Rattle.std.proofs.Common.{◌≡◌, ℕ, zero, suc, ◌+◌, ◌*◌, ◌<◌, ◌≤◌, ℤ, List, [], ◌∷◌, ◌++◌, length, take, drop, get_or, cond, nat_lt, Option, Some, None, refl, sym, ap, ◌∙◌, arith, zero-mul, pos, length-append, length-drop, length-take-le}
+use Rattle.std.proofs.Common.{◌≡◌, ℕ, zero, suc, ◌+◌, ◌*◌, ◌<◌, ◌≤◌, ℤ, List, [], ◌∷◌, ◌++◌, length, take, drop, replicate, All, get_or, cond, nat_lt, Option, Some, None, refl, sym, ap, ◌∙◌, arith, zero-mul, pos, length-append, length-drop, length-take-le}
 use Rattle.std.specs.List.{slice_get}
 use Rattle.std.specs.Option.{option_map}
 use Rattle.std.proofs.Math.Nat.{mul-le-mul_right}
 use Rattle.std.proofs.lemmas.Bool.{cond-true, lt-ltb}
-use Rattle.std.proofs.lemmas.List.{drop-drop, drop-append-le, length-replicate, take_all, take-append-le}
+use Rattle.std.proofs.lemmas.List.Elements.{All-nil, All-cons}
+use Rattle.std.proofs.lemmas.List.{drop-drop, drop-append-le, take_all, take-append-le}
 use Rattle.std.proofs.lemmas.Option.{slice_get_read}
 use Rattle.plan_parts.proofs.BlockFacts.{block_again}
 use Rattle.plan_parts.specs.Block.{block_with}
 use Rattle.plan_parts.specs.declared.block.Block.{Block}
 use Rattle.plan_parts.specs.declared.ranges.TheConstants.{MAX_ZONES}
+use Rattle.plan_parts.specs.formulas.WorthRange.{IsWorth}
 use Rattle.rows.specs.declared.item.Item.{Item}
 use Rattle.rows.specs.declared.item.Item.TheVariants as item
 use Rattle.rows.specs.declared.item.Valued.{Valued}
-use Rattle.rows.specs.Packed.{row_in, IsOfWidth}
+use Rattle.rows.specs.Packed.{row_in}
 use Rattle.rows.specs.inner.EntryView.{EntryView}
-use Rattle.rows.specs.inner.Entries.{item_of, item_with, items_of, kept_worths}
+use Rattle.rows.specs.inner.Entries.{item_of, item_with, items_of}
 
 pub length-items_of : (width : ℕ) (ws : List ℤ) (es : List EntryView) → length (items_of width ws es) ≡ length es
 length-items_of width ws [] = refl
@@ -35,9 +37,12 @@ own_long width ws n i whole within =
     let room = own_within i n width within in
     length-take-le width (drop (i * width) ws) (omega (arith, length-drop (i * width) ws))
 
-kept_long : (width : ℕ) (item : Item) → IsOfWidth width item → length (kept_worths width item) ≡ width
-kept_long width (item.Row v) fits = fits.0
-kept_long width (item.End file rows) fits = length-replicate width (pos 0)
+-- zeros are worths, as an end mark has them
+pub zeros_are_worths : (width count : ℕ) → All IsWorth (take width (replicate count (pos 0)))
+zeros_are_worths zero count = All-nil IsWorth
+zeros_are_worths (suc width) zero = All-nil IsWorth
+zeros_are_worths (suc width) (suc count) =
+    All-cons IsWorth (pos 0) (take width (replicate count (pos 0))) (omega arith) (zeros_are_worths width count)
 
 pub entry_block : (own : List ℤ) (file number : ℕ) (block : Option Block)
     → option_map (λ (row : Valued). row.block) (row_in (item_of own file number block)) ≡ block
@@ -85,18 +90,16 @@ whole_more all n width later after whole is_later is_after = rw is_after (next a
     next all n width later whole is_later = grind arith
 
 -- the list and its worths, where one item more was kept
-module _ (width : ℕ) (ws later : List ℤ) (es after : List EntryView) (item : Item) (e : EntryView) (whole : length ws ≡ length es * width)
-    (fits : IsOfWidth width item) (is_later : later ≡ ws ++ kept_worths width item) (is_after : after ≡ es ++ e ∷ []) where
+module _ (width : ℕ) (ws own later : List ℤ) (es after : List EntryView) (e : EntryView) (whole : length ws ≡ length es * width)
+    (wide : length own ≡ width) (is_later : later ≡ ws ++ own) (is_after : after ≡ es ++ e ∷ []) where
   pub still_whole : length later ≡ length after * width
   still_whole =
       ap length is_later
-      ∙ whole_more (length ws) (length es) width (length (ws ++ kept_worths width item)) (length (es ++ e ∷ [])) whole
-      (length-append ws (kept_worths width item) ∙ ap (λ n. length ws + n) (kept_long width item fits)) (length-append es (e ∷ []))
+      ∙ whole_more (length ws) (length es) width (length (ws ++ own)) (length (es ++ e ∷ [])) whole
+      (length-append ws own ∙ ap (λ n. length ws + n) wide) (length-append es (e ∷ []))
       ∙ ap (λ after. length after * width) (sym is_after)
 
-  pub one_more : item_with (kept_worths width item) e ≡ item → items_of width later after ≡ items_of width ws es ++ item ∷ []
-  one_more is =
-      rw (is_later, is_after) (items_push width ws (kept_worths width item) es e whole (kept_long width item fits)
-      ∙ ap (λ i. items_of width ws es ++ i ∷ []) is)
+  pub one_more : items_of width later after ≡ items_of width ws es ++ item_with own e ∷ []
+  one_more = rw (is_later, is_after) (items_push width ws own es e whole wide)
 
 pub ruleset entries = (length-items_of, own_within, item_at)

@@ -13,11 +13,6 @@ use Rattle.rows.specs.SpotView.{SpotView}
 abbrev pub AreWorths : ℕ → List ℤ → Type 0
 AreWorths width worths = (length worths ≡ width) × All IsWorth worths
 
--- a row has so many worths
-abbrev pub IsOfWidth : ℕ → Item → Type 0
-IsOfWidth width (Row v) = AreWorths width v.worths
-IsOfWidth width (End file rows) = Unit {0}
-
 -- the item without what a row has
 abbrev pub mark_of : Item → Mark
 mark_of (Row v) = mark.Row v.file v.place

@@ -1,11 +1,14 @@
 //! Lists that a valuer keeps items in.
 
 ghost use Rattle.std.specs.Prelude.{◌≡◌, ◌≤◌, ◌++◌, [], ◌∷◌, ℕ, List, OnOk, OnErr, vec_len, vec_capacity};
-ghost use Rattle.rows.specs.Packed.{IsOfWidth};
+ghost use Rattle.rows.specs.Packed.{AreWorths};
 ghost use Rattle.rows.specs.declared.item.Item.{Item as AnItem};
+ghost use Rattle.rows.specs.declared.item.Item.TheVariants.{Row as ARow, End as AnEnd};
 
-use crate::item::Item;
+use crate::item::{Item, Valued};
 use crate::long_lists::make_room_for;
+use crate::worths::Worths;
+use plan_parts::block::Block;
 use std::alloc::{AllocError, Allocator};
 
 /// A list that keeps items: as they are, or without the room that a row does not use.
@@ -19,10 +22,25 @@ pub trait Keeps {
     /// That it has no room left for a row of so many worths.
     ghost is_full: { Self → ℕ → Type 0 };
 
-    /// Appends an item that it is for. Memory is refused only where the list has no room left for one.
-    fn keep(&mut self, item: Item) -> Result<(), AllocError>
-        requires fits { (width : ℕ) × is_for self.old width × IsOfWidth width item }
-        ensures appended { OnOk result (held self.new ≡ held self.old ++ item ∷ []) }
+    /// Appends a row of as many worths as it is for. Memory is refused only where the list has no room left for one.
+    fn keep_row(
+        &mut self,
+        file: u8,
+        place: u32,
+        block: Block,
+        worths: Worths,
+    ) -> Result<(), AllocError>
+        requires fits { (width : ℕ) × is_for self.old width × AreWorths width worths }
+        ensures appended { OnOk result (held self.new ≡ held self.old
+            ++ ARow (record { file = file; place = place; block = block; worths = worths }) ∷ []) }
+        ensures kept { OnErr result (held self.new ≡ held self.old) }
+        ensures width { (width : ℕ) → is_for self.old width → is_for self.new width }
+        ensures full { OnErr result ((width : ℕ) → is_for self.new width
+            → is_full self.new width) };
+
+    /// Appends the end mark of a file that sent so many rows. Memory is refused as for a row.
+    fn keep_end(&mut self, file: u8, rows: u32) -> Result<(), AllocError>
+        ensures appended { OnOk result (held self.new ≡ held self.old ++ AnEnd file rows ∷ []) }
         ensures kept { OnErr result (held self.new ≡ held self.old) }
         ensures width { (width : ℕ) → is_for self.old width → is_for self.new width }
         ensures full { OnErr result ((width : ℕ) → is_for self.new width
@@ -36,9 +54,35 @@ impl<A: Allocator> Keeps for Vec<Item, A> {
 
     ghost is_full = { λ list width. vec_capacity list ≤ vec_len list };
 
-    fn keep(&mut self, item: Item) -> Result<(), AllocError> {
-        make_room_for(self, 1)?;
-        self.push(item).unwrap();
-        Ok(())
+    fn keep_row(
+        &mut self,
+        file: u8,
+        place: u32,
+        block: Block,
+        worths: Worths,
+    ) -> Result<(), AllocError> {
+        push_item(
+            self,
+            Item::Row(Valued {
+                file,
+                place,
+                block,
+                worths,
+            }),
+        )
     }
+
+    fn keep_end(&mut self, file: u8, rows: u32) -> Result<(), AllocError> {
+        push_item(self, Item::End { file, rows })
+    }
+}
+
+fn push_item<A: Allocator>(items: &mut Vec<Item, A>, item: Item) -> Result<(), AllocError>
+    ensures appended { OnOk result (items.new.items ≡ items.old.items ++ item ∷ []) }
+    ensures kept { OnErr result (items.new.items ≡ items.old.items) }
+    ensures full { OnErr result (vec_capacity items.new ≤ vec_len items.new) }
+{
+    make_room_for(items, 1)?;
+    items.push(item).unwrap();
+    Ok(())
 }

@@ -12,7 +12,7 @@ use crate::valuing::worths_of;
 use lane::{TakeEnd, Taken};
 use plan_parts::block::Block;
 use plan_parts::formulas::destination::{Destination, Valuer};
-use rows::{Item, Items, Keeps, PackedItems, Valued};
+use rows::{Items, Keeps, PackedItems};
 use std::alloc::{AllocError, Global};
 use std::sync::Wait;
 
@@ -148,15 +148,9 @@ fn push_item<R: Wait, G: Gate, K: Keeps>(
         Taken::Row { file, place, block } => {
             gate.row(rt, valuer, file, place);
             let worths = worths_of(block, destinations);
-            let row = Valued {
-                file,
-                place,
-                block,
-                worths,
-            };
-            items.keep(Item::Row(row))
+            items.keep_row(file, place, block, worths)
         }
-        Taken::End { file, rows } => items.keep(Item::End { file, rows }),
+        Taken::End { file, rows } => items.keep_end(file, rows),
         Taken::Stop | Taken::Quit => Ok(()),
     }
 }

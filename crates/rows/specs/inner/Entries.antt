@@ -1,5 +1,5 @@
 -- How items are kept whose worths stand in one list, of each item as many.
-use Rattle.std.specs.Prelude.{ℕ, ℤ, pos, List, [], ◌∷◌, take, drop, replicate, Option, Some, None}
+use Rattle.std.specs.Prelude.{ℕ, ℤ, List, [], ◌∷◌, take, drop, Option, Some, None}
 use Rattle.plan_parts.specs.declared.block.Block.{Block}
 use Rattle.rows.specs.inner.EntryView.{EntryView}
 use Rattle.rows.specs.declared.item.Item.{Item}
@@ -17,8 +17,3 @@ item_with own e = item_of own e.file e.number e.block
 abbrev pub items_of : ℕ → List ℤ → List EntryView → List Item
 items_of width worths [] = []
 items_of width worths (e ∷ es) = item_with (take width worths) e ∷ items_of width (drop width worths) es
-
--- what is kept as the worths of an item: zeros for an end mark
-abbrev pub kept_worths : ℕ → Item → List ℤ
-kept_worths width (item.Row v) = v.worths
-kept_worths width (item.End file rows) = replicate width (pos 0)

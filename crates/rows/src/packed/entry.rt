@@ -3,7 +3,7 @@
 ghost use Rattle.std.specs.Prelude.{◌≡◌, ◌≤◌, ℕ, ℤ, List, Some, None, length};
 ghost use Rattle.plan_parts.specs.declared.ranges.TheConstants.{MAX_DESTINATIONS};
 ghost use Rattle.rows.specs.Packed.{mark_of};
-ghost use Rattle.rows.specs.inner.Entries.{item_with, kept_worths};
+ghost use Rattle.rows.specs.inner.Entries.{item_with};
 
 use crate::item::{Item, Valued};
 use crate::mark::Mark;
@@ -43,18 +43,9 @@ impl Model for Entry {
 }
 
 impl Entry {
-    /// The entry of an item.
-    pub fn new(item: &Item) -> Entry
-        ensures { (width : ℕ) → item_with (kept_worths width item.now) result ≡ item.now }
-    {
-        match item {
-            Item::Row(row) => Entry::of_row(row.file, row.place, row.block),
-            Item::End { file, rows } => Entry::of_end(*file, *rows),
-        }
-    }
-
+    /// The entry of a row.
     #[tactic(auto, using(crate::proofs::Entries::block_kept))]
-    fn of_row(file: u8, place: u32, block: Block) -> Entry
+    pub fn of_row(file: u8, place: u32, block: Block) -> Entry
         ensures { result ≡ record { file = file; number = place; block = Some block } }
     {
         Entry {
@@ -69,7 +60,8 @@ impl Entry {
         }
     }
 
-    fn of_end(file: u8, rows: u32) -> Entry
+    /// The entry of an end mark.
+    pub fn of_end(file: u8, rows: u32) -> Entry
         ensures { result ≡ record { file = file; number = rows; block = None } }
     {
         Entry {

@@ -1,12 +1,12 @@
 //! Items without the room that a row does not use.
 
-ghost use Rattle.std.specs.Prelude.{◌≡◌, ◌+◌, ◌<◌, ◌≤◌, ◌++◌, [], All, Some, length, slice_get, vec_len, vec_capacity};
+ghost use Rattle.std.specs.Prelude.{◌≡◌, ◌+◌, ◌<◌, ◌≤◌, ◌++◌, [], ◌∷◌, All, OnOk, OnErr, Some, length, slice_get, vec_len, vec_capacity};
 ghost use Rattle.std.specs.Option.{option_map};
 ghost use Rattle.plan_parts.specs.formulas.WorthRange.{IsWorth};
 ghost use Rattle.plan_parts.specs.declared.ranges.TheConstants.{MAX_DESTINATIONS};
-ghost use Rattle.rows.specs.Packed.{mark_of, row_of, IsOfWidth};
+ghost use Rattle.rows.specs.Packed.{mark_of, row_of, AreWorths};
 ghost use Rattle.rows.specs.ItemsView.{IsFullFor};
-ghost use Rattle.rows.specs.inner.Entries.{kept_worths};
+ghost use Rattle.rows.specs.inner.Entries.{item_with};
 ghost use Rattle.rows.specs.inner.Own.{HasWorths};
 
 use crate::item::Item;
@@ -15,6 +15,7 @@ use crate::long_lists::make_room_for;
 use crate::mark::Mark;
 use crate::packed::entry::Entry;
 use crate::packed::worths::{PackedWorths, worths_of_item};
+use crate::worths::{MAX_WORTHS, Worths};
 use plan_parts::block::Block;
 use std::alloc::{AllocError, Allocator, Global};
 use std::marker::Model;
@@ -100,6 +101,22 @@ impl<A: Allocator> PackedItems<A> {
     {
         self.entries[position].block()
     }
+
+    // Appends an item with these worths.
+    fn push(&mut self, entry: Entry, own: &[i128]) -> Result<(), AllocError>
+        requires { AreWorths self.old.width own.now }
+        ensures appended { OnOk result
+            (self.new.items ≡ self.old.items ++ item_with own.now entry ∷ []) }
+        ensures kept { OnErr result (self.new.items ≡ self.old.items) }
+        ensures width { self.new.width ≡ self.old.width }
+        ensures full { OnErr result (IsFullFor self.new.width self.new) }
+    {
+        make_room_for(&mut self.entries, 1)?;
+        make_room_for(&mut self.worths, self.width)?;
+        push_cents(&mut self.worths, own);
+        self.entries.push(entry).unwrap();
+        Ok(())
+    }
 }
 
 impl PackedItems {
@@ -121,27 +138,20 @@ impl<A: Allocator> Keeps for PackedItems<A> {
 
     ghost is_full = { λ list width. IsFullFor width list };
 
-    fn keep(&mut self, item: Item) -> Result<(), AllocError> {
-        make_room_for(&mut self.entries, 1)?;
-        make_room_for(&mut self.worths, self.width)?;
-        push_worths(&mut self.worths, &item, self.width);
-        self.entries.push(Entry::new(&item)).unwrap();
-        Ok(())
+    fn keep_row(
+        &mut self,
+        file: u8,
+        place: u32,
+        block: Block,
+        worths: Worths,
+    ) -> Result<(), AllocError> {
+        self.push(Entry::of_row(file, place, block), worths.as_slice())
     }
-}
 
-// Appends what is kept as the worths of an item.
-fn push_worths<A: Allocator>(worths: &mut Vec<i64, A>, item: &Item, width: usize)
-    requires room { vec_len worths.old + width ≤ vec_capacity worths.old }
-    requires fits { IsOfWidth width item.now }
-    ensures { worths.new.items ≡ worths.old.items ++ kept_worths width item.now }
-{
-    match item {
-        Item::Row(row) => push_cents(worths, row.worths.as_slice()),
-        Item::End { .. } => {
-            let end = worths.len() + width;
-            worths.resize(end, 0).unwrap();
-        }
+    fn keep_end(&mut self, file: u8, rows: u32) -> Result<(), AllocError> {
+        let zeros = [0; MAX_WORTHS];
+        let width = self.width;
+        self.push(Entry::of_end(file, rows), &zeros[..width])
     }
 }
 

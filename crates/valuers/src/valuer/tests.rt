@@ -13,7 +13,7 @@ use plan_parts::block::Block;
 use plan_parts::formulas::destination::Valuer;
 use plan_parts::formulas::formula::Formula;
 use plan_parts::formulas::worth::mill_worth;
-use rows::Worths;
+use rows::{Item, Valued, Worths};
 use std::test::Fail;
 use std::thread;
 use std::thread::Threads;
