@@ -1,12 +1,11 @@
 -- What the readers' answers and the collected rows say of the model.
-use Rattle.std.proofs.Common.{◌≡◌, ◌≤◌, ℕ, List, [], ◌∷◌, Bool, Option, None, Result, refl, sym, ◌∙◌, ap, subst, arith, length, map}
+use Rattle.std.proofs.Common.{◌≡◌, ◌≤◌, ℕ, List, [], ◌∷◌, Bool, Option, None, refl, sym, ◌∙◌, ap, subst, arith, length, map}
 use Rattle.std.proofs.lemmas.List.{length-map}
 use Rattle.std.specs.List.{flat_map}
 use Rattle.lane.specs.declared.message.Taken.{Taken}
 use Rattle.plan_parts.specs.PlanFormulas.{formulas_of_plan}
 use Rattle.plan_parts.specs.Plan.{PlanParts}
-use Rattle.run_threads.specs.Reading.{AreRead}
-use Rattle.run_threads.specs.declared.read_fault.ReadFault.{ReadFault}
+use Rattle.run_threads.specs.Reading.{AreRead, ReadAnswer}
 use Rattle.valuers.specs.Valuing.{rows_by}
 use Rattle.rows.specs.declared.item.Valued.{Valued}
 use Rattle.pit_compile.specs.inner.ReadAnswers.{refusal_in}
@@ -37,7 +36,7 @@ pub record Compiles (plan : PlanParts) (lefts : List (Option (List ℕ))) (sents
   pub model : AreModelRows plan rows
 
 pub compiles : {F : Type 0} (left : F → Option (List ℕ)) (is_sure : F → Bool) (failures : F → ℕ) (plan : PlanParts) (feeds : List F)
-    (answers : List (Result (Unit {0}) ReadFault)) (sents : List (List Taken)) (rows : List Valued)
+    (answers : List ReadAnswer) (sents : List (List Taken)) (rows : List Valued)
     → AreZoneFiles → length feeds ≡ length plan.cones → length plan.cones ≤ 64
     → AreRead left is_sure failures plan.grid 0 feeds answers sents → refusal_in 0 answers ≡ None
     → rows ≡ flat_map (rows_by (formulas_of_plan plan)) sents → Compiles plan (map left feeds) sents rows

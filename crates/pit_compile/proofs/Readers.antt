@@ -1,5 +1,5 @@
 -- What the answers of all readers say of the zone files.
-use Rattle.std.proofs.Common.{◌≡◌, ◌<◌, ◌≤◌, ◌+◌, ℕ, suc, List, [], ◌∷◌, Bool, true, false, nat_lt, Option, Some, None, Result, Ok, Err, MatchOption, refl, sym, ◌∙◌, ap, subst, arith, length, map, take, replicate}
+use Rattle.std.proofs.Common.{◌≡◌, ◌<◌, ◌≤◌, ◌+◌, ℕ, suc, List, [], ◌∷◌, Bool, true, false, nat_lt, Option, Some, None, Ok, Err, MatchOption, refl, sym, ◌∙◌, ap, subst, arith, length, map, take, replicate}
 use Rattle.std.specs.Prelude.{slice_get, IfSome}
 use Rattle.std.specs.Option.{option_map}
 use Rattle.std.proofs.lemmas.Bool.Decides.{nat_tests}
@@ -10,10 +10,10 @@ use Rattle.lane.specs.declared.message.Taken.{Taken}
 use Rattle.plan_parts.specs.declared.grid.Grid.{Grid}
 use Rattle.plan_parts.specs.Plan.{PlanParts}
 use Rattle.run_threads.specs.MostBytes.{most_bytes}
-use Rattle.run_threads.specs.Reading.{AreRead, IsRead, IsReadTo}
+use Rattle.run_threads.specs.Reading.{AreRead, IsRead, IsReadTo, ReadAnswer}
 use Rattle.run_threads.specs.Refusing.{HasFailed}
-use Rattle.run_threads.specs.declared.read_fault.ReadFault.{ReadFault}
-use Rattle.run_threads.specs.declared.read_fault.ReadFault.TheVariants as read
+use Rattle.devices.specs.declared.feeds.slurp.SlurpFault.TheVariants as slurp
+use Rattle.pit_units.specs.declared.or_memory.OrMemory.TheVariants as row
 use Rattle.zone_csv.specs.Zone.{blocks_of}
 use Rattle.zone_csv.specs.declared.row_fault.RowFault.{RowFault}
 use Rattle.pit_compile.specs.inner.ReadAnswers.{refusal_in, refusal_of}
@@ -22,7 +22,7 @@ use Rattle.pit_compile.specs.Compiling.{IsNotCompiled}
 use Rattle.pit_compile.specs.Rows.{fault_in, file_fault, files_send}
 use Rattle.refusals.specs.declared.settings_fault.SettingsFault.{SettingsFault}
 use Rattle.refusals.specs.declared.refusal.Refusal.{Refusal}
-use Rattle.refusals.specs.declared.refusal.Refusal.TheVariants.{Settings, TooLong, Row}
+use Rattle.refusals.specs.declared.refusal.Refusal.TheVariants.{Settings, FeedFailed, TooLong, Row, OutOfMemory}
 
 -- a file that was read is not too long, and has the fault of its rows
 fault_read : (grid : Grid) (n : ℕ) (left : Option (List ℕ)) (fault : Option RowFault) (sent : List Taken)
@@ -71,10 +71,10 @@ module _ {F : Type 0} (left : F → Option (List ℕ)) (is_sure : F → Bool) (f
   pub record IsUnread (grid : Grid) (refusal : Refusal) : Type 0 where
     file : ℕ
     feed : F
-    fault : ReadFault
+    answer : ReadAnswer
     sent : List Taken
-    unread : IsRead left is_sure failures grid file feed (Err fault) sent
-    is : refusal ≡ refusal_of file fault
+    unread : IsRead left is_sure failures grid file feed answer sent
+    is : refusal_of file answer ≡ Some refusal
 
   -- that of the file which stands this many behind the first: whatever text it has, those before it have no fault
   pub record IsFirstUnread (grid : Grid) (n : ℕ) (feeds : List F) (refusal : Refusal) : Type 0 where
@@ -111,16 +111,13 @@ module _ {F : Type 0} (left : F → Option (List ℕ)) (is_sure : F → Bool) (f
         found = λ text r e. rw none (rest.found text r e);
       }
 
-  pub told : (grid : Grid) (n : ℕ) (feeds : List F) (answers : List (Result (Unit {0}) ReadFault)) (sents : List (List Taken))
-      → AreRead left is_sure failures grid n feeds answers sents
-      → MatchOption (refusal_in n answers) (AreAllRead grid n (map left feeds) sents) (IsFirstUnread grid n feeds)
-  told grid n [] [] [] h = record { texts = []; given = tt; no_fault = refl; sent = refl }
-  told grid n (f ∷ fs) (Ok done ∷ answers) (s ∷ ss) h =
-      behind_read grid n f fs s ss h.0 (refusal_in (n + 1) answers) (told grid (n + 1) fs answers ss h.1)
-  told grid n (f ∷ fs) (Err fault ∷ answers) (s ∷ ss) h =
+  -- the first file was not read
+  first_unread : (grid : Grid) (n : ℕ) (f : F) (fs : List F) (answer : ReadAnswer) (sent : List Taken) (refusal : Refusal)
+      → IsRead left is_sure failures grid n f answer sent → refusal_of n answer ≡ Some refusal → IsFirstUnread grid n (f ∷ fs) refusal
+  first_unread grid n f fs answer sent refusal unread is =
       let others = some_texts (map left fs) in
       record {
-        of = record { file = n; feed = f; fault = fault; sent = s; unread = h.0; is = refl };
+        of = record { file = n; feed = f; answer = answer; sent = sent; unread = unread; is = is };
         behind = 0;
         is_file = omega arith;
         stands = refl;
@@ -129,9 +126,21 @@ module _ {F : Type 0} (left : F → Option (List ℕ)) (is_sure : F → Bool) (f
         none_before = λ text. refl;
         found = λ text r e. rw e refl;
       }
+
+  pub told : (grid : Grid) (n : ℕ) (feeds : List F) (answers : List ReadAnswer) (sents : List (List Taken))
+      → AreRead left is_sure failures grid n feeds answers sents
+      → MatchOption (refusal_in n answers) (AreAllRead grid n (map left feeds) sents) (IsFirstUnread grid n feeds)
+  told grid n [] [] [] h = record { texts = []; given = tt; no_fault = refl; sent = refl }
+  told grid n (f ∷ fs) (Ok (Ok done) ∷ answers) (s ∷ ss) h =
+      behind_read grid n f fs s ss h.0 (refusal_in (n + 1) answers) (told grid (n + 1) fs answers ss h.1)
+  told grid n (f ∷ fs) (Ok (Err (row.Fault fault)) ∷ answers) (s ∷ ss) h = first_unread grid n f fs (Ok (Err (row.Fault fault))) s (Row n fault) h.0 refl
+  told grid n (f ∷ fs) (Ok (Err row.OutOfMemory) ∷ answers) (s ∷ ss) h = first_unread grid n f fs (Ok (Err row.OutOfMemory)) s OutOfMemory h.0 refl
+  told grid n (f ∷ fs) (Err slurp.FeedFailed ∷ answers) (s ∷ ss) h = first_unread grid n f fs (Err slurp.FeedFailed) s (FeedFailed n) h.0 refl
+  told grid n (f ∷ fs) (Err slurp.TooLong ∷ answers) (s ∷ ss) h = first_unread grid n f fs (Err slurp.TooLong) s (TooLong n) h.0 refl
+  told grid n (f ∷ fs) (Err slurp.OutOfMemory ∷ answers) (s ∷ ss) h = first_unread grid n f fs (Err slurp.OutOfMemory) s OutOfMemory h.0 refl
   told grid n _ _ _ h = absurd h
 
-  pub all_read : (grid : Grid) (feeds : List F) (answers : List (Result (Unit {0}) ReadFault)) (sents : List (List Taken))
+  pub all_read : (grid : Grid) (feeds : List F) (answers : List ReadAnswer) (sents : List (List Taken))
       → AreRead left is_sure failures grid 0 feeds answers sents → refusal_in 0 answers ≡ None → AreAllRead grid 0 (map left feeds) sents
   all_read grid feeds answers sents h e = MatchOption-at_none _ (IsFirstUnread grid 0 feeds) e (told grid 0 feeds answers sents h)
 
@@ -139,34 +148,42 @@ module _ {F : Type 0} (left : F → Option (List ℕ)) (is_sure : F → Bool) (f
   why_unread : (plan : PlanParts) (feeds : List F) (refusal : Refusal) → IsFirstUnread plan.grid 0 feeds refusal
       → IsNotCompiled plan (map left feeds) (HasFailed is_sure failures feeds) refusal
       × ((kind : SettingsFault) → refusal ≡ Settings kind → ⊥)
-  why_unread plan feeds refusal h = rw h.of.is (by h.of.fault h.of.unread)
+  why_unread plan feeds refusal h = by h.of.answer h.of.unread h.of.is
     where
       file : ℕ
       file = h.of.file
 
-      by : (fault : ReadFault) → IsRead left is_sure failures plan.grid file h.of.feed (Err fault) h.of.sent
-          → IsNotCompiled plan (map left feeds) (HasFailed is_sure failures feeds) (refusal_of file fault)
-          × ((kind : SettingsFault) → refusal_of file fault ≡ Settings kind → ⊥)
-      by read.FeedFailed e =
+      -- so it is of a refusal that is the one of the answer
+      Why : Refusal → Type 0
+      Why why = IsNotCompiled plan (map left feeds) (HasFailed is_sure failures feeds) why × ((kind : SettingsFault) → why ≡ Settings kind → ⊥)
+
+      by : (answer : ReadAnswer) → IsRead left is_sure failures plan.grid file h.of.feed answer h.of.sent
+          → refusal_of file answer ≡ Some refusal → Why refusal
+      by (Ok (Ok done)) e is = absurd cc
+      by (Ok (Err (row.Fault fault))) e is =
+          let found = h.found e.text (Row file fault) (fault_read plan.grid file (left h.of.feed) (Some fault) h.of.sent e) in
+          let own : Row file fault ≡ refusal = cc in
+          subst Why own (record { texts = h.texts e.text; given = h.given e.text e.given; refused = found }, λ kind is. cc)
+      by (Ok (Err row.OutOfMemory)) e is = let own : OutOfMemory ≡ refusal = cc in subst Why own (tt, λ kind is. cc)
+      by (Err slurp.FeedFailed) e is =
           let same : h.behind ≡ h.of.file = omega (arith, h.is_file) in
           let some = some_text (left h.of.feed) in
-          let why : IsNotCompiled plan (map left feeds) (HasFailed is_sure failures feeds) (refusal_of file read.FeedFailed) = record {
+          let why : IsNotCompiled plan (map left feeds) (HasFailed is_sure failures feeds) (FeedFailed file) = record {
             texts = h.texts some.0;
             given = h.given some.0 some.1;
             none_before = subst (λ f. fault_in (take f (h.texts some.0)) plan.grid 0 ≡ None) same (h.none_before some.0);
             failed = record { feed = h.of.feed; stands = subst (λ f. slice_get feeds f ≡ Some h.of.feed) same h.stands; refused = e };
           } in
-          (why, λ kind is. cc)
-      by read.TooLong e =
+          let own : FeedFailed file ≡ refusal = cc in
+          subst Why own (why, λ kind is. cc)
+      by (Err slurp.TooLong) e is =
           let long = long_text (left h.of.feed) e in
           let found = h.found long.0 (TooLong file) (too_long plan.grid file long.0 long.2) in
-          (record { texts = h.texts long.0; given = h.given long.0 long.1; refused = found }, λ kind is. cc)
-      by (read.Row fault) e =
-          let found = h.found e.text (Row file fault) (fault_read plan.grid file (left h.of.feed) (Some fault) h.of.sent e) in
-          (record { texts = h.texts e.text; given = h.given e.text e.given; refused = found }, λ kind is. cc)
-      by read.OutOfMemory e = (tt, λ kind is. cc)
+          let own : TooLong file ≡ refusal = cc in
+          subst Why own (record { texts = h.texts long.0; given = h.given long.0 long.1; refused = found }, λ kind is. cc)
+      by (Err slurp.OutOfMemory) e is = let own : OutOfMemory ≡ refusal = cc in subst Why own (tt, λ kind is. cc)
 
-  pub not_read : (plan : PlanParts) (feeds : List F) (answers : List (Result (Unit {0}) ReadFault)) (sents : List (List Taken))
+  pub not_read : (plan : PlanParts) (feeds : List F) (answers : List ReadAnswer) (sents : List (List Taken))
       (refusal : Refusal) → AreRead left is_sure failures plan.grid 0 feeds answers sents → refusal_in 0 answers ≡ Some refusal
       → IsNotCompiled plan (map left feeds) (HasFailed is_sure failures feeds) refusal
       × ((kind : SettingsFault) → refusal ≡ Settings kind → ⊥)
@@ -175,7 +192,7 @@ module _ {F : Type 0} (left : F → Option (List ℕ)) (is_sure : F → Bool) (f
       (told plan.grid 0 feeds answers sents h))
 
   -- there are as many answers and lists as feeds
-  pub as_many : (grid : Grid) (n : ℕ) (feeds : List F) (answers : List (Result (Unit {0}) ReadFault)) (sents : List (List Taken))
+  pub as_many : (grid : Grid) (n : ℕ) (feeds : List F) (answers : List ReadAnswer) (sents : List (List Taken))
       → AreRead left is_sure failures grid n feeds answers sents → (length answers ≡ length feeds) × (length sents ≡ length feeds)
   as_many grid n [] [] [] h = (refl, refl)
   as_many grid n (f ∷ fs) (a ∷ answers) (s ∷ ss) h =

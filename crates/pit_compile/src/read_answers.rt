@@ -4,30 +4,36 @@ ghost use Rattle.std.specs.Prelude.{◌≡◌, ◌≤◌, None, Some, length, If
 ghost use Rattle.pit_compile.specs.inner.ReadAnswers.{refusal_in, refusal_of};
 ghost use Rattle.plan_parts.specs.declared.ranges.TheConstants.{MAX_ZONES};
 
+use devices::feeds::slurp::SlurpFault;
+use pit_units::OrMemory;
 use refusals::refusal::Refusal;
-use run_threads::ReadFault;
+use run_threads::ReadResult;
 
 /// Fails with the answer of the first file whose reader did not finish.
-pub fn require_read(answers: &[Result<(), ReadFault>]) -> Result<(), Refusal>
+pub fn require_read(answers: &[ReadResult]) -> Result<(), Refusal>
     requires { length answers.now ≤ MAX_ZONES }
     ensures read { OnOk result (refusal_in 0 answers.now ≡ None) }
     ensures refused { IfErr result (λ refusal. refusal_in 0 answers.now ≡ Some refusal) }
 {
     for (file, answer) in answers.iter().enumerate() {
-        if let Err(fault) = answer {
-            return Err(refusal_of(file as u8, *fault));
-        }
+        require_file(file as u8, answer)?;
     }
     Ok(())
 }
 
-fn refusal_of(file: u8, fault: ReadFault) -> Refusal
-    ensures { result ≡ refusal_of file fault }
+fn require_file(file: u8, answer: &ReadResult) -> Result<(), Refusal>
+    ensures read { OnOk result (refusal_of file answer.now ≡ None) }
+    ensures refused { IfErr result (λ refusal. refusal_of file answer.now ≡ Some refusal) }
 {
-    match fault {
-        ReadFault::FeedFailed => Refusal::FeedFailed { file },
-        ReadFault::TooLong => Refusal::TooLong { file },
-        ReadFault::Row(fault) => Refusal::Row { file, fault },
-        ReadFault::OutOfMemory => Refusal::OutOfMemory,
+    match answer {
+        Ok(Ok(())) => Ok(()),
+        Ok(Err(OrMemory::Fault(fault))) => Err(Refusal::Row {
+            file,
+            fault: *fault,
+        }),
+        Ok(Err(OrMemory::OutOfMemory)) => Err(Refusal::OutOfMemory),
+        Err(SlurpFault::FeedFailed) => Err(Refusal::FeedFailed { file }),
+        Err(SlurpFault::TooLong) => Err(Refusal::TooLong { file }),
+        Err(SlurpFault::OutOfMemory) => Err(Refusal::OutOfMemory),
     }
 }

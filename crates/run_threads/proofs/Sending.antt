@@ -1,13 +1,22 @@
 -- How a reader goes through its zone file, block by block, and what it then did with the file.
-use Rattle.std.proofs.Common.{◌≡◌, ℕ, ◌+◌, ◌≤◌, List, [], ◌∷◌, ◌++◌, length, Option, Some, None, Ok, Err, ap, ◌∙◌, refl, subst, arith, append_assoc, length-append}
+use Rattle.std.proofs.Common.{◌≡◌, ℕ, ◌+◌, ◌<◌, ◌≤◌, Bool, true, List, [], ◌∷◌, ◌++◌, length, Option, Some, None, Result, Ok, Err, ap, ◌∙◌, refl, subst, arith, append_assoc, length-append, ⊎_elim}
+use Rattle.std.specs.Prelude.{IfSome}
+use Rattle.std.proofs.lemmas.Bool.{cases_Bool}
+use Rattle.devices.specs.declared.feeds.slurp.SlurpFault.{SlurpFault}
+use Rattle.devices.specs.declared.feeds.slurp.SlurpFault.TheVariants.{FeedFailed, TooLong}
+use Rattle.devices.specs.declared.feeds.slurp.SlurpFault.TheVariants as slurp
 use Rattle.lane.specs.Message.{sent_from}
 use Rattle.lane.specs.declared.message.Taken.{Taken}
 use Rattle.lane.specs.declared.message.Taken.TheVariants as message
 use Rattle.plan_parts.specs.declared.block.Block.{Block}
+use Rattle.plan_parts.specs.declared.grid.Grid.{Grid}
+use Rattle.zone_csv.specs.Zone.{blocks_of, fault_of}
 use Rattle.zone_csv.specs.ZoneReaderView.{ZoneReaderView, Ahead, Answers, last_answer}
 use Rattle.zone_csv.specs.declared.row_fault.RowFault.{RowFault}
 use Rattle.pit_units.specs.declared.or_memory.OrMemory.{OrMemory}
 use Rattle.pit_units.specs.declared.or_memory.OrMemory.TheVariants.{Fault, OutOfMemory}
+use Rattle.run_threads.specs.MostBytes.{most_bytes}
+use Rattle.run_threads.specs.Reading.{IsRead}
 use Rattle.run_threads.specs.inner.Sending.{IsSending, IsAllBut, HasPut}
 
 -- behind the last block there is no block, the end where no fault is, or that fault
@@ -68,3 +77,27 @@ module _ (file : ℕ) (whole : List Block) (fault : Option RowFault) where
   pub stops : (sent : List Taken) (old new : ZoneReaderView) (x : OrMemory RowFault) → IsSending file whole fault sent old
       → Answers old (Err x) new → HasPut file whole fault (Err x) sent
   stops sent old new x s answers = stopped sent new x s.rest s.makes_up (subst (λ v. Answers v (Err x) new) s.says answers)
+
+module _ {F : Type 0} (left : F → Option (List ℕ)) (is_sure : F → Bool) (failures : F → ℕ) (grid : Grid) (file : ℕ) (feed : F) where
+  -- why a feed gave no text
+  pub gives_none : (new : F) (fault : SlurpFault) (sent : List Taken) → (fault ≡ FeedFailed → failures new ≡ failures feed + 1)
+      → (is_sure feed ≡ true → fault ≡ FeedFailed → ⊥) → (fault ≡ TooLong → IfSome (left feed) (λ bytes. most_bytes < length bytes))
+      → IsRead left is_sure failures grid file feed (Err fault) sent
+  gives_none new FeedFailed sent refused unsure long = record {
+    unsure = ⊎_elim (λ sure. absurd (unsure sure refl)) (λ other. other) (cases_Bool (is_sure feed));
+    now = new;
+    refused = refused refl;
+  }
+  gives_none new TooLong sent refused unsure long = long refl
+  gives_none new slurp.OutOfMemory sent refused unsure long = tt
+
+  -- of the text that a feed gave, what was put with the end mark behind it
+  pub text_read : (text : List ℕ) (answer : Result (Unit {0}) (OrMemory RowFault)) (sent : List Taken)
+      → IfSome (left feed) (λ bytes. text ≡ bytes) → length text ≤ most_bytes
+      → HasPut file (blocks_of grid file text) (fault_of grid file text) answer sent
+      → IsRead left is_sure failures grid file feed (Ok answer) (sent ++ message.End file (length sent) ∷ [])
+  text_read text (Ok done) sent given short put =
+      record { text = text; given = given; short = short; fault_is = put.0; sent_is = put.1 }
+  text_read text (Err (Fault fault)) sent given short put =
+      record { text = text; given = given; short = short; fault_is = put.0; sent_is = put.1 }
+  text_read text (Err OutOfMemory) sent given short put = tt

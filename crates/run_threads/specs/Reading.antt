@@ -5,10 +5,16 @@ use Rattle.lane.specs.declared.message.Taken.{Taken}
 use Rattle.plan_parts.specs.declared.grid.Grid.{Grid}
 use Rattle.zone_csv.specs.Zone.{blocks_of, fault_of}
 use Rattle.zone_csv.specs.declared.row_fault.RowFault.{RowFault}
-use Rattle.run_threads.specs.declared.read_fault.ReadFault.{ReadFault}
-use Rattle.run_threads.specs.declared.read_fault.ReadFault.TheVariants.{FeedFailed, TooLong, Row, OutOfMemory}
+use Rattle.devices.specs.declared.feeds.slurp.SlurpFault.{SlurpFault}
+use Rattle.devices.specs.declared.feeds.slurp.SlurpFault.TheVariants.{FeedFailed, TooLong, OutOfMemory}
+use Rattle.pit_units.specs.declared.or_memory.OrMemory.{OrMemory}
+use Rattle.pit_units.specs.declared.or_memory.OrMemory.TheVariants as row
 use Rattle.run_threads.specs.MostBytes.{most_bytes}
 use Rattle.run_threads.specs.Refusing.{HasRefused}
+
+-- what a reader answers: why its feed gave no text, or else why the rows of the text were not read to the end, if they were not
+abbrev pub ReadAnswer : Type 0
+ReadAnswer = Result (Result (Unit {0}) (OrMemory RowFault)) SlurpFault
 
 -- the reader read a text, the feed's where the feed tells its bytes, up to this fault of it, and sent the blocks before the fault
 pub record IsReadTo (grid : Grid) (file : ℕ) (left : Option (List ℕ)) (fault : Option RowFault) (sent : List Taken) : Type 0 where
@@ -21,15 +27,16 @@ pub record IsReadTo (grid : Grid) (file : ℕ) (left : Option (List ℕ)) (fault
 -- by what feeds had left, whether they were sure, and how many pulls they had refused
 module _ {F : Type 0} (left : F → Option (List ℕ)) (is_sure : F → Bool) (failures : F → ℕ) where
   -- a reader's answer, and what it sent, by its feed
-  abbrev pub IsRead : Grid → ℕ → F → Result (Unit {0}) ReadFault → List Taken → Type 0
-  IsRead grid file feed (Ok done) sent = IsReadTo grid file (left feed) None sent
-  IsRead grid file feed (Err (Row fault)) sent = IsReadTo grid file (left feed) (Some fault) sent
+  abbrev pub IsRead : Grid → ℕ → F → ReadAnswer → List Taken → Type 0
+  IsRead grid file feed (Ok (Ok done)) sent = IsReadTo grid file (left feed) None sent
+  IsRead grid file feed (Ok (Err (row.Fault fault))) sent = IsReadTo grid file (left feed) (Some fault) sent
+  IsRead grid file feed (Ok (Err row.OutOfMemory)) sent = Unit {0}
   IsRead grid file feed (Err TooLong) sent = IfSome (left feed) (λ bytes. most_bytes < length bytes)
   IsRead grid file feed (Err FeedFailed) sent = HasRefused is_sure failures feed
   IsRead grid file feed (Err OutOfMemory) sent = Unit {0}
 
   -- the same of each feed, from that of file k on
-  abbrev pub AreRead : Grid → ℕ → List F → List (Result (Unit {0}) ReadFault) → List (List Taken) → Type 0
+  abbrev pub AreRead : Grid → ℕ → List F → List ReadAnswer → List (List Taken) → Type 0
   AreRead grid k [] [] [] = Unit {0}
   AreRead grid k (feed ∷ feeds) (answer ∷ answers) (sent ∷ sents) =
       IsRead grid k feed answer sent × AreRead grid (k + 1) feeds answers sents

@@ -1,16 +1,15 @@
 //! A zone file's reader, which puts the file's rows into the lane.
 
-ghost use Rattle.std.specs.Prelude.{◌≡◌, ◌≤◌, ◌++◌, [], ◌∷◌, length, vec_len, IfOk, IfErr, IfSome};
-ghost use Rattle.run_threads.specs.MostBytes.{most_bytes};
+ghost use Rattle.std.specs.Prelude.{◌≡◌, ◌++◌, [], ◌∷◌, length};
 ghost use Rattle.run_threads.specs.Reading.{IsRead};
 ghost use Rattle.run_threads.specs.inner.Promises.{IsUnsent};
-ghost use Rattle.run_threads.specs.inner.Sending.{IsUnread, HasPut};
+ghost use Rattle.run_threads.specs.inner.Sending.{HasPut};
 ghost use Rattle.zone_csv.specs.Zone.{blocks_of, fault_of};
 
-use crate::read_fault::ReadFault;
+use crate::read_result::ReadResult;
 use crate::starts::OnThread;
 use devices::feeds::feed::Feed;
-use devices::feeds::slurp::{SlurpFault, slurp};
+use devices::feeds::slurp::slurp;
 use lane::{EndedPut, PutEnd, Taken};
 use pit_units::OrMemory;
 use plan_parts::plan::Plan;
@@ -27,14 +26,14 @@ pub struct FileRead {
     /// The file's put end, behind its end mark.
     pub ended: EndedPut,
     /// Whether the file was read to its end.
-    pub answer: Result<(), ReadFault>,
+    pub answer: ReadResult,
 }
 
 /// Reads the zone file that `feed` gives, whole, and puts a row for each of its blocks into the lane, in their order.
 /// After the last row, or after a fault, it always puts the file's end mark. It tells `gate` before the first pull.
 /// `file` is the number of the file, and of its zone in `plan`, from 0. It runs on a thread of its own.
 ///
-/// The answer tells why the file was not read to its end. Where it is `Row`, the blocks before the faulty row were put.
+/// The answer tells why the file was not read to its end. Where it is a faulty row, the blocks before that were put.
 pub fn read_file<R: Wait, F: Feed + Drop, G: Gate>(
     _thread: &OnThread,
     rt: &R,
@@ -67,7 +66,7 @@ fn put_file<R: Wait, F: Feed, G: Gate>(
     file: u8,
     put_end: &mut PutEnd,
     gate: &G,
-) -> Result<(), ReadFault>
+) -> ReadResult
     requires { IsUnsent plan.now file put_end.old }
     ensures end { (put_end.new.lane ≡ put_end.old.lane) × (put_end.new.file ≡ file) }
     ensures read { IsRead F.left F.is_sure F.failures plan.now.grid file feed.old result
@@ -75,26 +74,8 @@ fn put_file<R: Wait, F: Feed, G: Gate>(
     ensures passed { G.passed_reader gate.now file }
 {
     gate.reader(rt, file);
-    let text = slurped(alloc, feed)?;
-    match put_blocks(rt, alloc, text, plan, file, put_end) {
-        Ok(()) => Ok(()),
-        Err(OrMemory::Fault(fault)) => Err(ReadFault::Row(fault)),
-        Err(OrMemory::OutOfMemory) => Err(ReadFault::OutOfMemory),
-    }
-}
-
-// The bytes of a zone file.
-fn slurped<F: Feed>(alloc: Global, feed: &mut F) -> Result<Vec<u8>, ReadFault>
-    ensures whole { IfOk result (λ text. IfSome (F.left feed.old) (λ bytes. text.items ≡ bytes)) }
-    ensures short { IfOk result (λ text. vec_len text ≤ most_bytes) }
-    ensures fault { IfErr result (IsUnread F.left F.is_sure F.failures feed.old) }
-{
-    match slurp(alloc, feed, MAX_FILE_BYTES as u64) {
-        Ok(text) => Ok(text),
-        Err(SlurpFault::FeedFailed) => Err(ReadFault::FeedFailed),
-        Err(SlurpFault::TooLong) => Err(ReadFault::TooLong),
-        Err(SlurpFault::OutOfMemory) => Err(ReadFault::OutOfMemory),
-    }
+    let text = slurp(alloc, feed, MAX_FILE_BYTES as u64)?;
+    Ok(put_blocks(rt, alloc, text, plan, file, put_end))
 }
 
 // Puts a row for each block of the text, up to its end or its first fault.

@@ -16,7 +16,7 @@ ghost use Rattle.plan_parts.specs.declared.ranges.TheConstants.{MAX_CAPACITY, MA
 use crate::in_scope::giving_up::GaveUp;
 use crate::in_scope::{Settled, hand_over_in};
 use crate::opened::open_lane;
-use crate::read_fault::ReadFault;
+use crate::read_result::ReadResult;
 use crate::ready::Ready;
 use crate::result_room::room_for;
 use crate::shared::Shared;
@@ -53,7 +53,7 @@ pub struct HandedOver {
     /// Whether some valuer was refused memory. It then dropped what it took from there on.
     pub memory: bool,
     /// The answer of each file's reader, in the order of the files.
-    pub answers: Vec<Result<(), ReadFault>>,
+    pub answers: Vec<ReadResult>,
 }
 
 /// The start of a thread was refused.

@@ -6,12 +6,12 @@ mod handing_over;
 mod in_scope;
 mod opened;
 mod promises;
-mod read_fault;
+mod read_result;
 mod ready;
 mod result_room;
 mod shared;
 mod starts;
 
 pub use handing_over::{Allowance, HandedOver, NoThread, hand_over};
-pub use read_fault::ReadFault;
+pub use read_result::ReadResult;
 pub use starts::{GivenFeeds, Starts};

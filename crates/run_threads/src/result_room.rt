@@ -4,7 +4,7 @@ ghost use Rattle.std.specs.Prelude.{IfOk};
 ghost use Rattle.run_threads.specs.inner.Ready.{IsRoomFor};
 
 use crate::file_reading::FileRead;
-use crate::read_fault::ReadFault;
+use crate::read_result::ReadResult;
 use lane::{EndedPut, TakeEnd};
 use rows::PackedItems;
 use std::alloc::{AllocError, Global};
@@ -15,7 +15,7 @@ use valuers::ValuerResult;
 pub struct ResultRoom {
     pub reads: Vec<FileRead>,
     pub ended: Vec<EndedPut>,
-    pub answers: Vec<Result<(), ReadFault>>,
+    pub answers: Vec<ReadResult>,
     pub values: Vec<ValuerResult<PackedItems>>,
     pub takers: Vec<TakeEnd>,
     pub items: Vec<PackedItems>,

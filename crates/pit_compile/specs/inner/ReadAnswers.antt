@@ -1,19 +1,22 @@
 -- What the readers of the files answer, as the refusal of the run.
-use Rattle.std.specs.Prelude.{ℕ, ◌+◌, List, [], ◌∷◌, Option, Some, None, Result, Ok, Err}
-use Rattle.run_threads.specs.declared.read_fault.ReadFault.{ReadFault}
-use Rattle.run_threads.specs.declared.read_fault.ReadFault.TheVariants as read
+use Rattle.std.specs.Prelude.{ℕ, ◌+◌, List, [], ◌∷◌, Option, Some, None, Ok, Err}
+use Rattle.std.specs.Option.{option_or}
+use Rattle.devices.specs.declared.feeds.slurp.SlurpFault.TheVariants as slurp
+use Rattle.pit_units.specs.declared.or_memory.OrMemory.TheVariants as row
+use Rattle.run_threads.specs.Reading.{ReadAnswer}
 use Rattle.refusals.specs.declared.refusal.Refusal.{Refusal}
 use Rattle.refusals.specs.declared.refusal.Refusal.TheVariants.{FeedFailed, TooLong, Row, OutOfMemory}
 
--- why a file was not read
-abbrev pub refusal_of : ℕ → ReadFault → Refusal
-refusal_of file read.FeedFailed = FeedFailed file
-refusal_of file read.TooLong = TooLong file
-refusal_of file (read.Row fault) = Row file fault
-refusal_of file read.OutOfMemory = OutOfMemory
+-- why a file was not read, if it was not
+abbrev pub refusal_of : ℕ → ReadAnswer → Option Refusal
+refusal_of file (Ok (Ok done)) = None
+refusal_of file (Ok (Err (row.Fault fault))) = Some (Row file fault)
+refusal_of file (Ok (Err row.OutOfMemory)) = Some OutOfMemory
+refusal_of file (Err slurp.FeedFailed) = Some (FeedFailed file)
+refusal_of file (Err slurp.TooLong) = Some (TooLong file)
+refusal_of file (Err slurp.OutOfMemory) = Some OutOfMemory
 
 -- why the least of these files, the first of them being file n, was not read
-abbrev pub refusal_in : ℕ → List (Result (Unit {0}) ReadFault) → Option Refusal
+abbrev pub refusal_in : ℕ → List ReadAnswer → Option Refusal
 refusal_in n [] = None
-refusal_in n (Ok done ∷ answers) = refusal_in (n + 1) answers
-refusal_in n (Err fault ∷ answers) = Some (refusal_of n fault)
+refusal_in n (answer ∷ answers) = option_or (refusal_of n answer) (refusal_in (n + 1) answers)

@@ -1,5 +1,5 @@
 -- What the threads of a run promise of what they give back, and what is made ready for them.
-use Rattle.std.specs.Prelude.{◌≡◌, ℕ, ◌+◌, ◌<◌, Bool, true, List, [], ◌∷◌, ◌++◌, length, drop, Option, Result, IsFalse, IsTrue}
+use Rattle.std.specs.Prelude.{◌≡◌, ℕ, ◌+◌, ◌<◌, Bool, true, List, [], ◌∷◌, ◌++◌, length, drop, Option, IsFalse, IsTrue}
 use Rattle.lane.specs.Ends.{PutEndView, TakeEndView}
 use Rattle.lane.specs.MessageKinds.{is_done}
 use Rattle.plan_parts.specs.declared.formulas.formula.Formula.{Formula}
@@ -7,12 +7,11 @@ use Rattle.plan_parts.specs.Plan.{PlanParts}
 use Rattle.plan_parts.specs.declared.grid.Grid.{Grid}
 use Rattle.valuers.specs.Valuing.{items_by}
 use Rattle.rows.specs.ItemsView.{IsFullFor, PackedView}
-use Rattle.run_threads.specs.Reading.{IsRead}
-use Rattle.run_threads.specs.declared.read_fault.ReadFault.{ReadFault}
+use Rattle.run_threads.specs.Reading.{IsRead, ReadAnswer}
 
 -- a reader that was given this feed and this end ended the end, and read its file
 module _ {F : Type 0} (left : F → Option (List ℕ)) (is_sure : F → Bool) (failures : F → ℕ) where
-  abbrev pub KeepsRead : Grid → F → PutEndView → PutEndView → Result (Unit {0}) ReadFault → Type 0
+  abbrev pub KeepsRead : Grid → F → PutEndView → PutEndView → ReadAnswer → Type 0
   KeepsRead grid feed given ended answer =
       (ended.lane ≡ given.lane) × (ended.file ≡ given.file) × IsRead left is_sure failures grid given.file feed answer ended.sent
 

@@ -1,5 +1,5 @@
 -- How a reader goes through its zone file, block by block.
-use Rattle.std.specs.Prelude.{◌≡◌, ℕ, ◌+◌, ◌<◌, ◌≤◌, Bool, List, [], ◌∷◌, ◌++◌, length, Option, Some, None, IfSome, Result, Ok, Err}
+use Rattle.std.specs.Prelude.{◌≡◌, ℕ, ◌+◌, ◌≤◌, List, [], ◌∷◌, ◌++◌, length, Option, Some, None, Result, Ok, Err}
 use Rattle.lane.specs.Message.{sent_from}
 use Rattle.lane.specs.declared.message.Taken.{Taken}
 use Rattle.lane.specs.declared.message.Taken.TheVariants.{End}
@@ -8,19 +8,7 @@ use Rattle.zone_csv.specs.ZoneReaderView.{ZoneReaderView, Ahead}
 use Rattle.zone_csv.specs.declared.row_fault.RowFault.{RowFault}
 use Rattle.pit_units.specs.declared.or_memory.OrMemory.{OrMemory}
 use Rattle.pit_units.specs.declared.or_memory.OrMemory.TheVariants as zone
-use Rattle.run_threads.specs.MostBytes.{most_bytes}
-use Rattle.run_threads.specs.Refusing.{HasRefused}
-use Rattle.run_threads.specs.declared.read_fault.ReadFault.{ReadFault}
-use Rattle.run_threads.specs.declared.read_fault.ReadFault.TheVariants.{FeedFailed, TooLong, Row, OutOfMemory}
 use Rattle.plan_parts.specs.declared.ranges.TheConstants.{MAX_ROWS}
-
--- why a feed gives no text, by what it had left, whether it was sure, and how many pulls it had refused
-module _ {F : Type 0} (left : F → Option (List ℕ)) (is_sure : F → Bool) (failures : F → ℕ) where
-  abbrev pub IsUnread : F → ReadFault → Type 0
-  IsUnread feed (Row fault) = ⊥
-  IsUnread feed TooLong = IfSome (left feed) (λ bytes. most_bytes < length bytes)
-  IsUnread feed FeedFailed = HasRefused is_sure failures feed
-  IsUnread feed OutOfMemory = Unit {0}
 
 -- what was put of a file, which has these blocks and this fault in all, and what the reader has still to say, make up the file
 pub record IsSending (file : ℕ) (whole : List Block) (fault : Option RowFault) (sent : List Taken) (still : ZoneReaderView) : Type 0 where

@@ -5,7 +5,7 @@ ghost use Rattle.std.specs.List.{All, AllZip, list_any};
 ghost use Rattle.run_threads.specs.inner.Started.{after_joins};
 
 use crate::file_reading::FileRead;
-use crate::read_fault::ReadFault;
+use crate::read_result::ReadResult;
 use crate::starts::{RunPromise, Starter};
 use lane::{EndedPut, TakeEnd};
 use rows::PackedItems;
@@ -37,8 +37,8 @@ pub fn join_all<'s, E, T: Threads, A: Drop, P: Promise<A> + RunPromise>(
 pub fn split_reads(
     reads: Vec<FileRead>,
     mut ended: Vec<EndedPut>,
-    mut answers: Vec<Result<(), ReadFault>>,
-) -> (Vec<EndedPut>, Vec<Result<(), ReadFault>>)
+    mut answers: Vec<ReadResult>,
+) -> (Vec<EndedPut>, Vec<ReadResult>)
     requires empty { ended.items ≡ [] }
     requires no_answers { answers.items ≡ [] }
     requires room { vec_len reads ≤ vec_capacity ended }
