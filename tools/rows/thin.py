@@ -362,6 +362,15 @@ def of_holes():
         yield thinned(f"half of the blocks: {name}", cells, zones, masses=UNLIKE)
 
 
+def of_many_neighbourhoods():
+    """Unlike cones so wide that few blocks have neighbours like those of others: the program keeps what is
+    left of cones for as many as it may, and lets that go for others, some times."""
+    places = box(range(14), range(14), range(12))
+    for name, zone_of in [("by turns", lambda place: place[2] % 3), ("beside one another", lambda place: place[0] // 5)]:
+        zones = [[place for place in places if zone_of(place) == zone] for zone in range(3)]
+        yield thinned(f"many neighbourhoods: {name}", ["1,2,12", "1,1,12", "2,1,12"], zones, sizes=(15, 15, 12))
+
+
 def of_fullest():
     """A plan that holds as much as it may, plain and with keys in mixed letters."""
     lists = [list(map(int, line.split()[2:])) for line in fullest.TEXTS["prec"].splitlines()]
@@ -413,6 +422,7 @@ def trials():
     yield from of_places()
     yield from of_wide_cones()
     yield from of_holes()
+    yield from of_many_neighbourhoods()
     yield from of_fullest()
     yield from of_large_models()
     yield from thin_files.trials()

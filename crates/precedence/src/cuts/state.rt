@@ -42,4 +42,6 @@ pub struct States {
     pub newest: Vec<usize>,
     /// How many rows more may be kept.
     pub room: usize,
+    /// How often one was found again: a guess.
+    pub served: usize,
 }

@@ -19,6 +19,9 @@ use std::cell::Cell;
 // So many rows are kept in all states, some 8 MB of them.
 const MOST_ROWS: usize = 200_000;
 
+// States that have served so often each are worth to be made anew.
+const OFTEN: usize = 4;
+
 // A state takes as much memory as so many rows, beside its own.
 const ROWS_OF_STATE: usize = 6;
 
@@ -35,6 +38,22 @@ pub fn no_states(alloc: Global) -> States
         edges: Vec::new(alloc),
         newest: Vec::new(alloc),
         room: MOST_ROWS,
+        served: 0,
+    }
+}
+
+/// Lets all states go where there is no room for more and those that were made have served often: then it is worth to make those that the
+/// next walks need.
+pub fn let_go_if_full(tables: &[ConeTable], states: &mut States)
+    requires states { AreStates tables.now states.old.states.items states.old.edges.items }
+    ensures states { AreStates tables.now states.new.states.items states.new.edges.items }
+{
+    if states.room == 0 && states.served / OFTEN >= states.states.len() {
+        states.states.clear();
+        states.edges.clear();
+        states.newest.clear();
+        states.room = MOST_ROWS;
+        states.served = 0;
     }
 }
 
@@ -104,7 +123,10 @@ pub fn next_state(
         → states.new.states.items ≡ states.old.states.items) }
 {
     match made_state(tables, states, state, gap, table) {
-        Some(next) => Ok(Some(next)),
+        Some(next) => {
+            states.served = states.served.saturating_add(1);
+            Ok(Some(next))
+        }
         None => add_state(alloc, tables, states, state, gap, table, hashes),
     }
 }

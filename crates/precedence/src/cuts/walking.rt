@@ -14,7 +14,7 @@ use crate::cuts::first::{Reached, first_in_rows};
 use crate::cuts::rest::lies_behind;
 use crate::cuts::state::States;
 use crate::cuts::state_rows::{StateRows, rows_at};
-use crate::cuts::states::next_state;
+use crate::cuts::states::{let_go_if_full, next_state};
 use crate::lists::row_runs::Hint;
 use crate::places::Places;
 use std::alloc::{AllocError, Global};
@@ -54,6 +54,7 @@ pub fn walk(
     ensures states { AreStates tables.now.tables.items states.new.states.items states.new.edges.items }
 {
     let all = tables.tables.as_slice();
+    let_go_if_full(all, states);
     match walk_by_states(
         alloc, found, places, zones, tables, hints, states, table, from,
     )? {
