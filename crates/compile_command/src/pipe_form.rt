@@ -5,8 +5,8 @@ ghost use Rattle.pit_compile.specs.ZoneFiles.{HasPassed};
 ghost use Rattle.pit_compile.specs.Settings.{IsSettingsFault};
 ghost use Rattle.refusals.specs.declared.settings_fault.SettingsFault.{SettingsFault as ASettingsFault};
 ghost use Rattle.plan_parts.specs.Destinations.{formulas_of};
-ghost use Rattle.pit_compile.specs.Starts.{AreStartsOf};
-ghost use Rattle.run_threads.specs.Starts.{none_spent, AreSettled, AreSpent};
+ghost use Rattle.pit_compile.specs.Starts.{SpendsStarts};
+ghost use Rattle.run_threads.specs.Starts.{none_spent};
 ghost use Rattle.compile_command.specs.Printed.{pipe_settings, IsPrinted, PipeRefused};
 
 use command_io::pieces::Piece;
@@ -81,9 +81,7 @@ pub fn pipe_with_starts<R: Threads + Wait + Sync>(
     ensures kept { OnErr result (out.new.items ≡ out.old.items) }
 
     // What was started.
-    ensures started { OnOk result (AreSpent (4 + length zones.now) starts.new) }
-    ensures short { IfErr result (AreStartsOf (4 + length zones.now) starts.old starts.new) }
-    ensures settled { AreSettled starts.old starts.new }
+    ensures spends { SpendsStarts (4 + length zones.now) starts.old starts.new result }
 {
     require_settings(zones.len(), plan, destinations, SETTINGS)?;
     let feeds = lent(alloc, zones)?;

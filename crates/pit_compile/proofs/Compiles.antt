@@ -27,7 +27,7 @@ given_count (l ∷ ls) (t ∷ ts) h = let rest = given_count ls ts h.1 in omega 
 given_count _ _ h = absurd h
 
 -- texts are given that have no fault, the lane had what their files send, and these are their rows
-pub record Compiles (plan : PlanParts) (lefts : List (Option (List ℕ))) (sents : List (List Taken)) (rows : List Valued) : Type 0 where
+pub record AreRowsOfTexts (plan : PlanParts) (lefts : List (Option (List ℕ))) (sents : List (List Taken)) (rows : List Valued) : Type 0 where
   pub texts : List (List ℕ)
   pub given : AreGiven lefts texts
   pub no_fault : fault_in texts plan.grid 0 ≡ None
@@ -39,7 +39,7 @@ pub compiles : {F : Type 0} (left : F → Option (List ℕ)) (is_sure : F → Bo
     (answers : List ReadAnswer) (sents : List (List Taken)) (rows : List Valued)
     → AreZoneFiles → length feeds ≡ length plan.cones → length plan.cones ≤ 64
     → AreRead left is_sure failures plan.grid 0 feeds answers sents → refusal_in 0 answers ≡ None
-    → rows ≡ flat_map (rows_by (formulas_of_plan plan)) sents → Compiles plan (map left feeds) sents rows
+    → rows ≡ flat_map (rows_by (formulas_of_plan plan)) sents → AreRowsOfTexts plan (map left feeds) sents rows
 compiles left is_sure failures plan feeds answers sents rows files count most h e collected =
     let read = all_read left is_sure failures plan.grid feeds answers sents h e in
     let as_many = given_count (map left feeds) read.texts read.given ∙ length-map feeds left in
@@ -57,7 +57,7 @@ compiles left is_sure failures plan feeds answers sents rows files count most h 
 -- a refusal of numbering is the verdict's
 pub repeat_refused : (plan : PlanParts) (lefts : List (Option (List ℕ))) (Failed : ℕ → Type 0) (sents : List (List Taken))
     (rows : List Valued) (r : Refusal)
-    → Compiles plan lefts sents rows → IsRepeat rows r → IsNotCompiled plan lefts Failed r
+    → AreRowsOfTexts plan lefts sents rows → IsRepeat rows r → IsNotCompiled plan lefts Failed r
 repeat_refused plan lefts Failed sents rows (Same first again) m h =
     let repeats = subst (λ rs. RepeatsFirst rs first again) m.rows_are h in
     record { texts = m.texts; given = m.given; refused = (m.no_fault, first_repeat plan m.texts first again repeats) }

@@ -1,10 +1,16 @@
 -- What `compile` answers.
-use Rattle.std.specs.Prelude.{◌≡◌, ℕ, List, Option}
+use Rattle.std.specs.Prelude.{◌≡◌, ◌↔◌, ◌+◌, ◌≤◌, ℕ, Bool, List, length, map, Option, Result, Err, IfOk, IfErr}
+use Rattle.mine_instance.specs.Valid.{IsValid}
 use Rattle.plan_parts.specs.Plan.{PlanParts}
+use Rattle.plan_parts.specs.declared.formulas.formula.Formula.{Formula}
+use Rattle.plan_parts.specs.declared.settings.Settings.{Settings as Chosen}
+use Rattle.pit_compile.specs.Settings.{IsSettingsFault}
 use Rattle.pit_compile.specs.Verdict.{IsAccepted}
 use Rattle.pit_compile.specs.declared.compiling.Compiled.{Compiled}
 use Rattle.refusals.specs.declared.refusal.Refusal.{Refusal}
 use Rattle.refusals.specs.declared.refusal.Refusal.TheVariants.{Settings, NoThread, FeedFailed, TooLong, Row, Same, SinkFailed, OutOfMemory}
+use Rattle.refusals.specs.declared.settings_fault.SettingsFault.{SettingsFault}
+use Rattle.run_threads.specs.Refusing.{HasFailed}
 use Rattle.pit_compile.specs.ZoneFiles.{AreGiven, instance_from, HasPassed, IsVerdict, IsFeedFault}
 
 -- the zone files are accepted, they went through the lane, and this is their instance
@@ -25,3 +31,13 @@ IsNotCompiled plan lefts Failed (Row file fault) = IsVerdict plan lefts (Row fil
 IsNotCompiled plan lefts Failed (Same first again) = IsVerdict plan lefts (Same first again)
 IsNotCompiled plan lefts Failed (SinkFailed which) = ⊥
 IsNotCompiled plan lefts Failed OutOfMemory = Unit {0}
+
+-- what `compile` answers, of a plan, destinations of these formulas, settings and feeds, by what these had left, whether they were sure,
+-- and how many pulls they had refused, where it may start so many threads
+pub record Compiles {F : Type 0} (left : F → Option (List ℕ)) (is_sure : F → Bool) (failures : F → ℕ) (plan : PlanParts)
+    (formulas : List Formula) (chosen : Chosen) (feeds : List F) (starts : ℕ) (answer : Result Compiled Refusal) : Type 0 where
+  pub settings : (kind : SettingsFault) → (answer ≡ Err (Settings kind)) ↔ IsSettingsFault plan (length feeds) formulas chosen kind
+  pub done : IfOk answer (IsCompiled plan (map left feeds) chosen.valuers chosen.capacity)
+  pub valid : IfOk answer (λ compiled. IsValid compiled.instance)
+  pub refused : IfErr answer (IsNotCompiled plan (map left feeds) (HasFailed is_sure failures feeds))
+  pub budget : IfOk answer (λ _. chosen.valuers + length feeds ≤ starts)

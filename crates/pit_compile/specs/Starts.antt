@@ -1,8 +1,8 @@
 -- The starts of threads of a run that is refused.
-use Rattle.std.specs.Prelude.{◌≡◌, ℕ, ◌⊎◌}
+use Rattle.std.specs.Prelude.{◌≡◌, ℕ, ◌⊎◌, Result, IfOk, IfErr}
 use Rattle.pit_units.specs.declared.or_memory.OrMemory.{OrMemory}
 use Rattle.pit_units.specs.declared.or_memory.OrMemory.TheVariants as hand_over
-use Rattle.run_threads.specs.Starts.{StartsView, AreSpent, AreTooFew}
+use Rattle.run_threads.specs.Starts.{StartsView, AreSettled, AreSpent, AreTooFew}
 use Rattle.run_threads.specs.declared.handing_over.NoThread.{NoThread as ARefusedStart}
 use Rattle.refusals.specs.declared.refusal.Refusal.{Refusal}
 use Rattle.refusals.specs.declared.refusal.Refusal.TheVariants.{Settings, NoThread, FeedFailed, TooLong, Row, Same, SinkFailed, OutOfMemory}
@@ -23,3 +23,9 @@ AreStartsOf count old new (Row file fault) = AreSpent count new
 AreStartsOf count old new (Same first again) = AreSpent count new
 AreStartsOf count old new (SinkFailed which) = AreSpent count new
 AreStartsOf count old new OutOfMemory = (new ≡ old) ⊎ AreSpent count new
+
+-- what becomes of the starts in a run of so many threads, by what it answers
+pub record SpendsStarts {A : Type 0} (count : ℕ) (old new : StartsView) (answer : Result A Refusal) : Type 0 where
+  pub started : IfOk answer (λ _. AreSpent count new)
+  pub short : IfErr answer (AreStartsOf count old new)
+  pub settled : AreSettled old new

@@ -1,11 +1,10 @@
 //! The first half of a run: from zone files to the instance.
 
-ghost use Rattle.std.specs.Prelude.{◌≡◌, ◌≢◌, ◌↔◌, ◌+◌, ◌≤◌, Err, length, map, IfErr, IfOk, IfSome, IsFalse};
+ghost use Rattle.std.specs.Prelude.{◌≡◌, ◌≢◌, ◌+◌, ◌≤◌, Err, length, map, IfErr, IfOk, IfSome, IsFalse};
 ghost use Rattle.mine_instance.specs.Valid.{IsValid};
-ghost use Rattle.pit_compile.specs.Compiling.{IsCompiled, IsNotCompiled};
-ghost use Rattle.pit_compile.specs.Settings.{IsSettingsFault};
+ghost use Rattle.pit_compile.specs.Compiling.{Compiles, IsCompiled, IsNotCompiled};
 ghost use Rattle.refusals.specs.declared.settings_fault.SettingsFault.{SettingsFault as ASettingsFault};
-ghost use Rattle.pit_compile.specs.Starts.{AreStartsOf, refused_start};
+ghost use Rattle.pit_compile.specs.Starts.{refused_start, SpendsStarts};
 ghost use Rattle.pit_compile.specs.inner.Behind.{IsBehindThreads};
 ghost use Rattle.pit_compile.specs.inner.ReadAnswers.{refusal_in};
 ghost use Rattle.lane.specs.Whole.{IsWhole};
@@ -14,7 +13,7 @@ ghost use Rattle.plan_parts.specs.PlanFormulas.{formulas_of_plan};
 ghost use Rattle.plan_parts.specs.declared.ranges.TheConstants.{MAX_VALUERS, MAX_ZONES};
 ghost use Rattle.run_threads.specs.Reading.{AreRead};
 ghost use Rattle.run_threads.specs.Refusing.{HasFailed};
-ghost use Rattle.run_threads.specs.Starts.{none_spent, AreSettled, AreSpent};
+ghost use Rattle.run_threads.specs.Starts.{none_spent};
 ghost use Rattle.rows.specs.ItemsView.{items_in};
 ghost use Rattle.valuers.specs.Valuing.{items_by};
 
@@ -71,18 +70,8 @@ pub fn compile<R: Threads + Wait + Sync, F: Feed + Send + Drop, G: Gate + Sync>(
     budget: Budget,
     gate: &G,
 ) -> Result<Compiled, Refusal>
-    ensures settings { (kind : ASettingsFault) → (result ≡ Err (Refusal.Settings kind))
-        ↔ IsSettingsFault plan.now (length feeds.items) (formulas_of destinations.now)
-        budget.settings kind }
-    ensures done { IfOk result
-        (IsCompiled plan.now (map F.left feeds.items) budget.settings.valuers
-        budget.settings.capacity) }
-    ensures valid { IfOk result (λ compiled. IsValid compiled.instance) }
-    ensures refused { IfErr result
-        (IsNotCompiled plan.now (map F.left feeds.items)
-        (HasFailed F.is_sure F.failures feeds.items)) }
-    ensures budget { IfOk result
-        (λ _. budget.settings.valuers + length feeds.items ≤ budget.starts) }
+    ensures { Compiles F.left F.is_sure F.failures plan.now (formulas_of destinations.now)
+        budget.settings feeds.items budget.starts result }
 {
     let Budget { settings, starts } = budget;
     let mut starts = Starts::with_gate(rt, starts, gate);
@@ -101,24 +90,12 @@ pub fn compile_with_starts<R: Threads + Wait + Sync, F: Feed + Send + Drop, G: G
     starts: &mut Starts<'_, R, G>,
 ) -> Result<Compiled, Refusal>
     requires unspent { starts.old ≡ none_spent starts.old.allowed }
-    ensures settings { (kind : ASettingsFault) → (result ≡ Err (Refusal.Settings kind))
-        ↔ IsSettingsFault plan.now (length feeds.items) (formulas_of destinations.now)
-        settings kind }
-    ensures done { IfOk result
-        (IsCompiled plan.now (map F.left feeds.items) settings.valuers settings.capacity) }
-    ensures valid { IfOk result (λ compiled. IsValid compiled.instance) }
-    ensures refused { IfErr result
-        (IsNotCompiled plan.now (map F.left feeds.items)
-        (HasFailed F.is_sure F.failures feeds.items)) }
-    ensures budget { IfOk result
-        (λ _. settings.valuers + length feeds.items ≤ starts.old.allowed) }
+    ensures compiles { Compiles F.left F.is_sure F.failures plan.now (formulas_of destinations.now)
+        settings feeds.items starts.old.allowed result }
 
     // What was started.
-    ensures started { IfOk result
-        (λ _. AreSpent (settings.valuers + length feeds.items) starts.new) }
-    ensures short { IfErr result
-        (AreStartsOf (settings.valuers + length feeds.items) starts.old starts.new) }
-    ensures settled { AreSettled starts.old starts.new }
+    ensures spends { SpendsStarts (settings.valuers + length feeds.items) starts.old starts.new
+        result }
 {
     require_settings(feeds.len(), plan, destinations, settings)?;
     let given = Snapshot::of(&feeds);

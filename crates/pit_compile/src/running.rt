@@ -1,13 +1,13 @@
 //! The run: from zone files to the texts of the instance.
 
-ghost use Rattle.std.specs.Prelude.{◌≡◌, ◌+◌, length, map, IfErr, IfOk};
+ghost use Rattle.std.specs.Prelude.{◌≡◌, ◌+◌, length, map};
 ghost use Rattle.pit_compile.specs.Run.{Runs};
 ghost use Rattle.pit_compile.specs.Sinks.{all_told};
-ghost use Rattle.pit_compile.specs.Starts.{AreStartsOf};
+ghost use Rattle.pit_compile.specs.Starts.{SpendsStarts};
 ghost use Rattle.pit_compile.specs.declared.running.TheConstants.{MOST_STARTS};
 ghost use Rattle.plan_parts.specs.Destinations.{formulas_of};
 ghost use Rattle.run_threads.specs.Refusing.{HasFailed};
-ghost use Rattle.run_threads.specs.Starts.{none_spent, AreSettled, AreSpent};
+ghost use Rattle.run_threads.specs.Starts.{none_spent};
 
 use crate::compiling::{Compiled, compile_with_starts};
 use crate::settings::Settings;
@@ -113,11 +113,8 @@ pub fn run_with_starts<R: Threads + Wait + Sync, F: Feed + Send + Drop, G: Gate 
         (told sinks.new) result }
 
     // What was started.
-    ensures started { IfOk result
-        (λ _. AreSpent (settings.valuers + length feeds.items) starts.new) }
-    ensures short { IfErr result
-        (AreStartsOf (settings.valuers + length feeds.items) starts.old starts.new) }
-    ensures settled { AreSettled starts.old starts.new }
+    ensures spends { SpendsStarts (settings.valuers + length feeds.items) starts.old starts.new
+        result }
 {
     let Compiled { gathered, instance } = compile_with_starts(
         alloc,

@@ -1,4 +1,5 @@
 pub mod Full
+pub mod HandingOver
 pub mod MostBytes
 pub mod Reading
 pub mod Refusing

@@ -1,5 +1,5 @@
 -- What contracts see of the starts of threads, and what a run does to them.
-use Rattle.std.specs.Prelude.{◌≡◌, ℕ, ◌-◌, ◌<◌, ◌≤◌, Bool, true, false}
+use Rattle.std.specs.Prelude.{◌≡◌, ℕ, ◌+◌, ◌-◌, ◌<◌, ◌≤◌, Bool, true, false, Result, IfOk, IfErr}
 use Rattle.pit_units.specs.declared.or_memory.OrMemory.{OrMemory}
 use Rattle.pit_units.specs.declared.or_memory.OrMemory.TheVariants.{Fault, OutOfMemory}
 use Rattle.run_threads.specs.declared.handing_over.NoThread.{NoThread}
@@ -38,3 +38,11 @@ AreTooFew count starts = (starts.refused ≡ true) × (starts.spent < count)
 abbrev pub AreShort : ℕ → StartsView → StartsView → OrMemory NoThread → Type 0
 AreShort count old new (Fault refused) = AreTooFew count new
 AreShort count old new OutOfMemory = new ≡ old
+
+-- what becomes of the starts where so many valuers, and then so many files, need a thread each, by what is answered
+pub record StartsThreads {A : Type 0} (valuers files : ℕ) (old new : StartsView) (answer : Result A (OrMemory NoThread)) : Type 0 where
+  pub budget : IfOk answer (λ _. valuers + files ≤ old.allowed)
+  pub started : IfOk answer (λ _. AreSpent (valuers + files) new)
+  pub short : IfErr answer (AreShort (valuers + files) old new)
+  pub order : IsInOrder valuers new
+  pub settled : AreSettled old new

@@ -1,4 +1,3 @@
-pub mod HandingOver
 pub mod Promises
 pub mod Ready
 pub mod Sending

@@ -1,16 +1,10 @@
 //! The threads of a run, from the first start to the last join.
 
-ghost use Rattle.std.specs.Prelude.{◌≡◌, ◌+◌, ◌≤◌, length, map, vec_len, IfErr, IfOk, IsFalse, IsTrue};
-ghost use Rattle.lane.specs.Whole.{IsWhole};
+ghost use Rattle.std.specs.Prelude.{◌≡◌, ◌+◌, ◌≤◌, length, vec_len, IfErr, IfOk};
 ghost use Rattle.plan_parts.specs.OfPlan.{AreOfPlan};
-ghost use Rattle.plan_parts.specs.PlanFormulas.{formulas_of_plan};
-ghost use Rattle.run_threads.specs.inner.HandingOver.{IsHandedOver};
-ghost use Rattle.run_threads.specs.Full.{IsOneFull};
-ghost use Rattle.run_threads.specs.Reading.{AreRead};
-ghost use Rattle.run_threads.specs.Starts.{none_spent, AreSettled, AreShort, AreSpent, AreTooFew, IsInOrder};
+ghost use Rattle.run_threads.specs.HandingOver.{IsHandedOver};
+ghost use Rattle.run_threads.specs.Starts.{none_spent, AreSettled, AreSpent, AreTooFew, IsInOrder, StartsThreads};
 ghost use Rattle.pit_units.specs.declared.or_memory.OrMemory.TheVariants.{Fault};
-ghost use Rattle.rows.specs.ItemsView.{items_in};
-ghost use Rattle.valuers.specs.Valuing.{items_by};
 ghost use Rattle.plan_parts.specs.declared.ranges.TheConstants.{MAX_CAPACITY, MAX_VALUERS};
 
 use crate::in_scope::giving_up::GaveUp;
@@ -92,31 +86,14 @@ pub fn hand_over<R: Threads + Wait + Sync, F: Feed + Send + Drop, G: Gate + Sync
     requires destinations { AreOfPlan destinations.now plan.now }
     requires unspent { starts.old ≡ none_spent starts.old.allowed }
 
-    // What was read, and what the valuers made of it.
-    ensures whole { IfOk result (λ made. IsWhole made.0.gathered) }
-    ensures read { IfOk result (λ made.
-        AreRead F.left F.is_sure F.failures plan.now.grid 0 feeds.items
-        made.0.answers.items made.0.gathered.sent) }
-    ensures given { IfOk result (λ made. made.1 ≡ feeds.items) }
-    ensures valued { IfOk result (λ made. IsFalse made.0.memory
-        → items_in made.0.items.items ≡ map (items_by (formulas_of_plan plan.now)) made.0.gathered.took) }
-    ensures full { IfOk result (λ made. IsTrue made.0.memory
-        → IsOneFull (length (formulas_of_plan plan.now)) made.0.items.items) }
-
-    // How many threads there were, and how long the lane was.
-    ensures takers { IfOk result (λ made. length made.0.gathered.took ≡ allowance.valuers) }
-    ensures capacity { IfOk result (λ made. made.0.gathered.capacity ≡ allowance.capacity) }
-    ensures budget { IfOk result (λ _.
-        allowance.valuers + length feeds.items ≤ starts.old.allowed) }
+    // What was read, what the valuers made of it, how many threads there were, and how long the lane was.
+    ensures handed { IfOk result (λ made. IsHandedOver F.left F.is_sure F.failures plan.now feeds.items
+        allowance.valuers allowance.capacity made.0 made.1) }
 
     // What was started: a thread for each valuer and each file, or else the start of one of them was refused, or none was tried. The valuers
     // are started first. Each is joined.
-    ensures started { IfOk result (λ _.
-        AreSpent (allowance.valuers + length feeds.items) starts.new) }
-    ensures short { IfErr result
-        (AreShort (allowance.valuers + length feeds.items) starts.old starts.new) }
-    ensures order { IsInOrder allowance.valuers starts.new }
-    ensures settled { AreSettled starts.old starts.new }
+    ensures spends { StartsThreads allowance.valuers (length feeds.items) starts.old starts.new
+        result }
 {
     let rt = starts.runtime();
     let files = plan.cones().len() as u8;
@@ -145,9 +122,8 @@ pub fn hand_over<R: Threads + Wait + Sync, F: Feed + Send + Drop, G: Gate + Sync
         move |scope| -> Settled<F>
             requires unspent { lent ≡ none_spent lent.allowed }
             ensures handed { IfOk result.handed (λ made. IsHandedOver F.left F.is_sure F.failures
-                ready.entry.shared.plan.now ready.entry.feeds.items
-                ready.entry.lane.closer.takers ready.entry.lane.closer.lane.2 made.0) }
-            ensures given { IfOk result.handed (λ made. made.1 ≡ ready.entry.feeds.items) }
+                ready.entry.shared.plan.now ready.entry.feeds.items ready.entry.lane.closer.takers
+                ready.entry.lane.closer.lane.2 made.0 made.1) }
             ensures started { IfOk result.handed (λ _. AreSpent
                 (ready.entry.lane.closer.takers + vec_len ready.entry.feeds) result.starts) }
             ensures refused { IfErr result.handed (λ _. AreTooFew

@@ -2,7 +2,7 @@
 
 ghost use Rattle.std.specs.Prelude.{◌≡◌, ◌+◌, vec_len, IfErr, IfOk};
 ghost use Rattle.run_threads.specs.Starts.{none_spent, AreSettled, AreSpent, AreTooFew, IsInOrder};
-ghost use Rattle.run_threads.specs.inner.HandingOver.{IsHandedOver};
+ghost use Rattle.run_threads.specs.HandingOver.{IsHandedOver};
 
 use crate::handing_over::HandedOver;
 use crate::in_scope::giving_up::GaveUp;
@@ -35,9 +35,8 @@ pub fn hand_over_in<'s, E, T: Threads, R: Wait + Sync, F: Feed + Send + Drop + '
 ) -> Settled<F>
     requires unspent { starter ≡ none_spent starter.allowed }
     ensures handed { IfOk result.handed (λ made. IsHandedOver F.left F.is_sure F.failures
-        ready.entry.shared.plan.now ready.entry.feeds.items
-        ready.entry.lane.closer.takers ready.entry.lane.closer.lane.2 made.0) }
-    ensures given { IfOk result.handed (λ made. made.1 ≡ ready.entry.feeds.items) }
+        ready.entry.shared.plan.now ready.entry.feeds.items ready.entry.lane.closer.takers
+        ready.entry.lane.closer.lane.2 made.0 made.1) }
 
     // The starts: one for each valuer and each file, or one was refused; the valuers first. Each thread is joined.
     ensures started { IfOk result.handed (λ _.

@@ -3,7 +3,7 @@
 ghost use Rattle.std.specs.Prelude.{◌≡◌, ◌+◌, ◌≤◌, map, vec_len};
 ghost use Rattle.std.specs.List.{All};
 ghost use Rattle.lane.specs.Ends.{first_puts, first_takes};
-ghost use Rattle.run_threads.specs.inner.HandingOver.{IsHandedOver};
+ghost use Rattle.run_threads.specs.HandingOver.{IsHandedOver};
 ghost use Rattle.run_threads.specs.inner.Ready.{IsRoomFor};
 ghost use Rattle.run_threads.specs.inner.Started.{after_joins};
 
@@ -45,9 +45,9 @@ pub fn settle<'s, E, T: Threads, R: Wait, F: Feed>(
         ≤ starter.old.spent }
     requires room { IsRoomFor closer.files closer.takers room }
 
-    // What they hand over, and that each of them is joined.
-    ensures handed { IsHandedOver F.left F.is_sure F.failures _plan.now
-        (map (λ h. h.promise.feed.value) readers.items) closer.takers closer.lane.2 result }
+    // What they hand over of the feeds that the readers were given, and that each of them is joined.
+    ensures handed { let given = map (λ h. h.promise.feed.value) readers.items in
+        IsHandedOver F.left F.is_sure F.failures _plan.now given closer.takers closer.lane.2 result given }
     ensures counted { starter.new
         ≡ after_joins (vec_len readers + vec_len valuers) starter.old }
 {

@@ -16,4 +16,4 @@ returns-in_err-gathered-clause-refused g c =
     g.O.Opened.Feed.failures (formulas_of c.args.destinations.now) c.args.settings c.in_ok-feeds.feeds.items c.in_err-gathered.field-0.0 _ c.in_ok-feeds.ensures.opened refl
     (λ kind e. (c.in_err-gathered.ensures.runs.settings kind).0 (ap Err e)) c.in_err-gathered.ensures.runs.refused
     (subst (λ n. AreStartsOf (c.args.settings.valuers + n) c.args.starts.now c.run_with_starts.new.starts c.in_err-gathered.field-0.0)
-    (sym (length-map c.in_ok-feeds.feeds.items g.O.Opened.Feed.left)) c.in_err-gathered.ensures.short))
+    (sym (length-map c.in_ok-feeds.feeds.items g.O.Opened.Feed.left)) c.in_err-gathered.ensures.spends.short))

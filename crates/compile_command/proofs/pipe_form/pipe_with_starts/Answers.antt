@@ -39,7 +39,7 @@ returns-in_err-compiled-clause-settings g c =
     λ kind. (
       λ e. subst (λ n. IsSettingsFault c.args.plan.now n (formulas_of c.args.destinations.now) pipe_settings kind)
           c.in_ok-feeds.ensures.count
-          ((c.compile_with_starts.ensures.settings kind).0 (c.in_err-compiled.was ∙ ap (λ r. Err (refusal_in r)) (sym told ∙ e))),
+          ((c.compile_with_starts.ensures.compiles.settings kind).0 (c.in_err-compiled.was ∙ ap (λ r. Err (refusal_in r)) (sym told ∙ e))),
       λ h. let clash = sym c.in_ok-require_settings.was ∙ (c.require_settings.ensures.exact kind).1 h in absurd cc,
     )
 
@@ -60,17 +60,17 @@ returns-in_err-compiled-clause-refused g c =
     let fact : PipeRefused plan formulas zones c.in_err-compiled.field-0.0 =
     refused_by _ _ plan formulas zones _ c.in_ok-feeds.feeds.items c.in_ok-feeds.ensures.left c.in_ok-feeds.ensures.sure c.in_err-compiled.field-0.0
     (λ kind e. subst (λ n. IsSettingsFault plan n formulas pipe_settings kind) c.in_ok-feeds.ensures.count
-    ((c.in_err-compiled.ensures.settings kind).0 (ap Err e))) c.in_err-compiled.ensures.refused in search rules
+    ((c.in_err-compiled.ensures.compiles.settings kind).0 (ap Err e))) c.in_err-compiled.ensures.compiles.refused in search rules
 
 pub returns-clause-passed : goal.returns-clause-passed
 returns-clause-passed g c =
-    let done = c.in_ok-compiled.ensures.done in
+    let done = c.in_ok-compiled.ensures.compiles.done in
     subst (λ texts. HasPassed c.args.plan.now texts 4 64 c.in_ok-compiled.compiled.gathered)
     (given_texts _ c.args.zones.now done.texts c.in_ok-feeds.ensures.left done.given) done.passed
 
 pub returns-clause-printed : goal.returns-clause-printed
 returns-clause-printed g c =
-    let done = c.in_ok-compiled.ensures.done in
+    let done = c.in_ok-compiled.ensures.compiles.done in
     let same = given_texts _ c.args.zones.now done.texts c.in_ok-feeds.ensures.left done.given in
     record {
       accepted = subst (λ texts. IsAccepted c.args.plan.now texts) same done.accepted;

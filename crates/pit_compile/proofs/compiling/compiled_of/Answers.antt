@@ -10,7 +10,7 @@ use Rattle.pit_compile.specs.Compiling.{IsNotCompiled}
 use Rattle.pit_compile.specs.Verdict.{AreApart}
 use Rattle.refusals.specs.declared.refusal.Refusal.TheVariants.{Settings}
 use Rattle.refusals.specs.declared.settings_fault.SettingsFault.{SettingsFault}
-use Rattle.pit_compile.proofs.Compiles.{Compiles, compiles, repeat_refused}
+use Rattle.pit_compile.proofs.Compiles.{AreRowsOfTexts, compiles, repeat_refused}
 use Rattle.pit_compile.proofs.PlainRows.{blocks_are}
 use Rattle.pit_compile.proofs.Readers.{all_read, as_many, not_read}
 use Rattle.pit_compile.proofs.RowFacts.{AreZoneFiles, few_sents}
@@ -77,7 +77,7 @@ collect-requires-clause-few g c =
 
 -- what the collected rows say of the model
 model : (g : Over) (c : In_ok-rows g)
-    → Compiles c.args.plan.now (map g.F.Feed.left c.args._feeds.value.items) c.args.handed.gathered.sent c.in_ok-rows.rows
+    → AreRowsOfTexts c.args.plan.now (map g.F.Feed.left c.args._feeds.value.items) c.args.handed.gathered.sent c.in_ok-rows.rows
 model g c =
     compiles g.F.Feed.left g.F.Feed.is_sure g.F.Feed.failures c.args.plan.now c.args._feeds.value.items c.args.handed.answers.items c.args.handed.gathered.sent c.in_ok-rows.rows
     (record { few = c.zone_files.ensures.few; own = c.zone_files.ensures.own })

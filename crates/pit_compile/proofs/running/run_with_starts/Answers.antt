@@ -20,12 +20,12 @@ returns-in_err-gathered-clause-runs g c =
     let many = length-map c.args.feeds.items g.F.Feed.left in
     rw (p.1, p.2) (record {
       settings = λ kind. (
-        λ e. subst (λ n. IsSettingsFault plan n formulas c.args.settings kind) (sym many) ((c.in_err-gathered.ensures.settings kind).0 (cc e)),
-        λ h. cc ((c.in_err-gathered.ensures.settings kind).1 (subst (λ n. IsSettingsFault plan n formulas c.args.settings kind) many h)),
+        λ e. subst (λ n. IsSettingsFault plan n formulas c.args.settings kind) (sym many) ((c.in_err-gathered.ensures.compiles.settings kind).0 (cc e)),
+        λ h. cc ((c.in_err-gathered.ensures.compiles.settings kind).1 (subst (λ n. IsSettingsFault plan n formulas c.args.settings kind) many h)),
       );
       done = tt;
       refused = not_compiled plan lefts failed (all_told g.S.Sink.state c.args.sinks.now) c.in_err-gathered.field-0.0
-          c.in_err-gathered.ensures.refused;
+          c.in_err-gathered.ensures.compiles.refused;
       budget = tt;
     })
 
@@ -46,11 +46,11 @@ returns-in_err-write_texts-clause-runs g c =
         λ e.
             let is : why ≡ Settings kind = cc e in
             absurd (cut_is_not_settings c.in_ok-gathered.field-0.instance old new why kind cut is),
-        λ h. absurd (cc ((c.in_ok-gathered.ensures.settings kind).1
+        λ h. absurd (cc ((c.in_ok-gathered.ensures.compiles.settings kind).1
             (subst (λ n. IsSettingsFault plan n formulas c.args.settings kind) many h))),
       );
       done = tt;
-      refused = cut_off plan lefts failed c.args.settings.valuers c.args.settings.capacity old new c.in_ok-gathered.field-0 why c.in_ok-gathered.ensures.done cut;
+      refused = cut_off plan lefts failed c.args.settings.valuers c.args.settings.capacity old new c.in_ok-gathered.field-0 why c.in_ok-gathered.ensures.compiles.done cut;
       budget = tt;
     })
 
@@ -61,11 +61,11 @@ returns-clause-runs g c =
     let old = all_told g.S.Sink.state c.args.sinks.now in
     let new = all_told g.S.Sink.state c.write_texts.new.sinks in
     let many = length-map c.args.feeds.items g.F.Feed.left in
-    let made = c.in_ok-gathered.ensures.done in
+    let made = c.in_ok-gathered.ensures.compiles.done in
     record {
       settings = λ kind. (
         λ e. absurd (cc e),
-        λ h. absurd (cc ((c.in_ok-gathered.ensures.settings kind).1
+        λ h. absurd (cc ((c.in_ok-gathered.ensures.compiles.settings kind).1
             (subst (λ n. IsSettingsFault plan n formulas c.args.settings kind) many h))),
       );
       done = record {
@@ -76,5 +76,5 @@ returns-clause-runs g c =
         written = subst (λ (i : Instance). AreWritten i old new) made.instance_is c.in_ok-write_texts.ensures.written;
       };
       refused = tt;
-      budget = omega (arith, c.in_ok-gathered.ensures.budget, many);
+      budget = omega (arith, c.in_ok-gathered.ensures.compiles.budget, many);
     }

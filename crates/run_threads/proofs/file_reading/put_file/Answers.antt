@@ -1,5 +1,4 @@
-use Rattle.std.proofs.Common.{◌≤◌, arith, length, rules}
-use Rattle.std.proofs.lemmas.Grind.{common_steps}
+use Rattle.std.proofs.Common.{◌≤◌, length, rules}
 use Rattle.std.proofs.lemmas.Result.{err_from_is_err_and}
 use Rattle.run_threads.specs.MostBytes.{most_bytes}
 use Rattle.run_threads.proofs.Sending.{gives_none, text_read}
@@ -16,6 +15,6 @@ returns-in_err-text-clause-read g c =
 pub returns-clause-read : goal.returns-clause-read
 returns-clause-read g c =
     let text = c.in_ok-text.text in
-    let short : length text.items ≤ most_bytes = first_of (omega (arith, c.in_ok-text.ensures.short), search rules, grind (arith, common_steps)) in
+    let short : length text.items ≤ most_bytes = search rules in
     text_read g.F.Feed.left g.F.Feed.is_sure g.F.Feed.failures c.args.plan.now.grid c.args.file c.args.feed.now text.items
     c.put_blocks.result _ c.in_ok-text.ensures.whole short c.put_blocks.ensures.put

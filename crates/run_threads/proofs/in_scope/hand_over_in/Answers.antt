@@ -1,5 +1,5 @@
-use Rattle.std.proofs.Common.{rules, ◌≡◌, map, subst}
-use Rattle.run_threads.specs.inner.HandingOver.{IsHandedOver}
+use Rattle.std.proofs.Common.{rules, ◌≡◌, ◌∙◌, map, subst, sym}
+use Rattle.run_threads.specs.HandingOver.{IsHandedOver}
 use Rattle.run_threads.proofs.Joined.{first_unsent, puts_of_lane, takes_of_lane}
 use Rattle.run_threads.proofs.in_scope.hand_over_in.Goals as goal
 
@@ -31,5 +31,9 @@ returns-clause-handed g c =
     let handles = c.start_readers-readers.result.handles.items in
     let feeds = c.args.ready.feeds.items in
     let fed : map (λ h. h.promise.feed.value) handles ≡ feeds = c.start_readers-readers.ensures.feeds (search rules) in
-    subst (λ fs. IsHandedOver g.F.Feed.left g.F.Feed.is_sure g.F.Feed.failures c.args.ready.shared.plan.now fs c.args.ready.lane.closer.takers
-    c.args.ready.lane.closer.lane.2 c.settle-handed.result) fed c.settle-handed.ensures.handed
+    let takers = c.args.ready.lane.closer.takers in
+    let most = c.args.ready.lane.closer.lane.2 in
+    let handed = c.settle-handed.result in
+    let plan = c.args.ready.shared.plan.now in
+    let own = subst (λ fs. IsHandedOver g.F.Feed.left g.F.Feed.is_sure g.F.Feed.failures plan fs takers most handed fs) fed c.settle-handed.ensures.handed in
+    subst (λ fs. IsHandedOver g.F.Feed.left g.F.Feed.is_sure g.F.Feed.failures plan feeds takers most handed fs) (sym (c.of-given.ensures ∙ fed)) own

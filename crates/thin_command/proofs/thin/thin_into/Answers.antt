@@ -21,9 +21,9 @@ returns-in_err-instance-clause-refused g c =
     (g.S.Sink.state c.args.sink.now) g.O.Opened.Feed.left g.O.Opened.Feed.is_sure
     g.O.Opened.Feed.failures (formulas_of c.args.destinations.now) c.args.settings c.in_ok-feeds.feeds.items c.in_err-instance.field-0.0 _ c.in_ok-feeds.ensures.opened refl
     (λ kind e. subst (λ n. IsSettingsFault c.args.plan.now n (formulas_of c.args.destinations.now) c.args.settings kind) (sym many)
-    ((c.in_err-instance.ensures.settings kind).0 (ap Err e))) c.in_err-instance.ensures.refused
+    ((c.in_err-instance.ensures.compiles.settings kind).0 (ap Err e))) c.in_err-instance.ensures.compiles.refused
     (subst (λ n. AreStartsOf (c.args.settings.valuers + n) c.args.starts.now c.compile_with_starts.new.starts c.in_err-instance.field-0.0)
-    (sym many) c.in_err-instance.ensures.short) refl)
+    (sym many) c.in_err-instance.ensures.spends.short) refl)
 
 pub returns-in_err-counts-clause-refused : goal.returns-in_err-counts-clause-refused
 returns-in_err-counts-clause-refused g c =
@@ -33,8 +33,8 @@ returns-in_err-counts-clause-refused g c =
     (g.O.Opener.opened c.open_all.new.files) c.args.starts.now c.compile_with_starts.new.starts (g.S.Sink.state c.args.sink.now)
     (g.S.Sink.state c.write_fewer.new.sink) (map g.O.Opened.Feed.left c.in_ok-feeds.feeds.items) c.args.settings
     c.in_ok-instance.field-0
-    c.in_ok-feeds.ensures.opened c.in_ok-instance.ensures.done
-    (subst (λ n. AreSpent (c.args.settings.valuers + n) c.compile_with_starts.new.starts) (sym many) c.in_ok-instance.ensures.started) in
+    c.in_ok-feeds.ensures.opened c.in_ok-instance.ensures.compiles.done
+    (subst (λ n. AreSpent (c.args.settings.valuers + n) c.compile_with_starts.new.starts) (sym many) c.in_ok-instance.ensures.spends.started) in
     rw (p.1, p.2) (cut_off c.args.plan.now (map string_bytes c.args.zones.now) (g.O.Opener.opened c.args.files.now)
     (g.O.Opener.opened c.open_all.new.files) c.args.starts.now c.compile_with_starts.new.starts (g.S.Sink.state c.args.sink.now)
     (g.S.Sink.state c.write_fewer.new.sink) g.O.Opened.Feed.left g.O.Opened.Feed.is_sure
@@ -50,8 +50,8 @@ returns-in_err-append_counts-clause-refused g c =
     (g.O.Opener.opened c.open_all.new.files) c.args.starts.now c.compile_with_starts.new.starts (g.S.Sink.state c.args.sink.now)
     (g.S.Sink.state c.write_fewer.new.sink) (map g.O.Opened.Feed.left c.in_ok-feeds.feeds.items) c.args.settings
     c.in_ok-instance.field-0
-    c.in_ok-feeds.ensures.opened c.in_ok-instance.ensures.done
-    (subst (λ n. AreSpent (c.args.settings.valuers + n) c.compile_with_starts.new.starts) (sym many) c.in_ok-instance.ensures.started) in
+    c.in_ok-feeds.ensures.opened c.in_ok-instance.ensures.compiles.done
+    (subst (λ n. AreSpent (c.args.settings.valuers + n) c.compile_with_starts.new.starts) (sym many) c.in_ok-instance.ensures.spends.started) in
     rw told (refused_line c.args.plan.now (map string_bytes c.args.zones.now) (g.O.Opener.opened c.args.files.now)
     (g.O.Opener.opened c.open_all.new.files) c.args.starts.now c.compile_with_starts.new.starts (g.S.Sink.state c.args.sink.now)
     (g.S.Sink.state c.write_fewer.new.sink) g.O.Opened.Feed.left g.O.Opened.Feed.is_sure
@@ -65,8 +65,8 @@ returns-clause-done g c =
     (g.O.Opener.opened c.open_all.new.files) c.args.starts.now c.compile_with_starts.new.starts (g.S.Sink.state c.args.sink.now)
     (g.S.Sink.state c.write_fewer.new.sink) (map g.O.Opened.Feed.left c.in_ok-feeds.feeds.items) c.args.settings
     c.in_ok-instance.field-0
-    c.in_ok-feeds.ensures.opened c.in_ok-instance.ensures.done
-    (subst (λ n. AreSpent (c.args.settings.valuers + n) c.compile_with_starts.new.starts) (sym many) c.in_ok-instance.ensures.started) in (
+    c.in_ok-feeds.ensures.opened c.in_ok-instance.ensures.compiles.done
+    (subst (λ n. AreSpent (c.args.settings.valuers + n) c.compile_with_starts.new.starts) (sym many) c.in_ok-instance.ensures.spends.started) in (
       c.in_ok-instance.field-0.instance,
       record { read = read; written = c.in_ok-counts.ensures.written },
       c.in_ok-append_counts.ensures.told

@@ -1,4 +1,4 @@
-use Rattle.std.proofs.Common.{arith, rules, ◌≡◌, ◌∙◌, All, [], append-nil, map, true, sym, subst}
+use Rattle.std.proofs.Common.{arith, rules, ◌≡◌, ◌∙◌, All, [], append-nil, map, true, refl, sym, subst}
 use Rattle.lane.specs.Ends.{Lane, PutEndView, TakeEndView, first_puts, first_takes}
 use Rattle.lane.specs.MessageKinds.{is_done}
 use Rattle.run_threads.proofs.Joined.{puts_of, read_of, takes_of, done_of, valued_of, full_of, of_given, puts_of_lane, takes_of_lane}
@@ -48,7 +48,8 @@ returns-clause-handed g c =
     let lane = c.args.closer.lane in
     record {
       whole = search rules;
-      capacity_is = search rules;
+      given = refl;
+      capacity = search rules;
       read = rw (
         c.split_reads-ended.ensures.answers,
         c.gather-gathered.ensures.sent,

@@ -9,13 +9,14 @@ use Rattle.run_threads.specs.Full.{IsOneFull}
 use Rattle.run_threads.specs.Reading.{AreRead}
 use Rattle.run_threads.specs.declared.handing_over.HandedOver.{HandedOver}
 
--- handed over by so many valuers of a plan, through a lane of this capacity, from these feeds, by what they had left, whether they were
--- sure, and how many pulls they had refused
+-- what is handed over by so many valuers of a plan, through a lane of this capacity, from these feeds, by what they had left, whether
+-- they were sure, and how many pulls they had refused; and the feeds that the readers were given
 pub record IsHandedOver {F : Type 0} (left : F → Option (List ℕ)) (is_sure : F → Bool) (failures : F → ℕ) (plan : PlanParts)
-    (feeds : List F) (valuers capacity : ℕ) (handed : HandedOver) : Type 0 where
+    (feeds : List F) (valuers most : ℕ) (handed : HandedOver) (used : List F) : Type 0 where
   pub whole : IsWhole handed.gathered
-  pub capacity_is : handed.gathered.capacity ≡ capacity
   pub read : AreRead left is_sure failures plan.grid 0 feeds handed.answers.items handed.gathered.sent
+  pub given : used ≡ feeds
   pub valued : IsFalse handed.memory → items_in handed.items.items ≡ map (items_by (formulas_of_plan plan)) handed.gathered.took
   pub full : IsTrue handed.memory → IsOneFull (length (formulas_of_plan plan)) handed.items.items
   pub takers : length handed.gathered.took ≡ valuers
+  pub capacity : handed.gathered.capacity ≡ most
