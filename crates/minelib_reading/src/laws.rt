@@ -47,8 +47,8 @@ pub fn cpit_read_is_valid()
 /// - `preds`: the line of the block `own` of n blocks states predecessors exactly where its fields spell `own`, how
 ///   many they are and each of them, and where they are identifiers of the n blocks, none twice and none the block's
 ///   own.
-/// - `header`, `read`: the one field behind a header key's colon spells what the model then states by that key; and what
-///   spells something by a key that did not stand yet is read.
+/// - `header`, `read`: the one field behind a header key's colon spells what the model then states by that key, and what it
+///   states by others stays; and what spells something by a key that did not stand yet is read.
 /// - `values`: a line of the objective adds the values of the next block exactly where its fields spell them.
 /// - `coefs`, `limits`: a line of the coefficients or the limits adds one exactly where its fields spell it, and where
 ///   it comes behind the last one.

@@ -8,7 +8,7 @@ use Rattle.std.proofs.lemmas.List.FromFn.{fill_by_all}
 use Rattle.std.proofs.lemmas.List.Sums.{AllPass-from_list_all, list_all-from_AllPass}
 use Rattle.minelib_lines.specs.HeaderKeys.{has_key, header_keys, place}
 use Rattle.minelib_reading.specs.HeaderNumbers.{number_of, with_key, count_in, is_given, is_complete}
-use Rattle.minelib_reading.specs.ModelDraft.{blank_header}
+use Rattle.minelib_reading.specs.ModelDraft.{blank_header, name_with}
 use Rattle.minelib_reading.specs.spelled.SpelledModel.{IsSingle}
 use Rattle.minelib_reading.specs.inner.ModelParts.{number_limit}
 use Rattle.minelib_reading.specs.declared.model.key.Header.{Header}
@@ -49,6 +49,15 @@ each_with P h k n here others j = subst (P j) (sym (entry h k n j)) (by (place j
 -- the number that was added
 pub with_same : (h : Header) (k : HeaderKey) (n : ℕ) → number_of (with_key h k n) k ≡ Some n
 with_same h k n = each_with (λ j number. k ≡ j → number ≡ Some n) h k n (λ _. refl) (λ j other same. absurd (other same)) k refl
+
+-- another key leaves the number of this one, and the name
+pub number_kept : (h : Header) (k j : HeaderKey) (n : ℕ) → k ≢ j → number_of (with_key h k n) j ≡ number_of h j
+number_kept h k j n differ =
+    each_with (λ j found. k ≢ j → found ≡ number_of h j) h k n (λ other. absurd (other refl)) (λ j _ _. refl) j differ
+
+pub name_kept : (k : HeaderKey) (value name : List ℕ) → k ≢ key.Name → name_with k value name ≡ name
+name_kept key.Name value name differ = absurd (differ refl)
+name_kept k value name differ = refl
 
 pub count_there : (h : Header) (n : ℕ) (k : HeaderKey) → count_in (with_key h k n) k ≡ n
 count_there h n k = ap (λ number. unwrap_or number 0) (with_same h k n)

@@ -11,7 +11,7 @@ use Rattle.minelib_lines.specs.HeaderKeys.{has_key}
 use Rattle.minelib_lines.specs.declared.header_key.HeaderKey.{HeaderKey}
 use Rattle.minelib_lines.specs.declared.header_key.HeaderKey.TheVariants as key
 use Rattle.minelib_lines.specs.declared.problem.Problem.{Problem}
-use Rattle.minelib_reading.proofs.keys.HeaderFacts.{KeepsOwn, each_given, each_with, first_given, own_kept, own_single}
+use Rattle.minelib_reading.proofs.keys.HeaderFacts.{KeepsOwn, each_given, each_with, first_given, name_kept, number_kept, own_kept, own_single}
 use Rattle.minelib_reading.proofs.lines.ItemLines.{line_more, lines_weaker}
 use Rattle.minelib_reading.specs.HeaderNumbers.{count_in, is_complete, is_given, with_key}
 use Rattle.minelib_reading.specs.ModelDraft.{blank_header, name_with}
@@ -32,11 +32,7 @@ pub record Heads (problem : Problem) (n : ℕ) (name : List ℕ) (h : Header) (l
 -- another key leaves the value of this one
 count_kept : (h : Header) (k j : HeaderKey) (number : ℕ) → k ≢ j → count_in (with_key h k number) j ≡ count_in h j
 count_kept h k j number differ =
-    each_with (λ j found. k ≢ j → unwrap_or found 0 ≡ count_in h j) h k number (λ other. absurd (other refl)) (λ j _ _. refl) j differ
-
-name_kept : (k : HeaderKey) (value name : List ℕ) → k ≢ key.Name → name_with k value name ≡ name
-name_kept key.Name value name differ = absurd (differ refl)
-name_kept k value name differ = refl
+    ap (λ found. unwrap_or found 0) (number_kept h k j number differ)
 
 -- and what its value spells
 spells_kept : (problem : Problem) (n : ℕ) (k j : HeaderKey) (value name : List ℕ) (h : Header) (number : ℕ) (text : List ℕ) → k ≢ j

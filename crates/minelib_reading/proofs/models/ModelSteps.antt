@@ -13,6 +13,7 @@ use Rattle.text_lines.specs.declared.text_fault.TextKind.{TextKind}
 use Rattle.text_lines.specs.declared.text_fault.TextKind.TheVariants.{Fields, Key, Missing, Order, Twice}
 use Rattle.minelib_lines.specs.declared.header_key.HeaderKey.{HeaderKey}
 use Rattle.minelib_lines.specs.declared.header_key.HeaderKey.TheVariants as key
+use Rattle.minelib_reading.proofs.keys.HeaderFacts.{name_kept, number_kept}
 use Rattle.minelib_reading.proofs.keys.KeyNumbers.{number_back, number_told, passes, told}
 use Rattle.minelib_reading.proofs.lines.LineFacts.{coef_exact, limit_exact, values_exact}
 use Rattle.minelib_reading.specs.HeaderNumbers.{count_in, is_given, with_key}
@@ -23,7 +24,7 @@ use Rattle.minelib_reading.specs.StatedModel.{header_stated}
 use Rattle.minelib_reading.specs.declared.model.key.Section.{Section}
 use Rattle.minelib_reading.specs.declared.model.key.Section.TheVariants.{Coefs, Limits, Objective}
 use Rattle.minelib_reading.specs.spelled.SpelledItems.{SpellsCoef, SpellsLimit, SpellsValues}
-use Rattle.minelib_reading.specs.spelled.SpelledAdditions.{ReadsKey}
+use Rattle.minelib_reading.specs.spelled.SpelledAdditions.{KeepsOthers, ReadsKey, StatesKey}
 use Rattle.minelib_reading.specs.spelled.SpelledModel.{SpellsKey}
 
 -- a header key with these fields behind its colon
@@ -85,10 +86,19 @@ key_step d next k fields e = by fields ((key_exact d k fields).told next e)
     by [] (heading, (new, (one, h))) = absurd (omega (arith, one))
     by (value ∷ other ∷ more) (heading, (new, (one, h))) = absurd (omega (arith, one))
 
--- the value spells what is then stated by its key
-pub key_spelled : (d next : ModelDraftView) (k : HeaderKey) (fields : List (List ℕ)) → key_stated d k fields ≡ Ok next
-    → (value : List ℕ) × (fields ≡ value ∷ []) × SpellsKey d.problem d.blocks (header_stated next.name next.header) k value
-key_spelled d next k fields e = let s = key_step d next k fields e in (s.value, s.one, s.says)
+others_kept : (d : ModelDraftView) (k : HeaderKey) (value : List ℕ) (number : ℕ)
+    → KeepsOthers d k (record d { header = with_key d.header k number; name = name_with k value d.name })
+others_kept d k value number = record {
+  numbers = λ j differ. number_kept d.header k j number differ;
+  name = name_kept k value d.name;
+  rest = refl;
+}
+
+-- the value spells what is then stated by its key, and other keys state what they did
+pub key_spelled : (d next : ModelDraftView) (k : HeaderKey) (fields : List (List ℕ)) → key_stated d k fields ≡ Ok next → StatesKey d k fields next
+key_spelled d next k fields e =
+    let s = key_step d next k fields e in
+    (s.value, s.one, s.says, subst (KeepsOthers d k) (sym s.is) (others_kept d k s.value s.number))
 
 -- and what spells something is read
 pub key_read : (k : HeaderKey) → ReadsKey k

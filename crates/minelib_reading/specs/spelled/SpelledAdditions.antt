@@ -1,5 +1,5 @@
 -- What a line of a model file adds to what the lines before it state, by what its fields spell.
-use Rattle.std.specs.Prelude.{◌≡◌, ◌↔◌, ℕ, true, false, List, [], ◌∷◌, ◌++◌, length, ℤ, Ok, IsOk}
+use Rattle.std.specs.Prelude.{◌≡◌, ◌≢◌, ◌↔◌, ℕ, true, false, List, [], ◌∷◌, ◌++◌, length, ℤ, Ok, IsOk}
 use Rattle.plan_parts.specs.PlanKept.{is_turned, stands_before}
 use Rattle.plan_parts.specs.declared.limit.Limit.{Limit}
 use Rattle.mine_instance.specs.Order.{coef_before}
@@ -7,7 +7,7 @@ use Rattle.mine_instance.specs.declared.coefs.coef.Coef.{Coef}
 use Rattle.minelib_lines.specs.declared.header_key.HeaderKey.{HeaderKey}
 use Rattle.minelib_lines.specs.declared.header_key.HeaderKey.TheVariants as key
 use Rattle.minelib_lines.specs.StatedHeader.{StatedHeader}
-use Rattle.minelib_reading.specs.HeaderNumbers.{count_in, is_given}
+use Rattle.minelib_reading.specs.HeaderNumbers.{count_in, is_given, number_of}
 use Rattle.minelib_reading.specs.ModelDraft.{ModelDraftView, is_behind, is_heading, last_of}
 use Rattle.minelib_reading.specs.ModelText.{item_stated, key_stated}
 use Rattle.minelib_reading.specs.StatedModel.{stated_by}
@@ -16,10 +16,16 @@ use Rattle.minelib_reading.specs.declared.model.key.Section.TheVariants.{Heading
 use Rattle.minelib_reading.specs.spelled.SpelledItems.{SpellsCoef, SpellsLimit, SpellsValues}
 use Rattle.minelib_reading.specs.spelled.SpelledModel.{SpellsKey}
 
--- one field stands behind the colon of a header key, and spells what the model then states by that key
+-- what the model states by other header keys stays, and so does all that no key states
+pub record KeepsOthers (d : ModelDraftView) (k : HeaderKey) (next : ModelDraftView) : Type 0 where
+  pub numbers : (j : HeaderKey) → k ≢ j → number_of next.header j ≡ number_of d.header j
+  pub name : k ≢ key.Name → next.name ≡ d.name
+  pub rest : next ≡ record d { header = next.header; name = next.name }
+
+-- one field stands behind the colon of a header key, and spells what the model then states by that key; by others it states what it did
 abbrev pub StatesKey : ModelDraftView → HeaderKey → List (List ℕ) → ModelDraftView → Type 0
 StatesKey d k fields next =
-    (value : List ℕ) × (fields ≡ value ∷ []) × SpellsKey d.problem d.blocks (stated_by next).header k value
+    (value : List ℕ) × (fields ≡ value ∷ []) × SpellsKey d.problem d.blocks (stated_by next).header k value × KeepsOthers d k next
 
 -- and before the first section, each value that spells something by a key that did not stand yet is read
 abbrev pub ReadsKey : HeaderKey → Type 0
