@@ -1,12 +1,12 @@
 //! The counts of the texts of an instance, one file after the other.
 
-ghost use Rattle.std.specs.Prelude.{◌≡◌, ◌-◌, ◌≤◌, [], IfOk, IfErr, IfSome, OnOk};
+ghost use Rattle.std.specs.Prelude.{◌≡◌, ◌-◌, ◌≤◌, IfOk};
 ghost use Rattle.devices.specs.feeds.FeedSteps.{left_after};
 ghost use Rattle.devices.specs.declared.feeds.slurp.TheConstants.{GREATEST_LIMIT};
 ghost use Rattle.minelib_reading.specs.FedCounts.{IsFedAnswer};
 ghost use Rattle.check_command.specs.inner.CountSteps.{counted_in, counted_on};
 ghost use Rattle.plan_parts.specs.declared.ranges.TheConstants.{MAX_BLOCKS};
-ghost use Rattle.text_lines.specs.Fed.{FailsAsFed};
+ghost use Rattle.text_lines.specs.Fed.{ReadsFeed};
 
 use crate::counts::Counts;
 use devices::feeds::feed::Feed;
@@ -38,15 +38,9 @@ pub fn count_on<F: Feed>(
         (F.given feed.new - F.given feed.old)) }
     ensures few { IfOk result (λ answer. IfOk answer (λ counts. counts.blocks ≤ MAX_BLOCKS)) }
 
-    // The feed is used up then, and refused no pull.
-    ensures used_up { OnOk result (IfSome (F.left feed.new) (λ bytes. bytes ≡ [])) }
-    ensures works { OnOk result (F.failures feed.new ≡ F.failures feed.old) }
-
-    // When each fault comes.
-    ensures refused { IfErr result (FailsAsFed (F.left feed.old) GREATEST_LIMIT (F.given feed.old)
-        (F.given feed.new) (F.failures feed.old) (F.failures feed.new)) }
-
-    // Where the feed stands, whatever was answered.
+    // That the feed is used up then, when each fault comes, how much was read, and where the feed stands.
+    ensures reads { ReadsFeed F.left F.is_sure F.given F.failures GREATEST_LIMIT
+        feed.old feed.new result }
     ensures stands { F.left feed.new
         ≡ left_after (F.given feed.new - F.given feed.old) (F.left feed.old) }
 {
@@ -78,15 +72,9 @@ fn count_in<F: Feed>(
         (F.given feed.new - F.given feed.old)) }
     ensures few { IfOk result (λ answer. IfOk answer (λ counts. counts.blocks ≤ MAX_BLOCKS)) }
 
-    // The feed is used up then, and refused no pull.
-    ensures used_up { OnOk result (IfSome (F.left feed.new) (λ bytes. bytes ≡ [])) }
-    ensures works { OnOk result (F.failures feed.new ≡ F.failures feed.old) }
-
-    // When each fault comes.
-    ensures refused { IfErr result (FailsAsFed (F.left feed.old) GREATEST_LIMIT (F.given feed.old)
-        (F.given feed.new) (F.failures feed.old) (F.failures feed.new)) }
-
-    // Where the feed stands, whatever was answered.
+    // That the feed is used up then, when each fault comes, how much was read, and where the feed stands.
+    ensures reads { ReadsFeed F.left F.is_sure F.given F.failures GREATEST_LIMIT
+        feed.old feed.new result }
     ensures stands { F.left feed.new
         ≡ left_after (F.given feed.new - F.given feed.old) (F.left feed.old) }
 {

@@ -1,11 +1,11 @@
 //! What the texts of feeds state, counted while the feeds give them.
 
-ghost use Rattle.std.specs.Prelude.{◌≡◌, ◌-◌, ◌≤◌, [], IfOk, IfErr, IfSome, OnOk};
+ghost use Rattle.std.specs.Prelude.{◌≡◌, ◌-◌, ◌≤◌, IfOk};
 ghost use Rattle.devices.specs.feeds.FeedSteps.{left_after};
 ghost use Rattle.devices.specs.declared.feeds.slurp.TheConstants.{GREATEST_LIMIT};
 ghost use Rattle.minelib_reading.specs.FedCounts.{IsFedAnswer, arcs_counted, blocks_counted, model_counted};
 ghost use Rattle.plan_parts.specs.declared.ranges.TheConstants.{MAX_BLOCKS};
-ghost use Rattle.text_lines.specs.Fed.{FailsAsFed};
+ghost use Rattle.text_lines.specs.Fed.{ReadsFeed};
 
 use crate::block_reader::BlockDraft;
 use crate::counted::{CountedBlocks, CountedItems};
@@ -35,15 +35,8 @@ pub fn count_blocks<F: Feed>(alloc: Global, feed: &mut F, limit: u64) -> FedResu
         (F.given feed.new - F.given feed.old)) }
     ensures few { IfOk result (λ answer. IfOk answer (λ blocks. blocks ≤ MAX_BLOCKS)) }
 
-    // The feed is used up then, and refused no pull.
-    ensures used_up { OnOk result (IfSome (F.left feed.new) (λ bytes. bytes ≡ [])) }
-    ensures works { OnOk result (F.failures feed.new ≡ F.failures feed.old) }
-
-    // When each fault comes.
-    ensures refused { IfErr result (FailsAsFed (F.left feed.old) limit (F.given feed.old)
-        (F.given feed.new) (F.failures feed.old) (F.failures feed.new)) }
-
-    // Where the feed stands, whatever was answered.
+    // That the feed is used up then, when each fault comes, how much was read, and where the feed stands.
+    ensures reads { ReadsFeed F.left F.is_sure F.given F.failures limit feed.old feed.new result }
     ensures stands { F.left feed.new
         ≡ left_after (F.given feed.new - F.given feed.old) (F.left feed.old) }
 {
@@ -74,15 +67,8 @@ pub fn count_arcs<F: Feed>(
     ensures counts { IfOk result (IsFedAnswer (arcs_counted blocks) (F.left feed.old) limit
         (F.given feed.new - F.given feed.old)) }
 
-    // The feed is used up then, and refused no pull.
-    ensures used_up { OnOk result (IfSome (F.left feed.new) (λ bytes. bytes ≡ [])) }
-    ensures works { OnOk result (F.failures feed.new ≡ F.failures feed.old) }
-
-    // When each fault comes.
-    ensures refused { IfErr result (FailsAsFed (F.left feed.old) limit (F.given feed.old)
-        (F.given feed.new) (F.failures feed.old) (F.failures feed.new)) }
-
-    // Where the feed stands, whatever was answered.
+    // That the feed is used up then, when each fault comes, how much was read, and where the feed stands.
+    ensures reads { ReadsFeed F.left F.is_sure F.given F.failures limit feed.old feed.new result }
     ensures stands { F.left feed.new
         ≡ left_after (F.given feed.new - F.given feed.old) (F.left feed.old) }
 {
@@ -119,15 +105,8 @@ pub fn count_model<F: Feed>(
         (IsFedAnswer (model_counted problem blocks) (F.left feed.old) limit
         (F.given feed.new - F.given feed.old)) }
 
-    // The feed is used up then, and refused no pull.
-    ensures used_up { OnOk result (IfSome (F.left feed.new) (λ bytes. bytes ≡ [])) }
-    ensures works { OnOk result (F.failures feed.new ≡ F.failures feed.old) }
-
-    // When each fault comes.
-    ensures refused { IfErr result (FailsAsFed (F.left feed.old) limit (F.given feed.old)
-        (F.given feed.new) (F.failures feed.old) (F.failures feed.new)) }
-
-    // Where the feed stands, whatever was answered.
+    // That the feed is used up then, when each fault comes, how much was read, and where the feed stands.
+    ensures reads { ReadsFeed F.left F.is_sure F.given F.failures limit feed.old feed.new result }
     ensures stands { F.left feed.new
         ≡ left_after (F.given feed.new - F.given feed.old) (F.left feed.old) }
 {

@@ -1,5 +1,5 @@
 -- Reading the lines of a text while a feed gives it.
-use Rattle.std.specs.Prelude.{◌≡◌, ℕ, ◌+◌, ◌<◌, ◌≤◌, List, length, Option, IfSome, Result, Ok, Err}
+use Rattle.std.specs.Prelude.{◌≡◌, ◌≢◌, ℕ, ◌+◌, ◌<◌, ◌≤◌, Bool, List, [], length, Option, IfErr, IfSome, IsTrue, OnOk, Result, Ok, Err}
 use Rattle.devices.specs.declared.feeds.slurp.SlurpFault.{SlurpFault}
 use Rattle.devices.specs.declared.feeds.slurp.SlurpFault.TheVariants.{FeedFailed, TooLong, OutOfMemory}
 use Rattle.text_lines.specs.Reading.{read_lines}
@@ -32,3 +32,15 @@ pub record FailsAsFed (left : Option (List ℕ)) (limit given given_now failures
   pub long_counts : fault ≡ TooLong → given_now ≡ given + (limit + 1)
   pub memory_works : fault ≡ OutOfMemory → failures_now ≡ failures
   pub memory_first : fault ≡ OutOfMemory → given_now ≤ given + limit
+
+-- what becomes of a feed that is read to its end, where the call answers so: by what it had and has left, whether it was sure, what it gave,
+-- and how many pulls it refused
+pub record ReadsFeed {F A : Type 0} (left : F → Option (List ℕ)) (is_sure : F → Bool) (given failures : F → ℕ) (limit : ℕ) (old new : F)
+    (answer : Result A SlurpFault) : Type 0 where
+  pub used_up : OnOk answer (IfSome (left new) (λ bytes. bytes ≡ []))
+  pub within : OnOk answer (given new ≤ given old + limit)
+  pub works : OnOk answer (failures new ≡ failures old)
+  pub refused : IfErr answer (FailsAsFed (left old) limit (given old) (given new) (failures old) (failures new))
+  pub sure : IsTrue (is_sure old) → answer ≢ Err FeedFailed
+  pub onward : given old ≤ given new
+  pub reads : given new ≤ given old + (limit + 1)

@@ -1,10 +1,9 @@
 //! Reading the lines of a text while a feed gives it.
 
-ghost use Rattle.std.specs.Prelude.{◌≡◌, ◌≢◌, ◌+◌, ◌-◌, ◌≤◌, ℕ, List, Err, [], length, IfOk, IfErr, OnOk, IfSome, IsTrue};
+ghost use Rattle.std.specs.Prelude.{◌≡◌, ◌-◌, ◌≤◌, ℕ, List, length, IfOk, OnOk, IfSome};
 ghost use Rattle.devices.specs.feeds.FeedSteps.{left_after};
-ghost use Rattle.devices.specs.declared.feeds.slurp.SlurpFault.TheVariants as SlurpFault;
 ghost use Rattle.devices.specs.declared.feeds.slurp.TheConstants.{GREATEST_LIMIT};
-ghost use Rattle.text_lines.specs.Fed.{FailsAsFed, IsFedReading, IsTextOf};
+ghost use Rattle.text_lines.specs.Fed.{IsFedReading, IsTextOf, ReadsFeed};
 
 use crate::line_by_line::Admit;
 use crate::text_fault::LineFault;
@@ -36,22 +35,13 @@ pub fn read_fed<S: Admit, F: Feed>(
 ) -> FedResult<u64>
     requires { limit ≤ GREATEST_LIMIT }
 
-    // What an answer says of the text, and that the feed is used up then.
+    // What an answer says of the text.
     ensures read { IfOk result
         (IsFedReading S.admit_line (F.left feed.old) limit (F.given feed.new - F.given feed.old)
         state.old state.new) }
-    ensures used_up { OnOk result (IfSome (F.left feed.new) (λ bytes. bytes ≡ [])) }
-    ensures within { OnOk result (F.given feed.new ≤ F.given feed.old + limit) }
-    ensures works { OnOk result (F.failures feed.new ≡ F.failures feed.old) }
 
-    // When each fault comes.
-    ensures refused { IfErr result (FailsAsFed (F.left feed.old) limit (F.given feed.old)
-        (F.given feed.new) (F.failures feed.old) (F.failures feed.new)) }
-    ensures sure { IsTrue (F.is_sure feed.old) → result ≢ Err SlurpFault.FeedFailed }
-
-    // How much was read, and where the feed stands, whatever was answered.
-    ensures onward { F.given feed.old ≤ F.given feed.new }
-    ensures reads { F.given feed.new ≤ F.given feed.old + (limit + 1) }
+    // That the feed is used up then, when each fault comes, and how much was read, whatever was answered.
+    ensures reads { ReadsFeed F.left F.is_sure F.given F.failures limit feed.old feed.new result }
     ensures stands { F.left feed.new
         ≡ left_after (F.given feed.new - F.given feed.old) (F.left feed.old) }
 {
@@ -88,22 +78,13 @@ pub fn read_fed<S: Admit, F: Feed>(
 pub fn pass_text<F: Feed>(alloc: Global, feed: &mut F, limit: u64) -> Result<(), SlurpFault>
     requires { limit ≤ GREATEST_LIMIT }
 
-    // On success the text was within the limit, and the feed gave it whole, and is used up.
+    // On success the text was within the limit, and the feed gave it whole.
     ensures text { OnOk result ((text : List ℕ)
         × IsTextOf (F.left feed.old) limit (F.given feed.new - F.given feed.old) text) }
     ensures short { OnOk result (IfSome (F.left feed.old) (λ bytes. length bytes ≤ limit)) }
-    ensures used_up { OnOk result (IfSome (F.left feed.new) (λ bytes. bytes ≡ [])) }
-    ensures within { OnOk result (F.given feed.new ≤ F.given feed.old + limit) }
-    ensures works { OnOk result (F.failures feed.new ≡ F.failures feed.old) }
 
-    // When each fault comes.
-    ensures refused { IfErr result (FailsAsFed (F.left feed.old) limit (F.given feed.old)
-        (F.given feed.new) (F.failures feed.old) (F.failures feed.new)) }
-    ensures sure { IsTrue (F.is_sure feed.old) → result ≢ Err SlurpFault.FeedFailed }
-
-    // How much was read, and where the feed stands, whatever was answered.
-    ensures onward { F.given feed.old ≤ F.given feed.new }
-    ensures reads { F.given feed.new ≤ F.given feed.old + (limit + 1) }
+    // That the feed is used up then, when each fault comes, and how much was read, whatever was answered.
+    ensures reads { ReadsFeed F.left F.is_sure F.given F.failures limit feed.old feed.new result }
     ensures stands { F.left feed.new
         ≡ left_after (F.given feed.new - F.given feed.old) (F.left feed.old) }
 {
