@@ -3,10 +3,11 @@ use Rattle.std.specs.Prelude.{◌≡◌, ℕ, ◌≤◌, ◌⊎◌, List, [], �
 use Rattle.devices.specs.files.Opening.{Opening, Opened, Unopened}
 use Rattle.pit_model.specs.Planned.{planned}
 use Rattle.plan_parts.specs.Plan.{PlanParts}
+use Rattle.refusals.specs.declared.refusal.Refusal.TheVariants.{OutOfMemory}
 use Rattle.command_io.specs.PlanText.{IsNoPlan}
 use Rattle.command_io.specs.Refused.{IsUnread}
 use Rattle.command_io.specs.declared.refused.Refused.{Refused}
-use Rattle.command_io.specs.declared.refused.Refused.TheVariants.{FeedFailed}
+use Rattle.command_io.specs.declared.refused.Refused.TheVariants.{FeedFailed, Run}
 use Rattle.command_io.specs.declared.refused.source.Source.TheVariants.{Plan}
 use Rattle.plan_parts.specs.declared.ranges.TheConstants.{MAX_PLAN_BYTES}
 
@@ -35,3 +36,7 @@ module _ {F : Type 0} (given failures : F → ℕ) (path : List ℕ) (old new : 
       ((new ≡ old ++ Unopened path ∷ []) × (refused ≡ FeedFailed Plan))
       ⊎ ((left : Option (List ℕ)) × (new ≡ old ++ Opened path left ∷ [])
       × ((now : F) × IsNoPlanFile left 0 (given now) 0 (failures now) refused))
+
+  -- the same; or it states a plan, and memory was refused before anything was done with it
+  abbrev pub IsNotBegun : Refused → Type 0
+  IsNotBegun refused = IsNoPlanAt refused ⊎ ((plan : PlanParts) × IsPlanAt path old new plan × (refused ≡ Run OutOfMemory))

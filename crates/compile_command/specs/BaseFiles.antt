@@ -16,6 +16,7 @@ use Rattle.command_io.specs.PlanFile.{IsPlanAt}
 use Rattle.command_io.specs.declared.refused.Refused.{Refused}
 use Rattle.command_io.specs.declared.refused.Refused.TheVariants.{Run}
 use Rattle.plan_parts.specs.Plan.{PlanParts}
+use Rattle.plan_parts.specs.PlanFormulas.{formulas_of_plan}
 use Rattle.plan_parts.specs.declared.formulas.formula.Formula.{Formula}
 use Rattle.plan_parts.specs.declared.settings.Settings.{Settings}
 use Rattle.run_threads.specs.Starts.{none_spent, StartsView}
@@ -75,6 +76,16 @@ pub record TellsRowsFrom (path base : List ℕ) (zones : List (List ℕ)) (opene
   pub between : List Opening
   pub read : IsPlanAt path opened_old between plan
   pub told : TellsRowsAt plan base zones between opened_new made_old made_new starts_old starts_new tells settings sinks out_old out_new
+
+-- why it is not: the plan that the file at this path states, which was opened first, is not compiled; `left` and so on are as above
+pub record IsNoCompileFrom (path base : List ℕ) (zones : List (List ℕ)) (opened_old opened_new : List Opening) (made_old made_new : List (List ℕ))
+    (starts_old starts_new : StartsView) (tells : Bool) {F : Type 0} (left : F → Option (List ℕ)) (is_sure : F → Bool) (failures : F → ℕ)
+    (settings : Settings) (sinks : Option (Sinks FileSinkView)) (refused : Refused) : Type 0 where
+  pub plan : PlanParts
+  pub between : List Opening
+  pub read : IsPlanAt path opened_old between plan
+  pub why : IsNoCompileAt plan base zones between opened_new made_old made_new starts_old starts_new tells left is_sure failures
+      (formulas_of_plan plan) settings sinks refused
 
 -- rows are told of the files of a system, of which none was asked for before, and by starts of which none was spent
 pub record TellsRowsOfFiles (plan : PlanParts) (base : List ℕ) (zones : List (List ℕ)) (settings : Settings) (out_old out_new : List ℕ) : Type 0 where

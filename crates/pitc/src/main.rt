@@ -4,12 +4,16 @@
 //! output. `pitc compile` does so from files to files. `pitc check BASE` reads the files of an instance and prints its counts.
 #![tactic(auto)]
 
-ghost use Rattle.std.specs.Prelude.{◌≡◌, map, string_bytes, IfOk};
-ghost use Rattle.compile_command.specs.BaseFiles.{TellsRowsFrom};
-ghost use Rattle.compile_command.specs.Task.{IsTaskDone};
+ghost use Rattle.std.specs.Prelude.{◌≡◌, ◌≢◌, map, string_bytes, IfErr, IfOk, OnErr};
+ghost use Rattle.command_io.specs.FaultLine.{EndsBy};
+ghost use Rattle.command_io.specs.PlanFile.{IsNotBegun};
+ghost use Rattle.compile_command.specs.BaseFiles.{IsNoCompileFrom, TellsRowsFrom};
+ghost use Rattle.compile_command.specs.Printed.{IsNoInput, IsNotPrinted, PrintsInput};
+ghost use Rattle.compile_command.specs.Task.{IsNoTask, IsTaskDone, plan_in};
+ghost use Rattle.plan_parts.specs.PlanFormulas.{formulas_of_plan};
 ghost use Rattle.plan_parts.specs.formulas.Formula.{IsRuled};
 ghost use Rattle.plan_parts.specs.formulas.Worth.{worth};
-ghost use Rattle.run_threads.specs.Starts.{none_spent};
+ghost use Rattle.run_threads.specs.Starts.{none_spent, AreSettled};
 
 use check_command::check::check;
 use command_io::plan_file::read_plan_file;
@@ -116,6 +120,19 @@ fn print_model<I: Feed, T: Threads + Wait + Sync, O: Opener, F: FileSlots>(
     lines: &mut Vec<u8>,
 ) -> Result<u8, Refused>
     requires unspent { starts.old ≡ none_spent starts.old.allowed }
+    ensures done { IfOk result (λ status. status ≡ 0
+        → PrintsInput (I.left input.old) starts.new text.old.items text.new.items) }
+    ensures quiet { IfOk result (λ status. status ≡ 0 → lines.new.items ≡ lines.old.items) }
+    ensures kept { IfOk result (λ status. status ≢ 0 → text.new.items ≡ text.old.items) }
+    ensures refused { IfOk result (λ status. status ≢ 0
+        → EndsBy (IsNotPrinted (I.left input.old) starts.old starts.new) lines.old.items lines.new.items status) }
+    ensures unread { IfErr result (IsNoInput (I.left input.old) (I.given input.old)
+        (I.given input.new) (I.failures input.old) (I.failures input.new)) }
+    ensures still { OnErr result ((starts.new ≡ starts.old) × (text.new.items ≡ text.old.items)
+        × (lines.new.items ≡ lines.old.items)) }
+    ensures opened { O.opened files.new ≡ O.opened files.old }
+    ensures made { F.made slots.new ≡ F.made slots.old }
+    ensures settled { AreSettled starts.old starts.new }
 {
     let task = Task::Pipe(read_model(alloc, input)?);
     let ended = run(alloc, files, slots, &task, starts, text, lines)?;
@@ -140,6 +157,17 @@ fn compile<T: Threads + Wait + Sync, O: Opener, F: FileSlots>(
         (map string_bytes zones.items) (O.opened files.old) (O.opened files.new) (F.made slots.old)
         (F.made slots.new) starts.old starts.new F.Slot.tells settings ended.sinks text.old.items
         text.new.items) }
+    ensures quiet { IfOk result (λ ended. ended.status ≡ 0 → lines.new.items ≡ lines.old.items) }
+    ensures kept { IfOk result (λ ended. ended.status ≢ 0 → text.new.items ≡ text.old.items) }
+    ensures refused { IfOk result (λ ended. ended.status ≢ 0 → EndsBy (IsNoCompileFrom plan.now
+        (string_bytes base) (map string_bytes zones.items) (O.opened files.old) (O.opened files.new)
+        (F.made slots.old) (F.made slots.new) starts.old starts.new F.Slot.tells O.Opened.left
+        O.Opened.is_sure O.Opened.failures settings ended.sinks) lines.old.items lines.new.items ended.status) }
+    ensures unread { IfErr result (IsNotBegun O.Opened.given O.Opened.failures plan.now
+        (O.opened files.old) (O.opened files.new)) }
+    ensures still { OnErr result ((F.made slots.new ≡ F.made slots.old) × (starts.new ≡ starts.old)
+        × (text.new.items ≡ text.old.items) × (lines.new.items ≡ lines.old.items)) }
+    ensures settled { AreSettled starts.old starts.new }
 {
     let plan = read_plan_file(alloc, files, plan)?;
     let task = Task::Files {
@@ -166,6 +194,16 @@ fn run<T: Threads + Wait + Sync, O: Opener, F: FileSlots>(
     ensures done { IfOk result (λ ended. ended.status ≡ 0 → IsTaskDone (O.opened files.old)
         (O.opened files.new) (F.made slots.old) (F.made slots.new) starts.old starts.new F.Slot.tells
         task.now ended.sinks text.old.items text.new.items) }
+    ensures quiet { IfOk result (λ ended. ended.status ≡ 0 → lines.new.items ≡ lines.old.items) }
+    ensures kept { IfOk result (λ ended. ended.status ≢ 0 → text.new.items ≡ text.old.items) }
+    ensures refused { IfOk result (λ ended. ended.status ≢ 0 → EndsBy (IsNoTask (O.opened files.old)
+        (O.opened files.new) (F.made slots.old) (F.made slots.new) starts.old starts.new F.Slot.tells
+        O.Opened.left O.Opened.is_sure O.Opened.failures task.now (formulas_of_plan (plan_in task.now))
+        ended.sinks) lines.old.items lines.new.items ended.status) }
+    ensures still { OnErr result ((O.opened files.new ≡ O.opened files.old)
+        × (F.made slots.new ≡ F.made slots.old) × (starts.new ≡ starts.old)
+        × (text.new.items ≡ text.old.items) × (lines.new.items ≡ lines.old.items)) }
+    ensures settled { AreSettled starts.old starts.new }
 {
     let mut destinations = Vec::new(alloc);
     for named in task.plan().formulas() {

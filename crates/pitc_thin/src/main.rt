@@ -3,10 +3,14 @@
 //! It reads a plan and its zone files as `pitc compile` does, and writes one precedence file.
 #![tactic(auto)]
 
-ghost use Rattle.std.specs.Prelude.{◌≡◌};
+ghost use Rattle.std.specs.Prelude.{◌≡◌, ◌≢◌, map, string_bytes, IfErr, IfOk, OnErr};
+ghost use Rattle.command_io.specs.FaultLine.{EndsBy};
+ghost use Rattle.command_io.specs.PlanFile.{IsNotBegun};
+ghost use Rattle.plan_parts.specs.PlanFormulas.{formulas_of_plan};
 ghost use Rattle.plan_parts.specs.formulas.Formula.{IsRuled};
 ghost use Rattle.plan_parts.specs.formulas.Worth.{worth};
-ghost use Rattle.run_threads.specs.Starts.{none_spent};
+ghost use Rattle.run_threads.specs.Starts.{none_spent, AreSettled};
+ghost use Rattle.thin_command.specs.Thin.{IsNotThinned, IsNotThinnedFrom, TellsThinned, TellsThinnedFrom};
 
 use command_io::plan_file::read_plan_file;
 use command_io::refused::Refused;
@@ -53,8 +57,8 @@ fn main(rt: HostRuntime) -> ExitCode {
     )
 }
 
-// Does what the words ask, and answers the status that the program ends with. Here and in the next function the words and the files of the
-// system are handed to the steps that promise what is done with them.
+// Does what the words ask, and answers the status that the program ends with. Here the words and the files of the system are handed to the
+// steps that promise what is done with them: none of these has the runtime.
 fn work<R: Alloc<A = Global> + Env + Files, T: Threads + Wait + Sync>(
     rt: &R,
     alloc: Global,
@@ -68,7 +72,24 @@ where
 {
     let words = words_of(alloc, env::args(rt))?;
     match thin_run(alloc, words.as_slice()) {
-        Ok(words) => thin_by(rt, alloc, words, starts, text, lines),
+        Ok(
+            RunWords {
+                plan,
+                out,
+                settings,
+                zones,
+            },
+        ) => thin_from(
+            alloc,
+            &mut SystemFiles::new(rt),
+            &mut FileSink::from_slot(SystemSlots::new(rt).slot(out)),
+            plan.as_str(),
+            settings,
+            zones.as_slice(),
+            starts,
+            text,
+            lines,
+        ),
         Err(JobFault::Line(error)) => {
             let refused = append_error(alloc, &error, text, lines)?;
             Ok(if refused { USAGE } else { 0 })
@@ -78,36 +99,36 @@ where
 }
 
 // Writes what is left of the precedences of the plan in this file and these zone files.
-fn thin_by<R: Files, T: Threads + Wait + Sync>(
-    rt: &R,
+fn thin_from<T: Threads + Wait + Sync, O: Opener, S: Sink>(
     alloc: Global,
-    words: RunWords,
+    files: &mut O,
+    sink: &mut S,
+    plan: &str,
+    settings: Settings,
+    zones: &[String],
     starts: &mut Starts<'_, T>,
     text: &mut Vec<u8>,
     lines: &mut Vec<u8>,
 ) -> Result<u8, Refused>
-where
-    R::File: Send,
     requires unspent { starts.old ≡ none_spent starts.old.allowed }
+    ensures done { IfOk result (λ status. status ≡ 0 → TellsThinnedFrom plan.now
+        (map string_bytes zones.now) (O.opened files.old) (O.opened files.new) starts.old starts.new
+        (S.state sink.old) (S.state sink.new) settings text.old.items text.new.items) }
+    ensures quiet { IfOk result (λ status. status ≡ 0 → lines.new.items ≡ lines.old.items) }
+    ensures kept { IfOk result (λ status. status ≢ 0 → text.new.items ≡ text.old.items) }
+    ensures refused { IfOk result (λ status. status ≢ 0 → EndsBy (IsNotThinnedFrom plan.now
+        (map string_bytes zones.now) (O.opened files.old) (O.opened files.new) starts.old starts.new
+        (S.state sink.old) (S.state sink.new) O.Opened.left O.Opened.is_sure O.Opened.failures settings)
+        lines.old.items lines.new.items status) }
+    ensures unread { IfErr result (IsNotBegun O.Opened.given O.Opened.failures plan.now
+        (O.opened files.old) (O.opened files.new)) }
+    ensures still { OnErr result ((S.state sink.new ≡ S.state sink.old) × (starts.new ≡ starts.old)
+        × (text.new.items ≡ text.old.items) × (lines.new.items ≡ lines.old.items)) }
+    ensures settled { AreSettled starts.old starts.new }
 {
-    let RunWords {
-        plan,
-        out,
-        settings,
-        zones,
-    } = words;
-    let mut files = SystemFiles::new(rt);
-    let plan = read_plan_file(alloc, &mut files, plan.as_str())?;
+    let plan = read_plan_file(alloc, files, plan)?;
     Ok(run(
-        alloc,
-        &mut files,
-        &mut FileSink::from_slot(SystemSlots::new(rt).slot(out)),
-        &plan,
-        settings,
-        zones.as_slice(),
-        starts,
-        text,
-        lines,
+        alloc, files, sink, &plan, settings, zones, starts, text, lines,
     )?)
 }
 
@@ -125,6 +146,19 @@ fn run<T: Threads + Wait + Sync, O: Opener, S: Sink>(
     lines: &mut Vec<u8>,
 ) -> Result<u8, AllocError>
     requires unspent { starts.old ≡ none_spent starts.old.allowed }
+    ensures done { IfOk result (λ status. status ≡ 0 → TellsThinned plan.now
+        (map string_bytes zones.now) (O.opened files.old) (O.opened files.new) starts.old starts.new
+        (S.state sink.old) (S.state sink.new) settings text.old.items text.new.items) }
+    ensures quiet { IfOk result (λ status. status ≡ 0 → lines.new.items ≡ lines.old.items) }
+    ensures kept { IfOk result (λ status. status ≢ 0 → text.new.items ≡ text.old.items) }
+    ensures refused { IfOk result (λ status. status ≢ 0 → EndsBy (IsNotThinned plan.now
+        (map string_bytes zones.now) (O.opened files.old) (O.opened files.new) starts.old starts.new
+        (S.state sink.old) (S.state sink.new) O.Opened.left O.Opened.is_sure O.Opened.failures
+        (formulas_of_plan plan.now) settings) lines.old.items lines.new.items status) }
+    ensures still { OnErr result ((O.opened files.new ≡ O.opened files.old)
+        × (S.state sink.new ≡ S.state sink.old) × (starts.new ≡ starts.old)
+        × (text.new.items ≡ text.old.items) × (lines.new.items ≡ lines.old.items)) }
+    ensures settled { AreSettled starts.old starts.new }
 {
     let mut destinations = Vec::new(alloc);
     for named in plan.formulas() {

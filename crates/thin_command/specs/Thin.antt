@@ -15,10 +15,12 @@ use Rattle.pit_compile.specs.ZoneFiles.{AreGiven, HasPassed, instance_from}
 use Rattle.refusals.specs.declared.refusal.Refusal.{Refusal}
 use Rattle.refusals.specs.declared.refusal.Refusal.TheVariants as refusal
 use Rattle.refusals.specs.declared.settings_fault.SettingsFault.{SettingsFault}
+use Rattle.command_io.specs.PlanFile.{IsPlanAt}
 use Rattle.command_io.specs.ZoneFeeds.{AreNotOpened, AreOpened}
 use Rattle.command_io.specs.declared.refused.Refused.{Refused}
 use Rattle.command_io.specs.declared.refused.Refused.TheVariants.{Run}
 use Rattle.plan_parts.specs.Plan.{PlanParts}
+use Rattle.plan_parts.specs.PlanFormulas.{formulas_of_plan}
 use Rattle.plan_parts.specs.declared.formulas.formula.Formula.{Formula}
 use Rattle.plan_parts.specs.declared.settings.Settings.{Settings}
 use Rattle.run_threads.specs.Refusing.{HasFailed}
@@ -85,3 +87,20 @@ module _ (plan : PlanParts) (paths : List (List ℕ)) (opened_old opened_new : L
         ⊎ (((why : Refusal) × (refused ≡ Run why) × IsRunRefused formulas settings why)
         ⊎ (((why : Refusal) × (refused ≡ Run why) × ((i : Instance) × IsRead settings i × IsStopped (thin_text i) old new why))
         ⊎ ((refused ≡ Run refusal.OutOfMemory) × ((i : Instance) × IsThinned settings i))))
+
+-- the same of the plan that the file at this path states, which was opened first
+pub record TellsThinnedFrom (path : List ℕ) (zones : List (List ℕ)) (opened_old opened_new : List Opening) (starts_old starts_new : StartsView)
+    (old new : SinkState) (settings : Settings) (out_old out_new : List ℕ) : Type 0 where
+  pub plan : PlanParts
+  pub between : List Opening
+  pub read : IsPlanAt path opened_old between plan
+  pub told : TellsThinned plan zones between opened_new starts_old starts_new old new settings out_old out_new
+
+-- and why it is not thinned
+pub record IsNotThinnedFrom (path : List ℕ) (zones : List (List ℕ)) (opened_old opened_new : List Opening) (starts_old starts_new : StartsView)
+    (old new : SinkState) {F : Type 0} (left : F → Option (List ℕ)) (is_sure : F → Bool) (failures : F → ℕ) (settings : Settings)
+    (refused : Refused) : Type 0 where
+  pub plan : PlanParts
+  pub between : List Opening
+  pub read : IsPlanAt path opened_old between plan
+  pub why : IsNotThinned plan zones between opened_new starts_old starts_new old new left is_sure failures (formulas_of_plan plan) settings refused

@@ -1,0 +1,13 @@
+use Rattle.std.proofs.Common.{inl}
+use Rattle.std.proofs.lemmas.Result.{err_from_is_err_and}
+use Rattle.pitc.proofs.compile.Goals as goal
+
+pub returns-in_err-plan-clause-unread : goal.returns-in_err-plan-clause-unread
+returns-in_err-plan-clause-unread g c =
+    let p = err_from_is_err_and c.from_residual.result c.from_residual.ensures.1 in
+    rw (p.1, p.2) (inl c.in_err-plan.ensures.refused)
+
+pub returns-clause-refused : goal.returns-clause-refused
+returns-clause-refused g c = λ bad.
+    let told = c.in_ok-run.ensures.refused bad in
+    (told.0, record { plan = _; between = _; read = c.in_ok-plan.ensures.plan; why = told.1 }, told.2)
