@@ -1,9 +1,10 @@
 //! The threads of a run, from the first start to the last join.
 
-ghost use Rattle.std.specs.Prelude.{◌≡◌, ◌+◌, ◌≤◌, length, vec_len, IfErr, IfOk};
+ghost use Rattle.std.specs.Prelude.{◌≡◌, ◌≤◌, length, vec_len, IfOk};
 ghost use Rattle.plan_parts.specs.OfPlan.{AreOfPlan};
 ghost use Rattle.run_threads.specs.HandingOver.{IsHandedOver};
-ghost use Rattle.run_threads.specs.Starts.{none_spent, AreSettled, AreSpent, AreTooFew, IsInOrder, StartsThreads};
+ghost use Rattle.run_threads.specs.Starts.{none_spent, StartsThreads};
+ghost use Rattle.run_threads.specs.inner.Started.{StartsInScope};
 ghost use Rattle.pit_units.specs.declared.or_memory.OrMemory.TheVariants.{Fault};
 ghost use Rattle.plan_parts.specs.declared.ranges.TheConstants.{MAX_CAPACITY, MAX_VALUERS};
 
@@ -124,12 +125,8 @@ pub fn hand_over<R: Threads + Wait + Sync, F: Feed + Send + Drop, G: Gate + Sync
             ensures handed { IfOk result.handed (λ made. IsHandedOver F.left F.is_sure F.failures
                 ready.entry.shared.plan.now ready.entry.feeds.items ready.entry.lane.closer.takers
                 ready.entry.lane.closer.lane.2 made.0 made.1) }
-            ensures started { IfOk result.handed (λ _. AreSpent
-                (ready.entry.lane.closer.takers + vec_len ready.entry.feeds) result.starts) }
-            ensures refused { IfErr result.handed (λ _. AreTooFew
-                (ready.entry.lane.closer.takers + vec_len ready.entry.feeds) result.starts) }
-            ensures order { IsInOrder ready.entry.lane.closer.takers result.starts }
-            ensures settled { AreSettled lent result.starts }
+            ensures spends { StartsInScope ready.entry.lane.closer.takers
+                (vec_len ready.entry.feeds) lent result.starts result.handed }
         { hand_over_in(Starter::new(scope, rt, lent), ready) },
     );
     starts.give_back(left);

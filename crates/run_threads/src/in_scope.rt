@@ -1,23 +1,27 @@
 //! The threads of a run within a scope, from the first start to the last join.
 
-ghost use Rattle.std.specs.Prelude.{◌≡◌, ◌+◌, vec_len, IfErr, IfOk};
-ghost use Rattle.run_threads.specs.Starts.{none_spent, AreSettled, AreSpent, AreTooFew, IsInOrder};
+ghost use Rattle.std.specs.Prelude.{◌≡◌, vec_len, IfErr, IfOk};
+ghost use Rattle.run_threads.specs.Starts.{none_spent};
+ghost use Rattle.run_threads.specs.inner.Started.{StartsInScope};
 ghost use Rattle.run_threads.specs.HandingOver.{IsHandedOver};
 
 use crate::handing_over::HandedOver;
 use crate::in_scope::giving_up::GaveUp;
+use crate::in_scope::running::Running;
 use crate::in_scope::settling::{give_up, settle};
 use crate::in_scope::starting::{start_readers, start_valuers};
 use crate::opened::OpenedLane;
 use crate::ready::Ready;
 use crate::starts::{Counted, GivenFeeds, Starter};
 use devices::feeds::feed::Feed;
+use std::snapshot::Snapshot;
 use std::sync::Wait;
 use std::thread::Threads;
 use valuers::Gate;
 
 pub mod giving_up;
 pub mod joining;
+pub mod running;
 pub mod settling;
 pub mod starting;
 
@@ -39,12 +43,8 @@ pub fn hand_over_in<'s, E, T: Threads, R: Wait + Sync, F: Feed + Send + Drop + '
         ready.entry.lane.closer.lane.2 made.0 made.1) }
 
     // The starts: one for each valuer and each file, or one was refused; the valuers first. Each thread is joined.
-    ensures started { IfOk result.handed (λ _.
-        AreSpent (ready.entry.lane.closer.takers + vec_len ready.entry.feeds) result.starts) }
-    ensures refused { IfErr result.handed (λ _.
-        AreTooFew (ready.entry.lane.closer.takers + vec_len ready.entry.feeds) result.starts) }
-    ensures order { IsInOrder ready.entry.lane.closer.takers result.starts }
-    ensures settled { AreSettled starter.entry result.starts }
+    ensures spends { StartsInScope ready.entry.lane.closer.takers (vec_len ready.entry.feeds)
+        starter.entry result.starts result.handed }
 
     // Where one was refused, the valuers are ended by a Quit each.
     ensures quits { IfErr result.handed (λ gave_up. gave_up.quits.quits ≡ gave_up.valuers) }
@@ -85,15 +85,14 @@ pub fn hand_over_in<'s, E, T: Threads, R: Wait + Sync, F: Feed + Send + Drop + '
         };
     }
     let given = GivenFeeds::of(&readers.handles);
-    let handed = settle(
-        &mut starter,
-        shared.rt,
+    let running = Running {
         closer,
-        readers.handles,
-        valuers.handles,
+        readers: readers.handles,
+        valuers: valuers.handles,
         room,
-        shared.plan,
-    );
+        plan: Snapshot::of(shared.plan),
+    };
+    let handed = settle(&mut starter, shared.rt, running);
     Settled {
         handed: Ok((handed, given)),
         starts: starter.end(),

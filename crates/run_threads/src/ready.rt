@@ -1,7 +1,7 @@
 //! A run that is ready to start.
 
-ghost use Rattle.std.specs.Prelude.{◌≡◌, ◌≤◌, [], length, vec_len, vec_capacity};
-ghost use Rattle.run_threads.specs.inner.Ready.{IsRoomFor};
+ghost use Rattle.std.specs.Prelude.{◌≡◌, length, vec_len};
+ghost use Rattle.run_threads.specs.inner.Ready.{HasRoom, IsRoomFor};
 
 use crate::opened::OpenedLane;
 use crate::promises::{ReaderHandle, ValuerHandle};
@@ -20,9 +20,7 @@ pub struct Ready<'s, R, F: Feed, G> {
     pub room: ResultRoom,
     pub ghost files: { lane.closer.files ≡ length shared.plan.now.cones },
     pub ghost fed: { vec_len feeds ≡ lane.closer.files },
-    pub ghost no_valuers: { valuers.items ≡ [] },
-    pub ghost no_readers: { readers.items ≡ [] },
-    pub ghost for_valuers: { lane.closer.takers ≤ vec_capacity valuers },
-    pub ghost for_readers: { lane.closer.files ≤ vec_capacity readers },
+    pub ghost for_valuers: { HasRoom lane.closer.takers valuers },
+    pub ghost for_readers: { HasRoom lane.closer.files readers },
     pub ghost room_for: { IsRoomFor lane.closer.files lane.closer.takers room },
 }

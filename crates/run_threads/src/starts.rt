@@ -244,16 +244,20 @@ pub struct Starter<'s, E, T> {
 }
 
 impl<'s, E, T> Model for Starter<'s, E, T> {
+    ghost use Rattle.std.specs.Prelude.{◌≤◌};
     ghost use Rattle.run_threads.specs.Starts.{StartsView};
 
     ghost Value = { StartsView };
 
     ghost view = { λ s. s.starts };
+
+    ghost invariant = { λ s. s.starts.spent ≤ s.starts.allowed };
 }
 
 impl<'s, E, T> Starter<'s, E, T> {
     /// With these starts.
     pub fn new(scope: &'s Scope<'s, E>, rt: &'s T, starts: Counted) -> Starter<'s, E, T>
+        requires { starts.spent ≤ starts.allowed }
         ensures { result ≡ starts }
     {
         Starter { scope, rt, starts }
@@ -261,7 +265,8 @@ impl<'s, E, T> Starter<'s, E, T> {
 
     /// What is left of the starts.
     pub fn end(self) -> Counted
-        ensures { result ≡ self.entry }
+        ensures value { result ≡ self.entry }
+        ensures within { result.spent ≤ result.allowed }
     {
         self.starts
     }
@@ -278,7 +283,6 @@ impl<'s, E, T> Starter<'s, E, T> {
             → KeepsValued (formulas_of_plan promise.plan.value) promise.end.value r.taker r.items r.memory }
         ensures promise { IfSome result (λ handle. handle.promise ≡ promise) }
         ensures counted { self.new ≡ after_start (is_some result) self.old }
-        ensures within { self.new.spent ≤ self.new.allowed }
     {
         self.spawn(promise, work)
     }
@@ -301,7 +305,6 @@ impl<'s, E, T> Starter<'s, E, T> {
         ensures promise { IfSome result (λ handle. (handle.promise.feed.value ≡ feed)
             × (handle.promise.plan.value ≡ plan.value) × (handle.promise.end.value ≡ end.value)) }
         ensures counted { self.new ≡ after_reader (is_some result) self.old }
-        ensures within { self.new.spent ≤ self.new.allowed }
     {
         let promise = ReadBy {
             feed: Snapshot::of(&feed),
@@ -331,7 +334,6 @@ impl<'s, E, T> Starter<'s, E, T> {
         ensures promise { IfSome result (λ handle. handle.promise ≡ promise) }
         ensures counted { self.new ≡ after_start (is_some result) self.old }
         ensures more { OnSome result (self.new.readers < self.new.spent) }
-        ensures within { self.new.spent ≤ self.new.allowed }
     {
         if self.starts.spent == self.starts.allowed {
             self.starts.refused = true;

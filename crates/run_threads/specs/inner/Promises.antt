@@ -1,10 +1,12 @@
 -- What the threads of a run promise of what they give back, and what is made ready for them.
-use Rattle.std.specs.Prelude.{◌≡◌, ℕ, ◌+◌, ◌<◌, Bool, true, List, [], ◌∷◌, ◌++◌, length, drop, Option, IsFalse, IsTrue}
+use Rattle.std.specs.Prelude.{◌≡◌, ℕ, ◌+◌, ◌<◌, Bool, true, List, [], ◌∷◌, ◌++◌, length, drop, vec_len, ◌≤◌, Option, IsFalse, IsTrue}
 use Rattle.lane.specs.Ends.{PutEndView, TakeEndView}
+use Rattle.std.specs.Global.{Vec}
 use Rattle.lane.specs.MessageKinds.{is_done}
 use Rattle.plan_parts.specs.declared.formulas.formula.Formula.{Formula}
 use Rattle.plan_parts.specs.Plan.{PlanParts}
 use Rattle.plan_parts.specs.declared.grid.Grid.{Grid}
+use Rattle.plan_parts.specs.declared.ranges.TheConstants.{MAX_ZONES}
 use Rattle.valuers.specs.Valuing.{items_by}
 use Rattle.rows.specs.ItemsView.{IsFullFor, PackedView}
 use Rattle.run_threads.specs.Reading.{IsRead, ReadAnswer}
@@ -33,6 +35,12 @@ pub record IsUnsent (plan : PlanParts) (file : ℕ) (end : PutEndView) : Type 0 
 abbrev pub AreUnsentFrom : ℕ → List PutEndView → Type 0
 AreUnsentFrom k [] = Unit {0}
 AreUnsentFrom k (p ∷ ps) = (p.file ≡ k) × (p.sent ≡ []) × AreUnsentFrom (k + 1) ps
+
+-- the put ends of all files of a plan, in order, which sent nothing
+pub record AreUnsent (plan : PlanParts) (ends : Vec PutEndView) : Type 0 where
+  pub files : length plan.cones ≡ vec_len ends
+  pub few : vec_len ends ≤ MAX_ZONES
+  pub unsent : AreUnsentFrom 0 ends.items
 
 -- the results are those of the first things, and these things are the rest
 abbrev pub IsPartly : {A B : Type 0} → (A → B → Type 0) → List A → List B → List A → Type 0

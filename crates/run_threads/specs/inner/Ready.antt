@@ -1,18 +1,18 @@
 -- What is made ready before the first thread starts.
 use Rattle.std.specs.Prelude.{◌≡◌, ℕ, ◌≤◌, [], vec_capacity}
+use Rattle.std.specs.Global.{Vec}
 use Rattle.run_threads.specs.declared.result_room.ResultRoom.{ResultRoom}
 
--- empty lists with room for what the readers of so many files and so many takers give back
-pub record IsRoomFor (files takers : ℕ) (room : ResultRoom) : Type 0 where
-  pub no_reads : room.reads.items ≡ []
-  pub no_ended : room.ended.items ≡ []
-  pub no_answers : room.answers.items ≡ []
-  pub no_values : room.values.items ≡ []
-  pub no_takers : room.takers.items ≡ []
-  pub no_items : room.items.items ≡ []
-  pub for_reads : files ≤ vec_capacity room.reads
-  pub for_ended : files ≤ vec_capacity room.ended
-  pub for_answers : files ≤ vec_capacity room.answers
-  pub for_values : takers ≤ vec_capacity room.values
-  pub for_takers : takers ≤ vec_capacity room.takers
-  pub for_items : takers ≤ vec_capacity room.items
+-- an empty list with room for so many
+pub record HasRoom {A : Type 0} (count : ℕ) (list : Vec A) : Type 0 where
+  pub empty : list.items ≡ []
+  pub room : count ≤ vec_capacity list
+
+-- lists with room for what the readers of so many files and so many valuers give back
+pub record IsRoomFor (files valuers : ℕ) (room : ResultRoom) : Type 0 where
+  pub reads : HasRoom files room.reads
+  pub ended : HasRoom files room.ended
+  pub answers : HasRoom files room.answers
+  pub values : HasRoom valuers room.values
+  pub takers : HasRoom valuers room.takers
+  pub items : HasRoom valuers room.items

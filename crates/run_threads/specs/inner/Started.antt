@@ -1,6 +1,10 @@
 -- The starts of threads, step by step.
-use Rattle.std.specs.Prelude.{ℕ, ◌+◌, Bool, true, false}
-use Rattle.run_threads.specs.Starts.{StartsView}
+use Rattle.std.specs.Prelude.{◌≡◌, ℕ, ◌+◌, ◌<◌, ◌≤◌, Bool, true, false, List, map, vec_len, IsFalse, IsTrue, IfOk, IfErr, Result}
+use Rattle.std.specs.List.{All}
+use Rattle.std.specs.Global.{Vec}
+use Rattle.lane.specs.Ends.{Lane}
+use Rattle.plan_parts.specs.Plan.{PlanParts}
+use Rattle.run_threads.specs.Starts.{StartsView, AreSettled, AreSpent, AreTooFew, IsInOrder}
 
 -- after a start that was made, or refused
 abbrev pub after_start : Bool → StartsView → StartsView
@@ -27,3 +31,20 @@ after_join starts = record starts { joined = starts.joined + 1 }
 -- after so many joins
 abbrev pub after_joins : ℕ → StartsView → StartsView
 after_joins count starts = record starts { joined = starts.joined + count }
+
+-- threads that were started one after the other under one plan, each at one of the given ends, until a start was refused
+pub record AreStarted {H E : Type 0} (end : H → E) (lane : E → Lane) (plan : H → PlanParts) (own : PlanParts)
+    (given : Vec E) (handles : Vec H) (refused : Bool) : Type 0 where
+  pub ends : IsFalse refused → map end handles.items ≡ given.items
+  pub lanes : (one : Lane) → All (λ e. lane e ≡ one) given.items → All (λ h. lane (end h) ≡ one) handles.items
+  pub plans : All (λ h. plan h ≡ own) handles.items
+  pub count : vec_len handles ≤ vec_len given
+  pub short : IsTrue refused → vec_len handles < vec_len given
+  pub whole : IsFalse refused → vec_len handles ≡ vec_len given
+
+-- what becomes of the starts within a scope, where so many valuers, and then so many files, need a thread each, by what is answered
+pub record StartsInScope {A B : Type 0} (valuers files : ℕ) (old new : StartsView) (answer : Result A B) : Type 0 where
+  pub started : IfOk answer (λ _. AreSpent (valuers + files) new)
+  pub refused : IfErr answer (λ _. AreTooFew (valuers + files) new)
+  pub order : IsInOrder valuers new
+  pub settled : AreSettled old new

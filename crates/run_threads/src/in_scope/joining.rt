@@ -1,7 +1,8 @@
 //! Joining threads, and parting what they give back.
 
-ghost use Rattle.std.specs.Prelude.{◌≡◌, ◌+◌, ◌≤◌, [], map, vec_len, vec_capacity};
+ghost use Rattle.std.specs.Prelude.{◌≡◌, ◌+◌, ◌≤◌, map, vec_len};
 ghost use Rattle.std.specs.List.{All, AllZip, list_any};
+ghost use Rattle.run_threads.specs.inner.Ready.{HasRoom};
 ghost use Rattle.run_threads.specs.inner.Started.{after_joins};
 
 use crate::file_reading::FileRead;
@@ -19,8 +20,7 @@ pub fn join_all<'s, E, T: Threads, A: Drop, P: Promise<A> + RunPromise>(
     mut results: Vec<A>,
     behind: &P::Behind,
 ) -> Vec<A>
-    requires empty { results.items ≡ [] }
-    requires room { vec_len handles ≤ vec_capacity results }
+    requires room { HasRoom (vec_len handles) results }
     requires running { starter.old.joined + vec_len handles ≤ starter.old.spent }
     requires lane { All (λ h. P.lane h.promise ≡ P.Behind.lane_of behind.now) handles.items }
     ensures kept { AllZip (λ h r. P.kept_by h.promise r) handles.items result.items }
@@ -39,10 +39,8 @@ pub fn split_reads(
     mut ended: Vec<EndedPut>,
     mut answers: Vec<ReadResult>,
 ) -> (Vec<EndedPut>, Vec<ReadResult>)
-    requires empty { ended.items ≡ [] }
-    requires no_answers { answers.items ≡ [] }
-    requires room { vec_len reads ≤ vec_capacity ended }
-    requires room_for_answers { vec_len reads ≤ vec_capacity answers }
+    requires room { HasRoom (vec_len reads) ended }
+    requires room_for_answers { HasRoom (vec_len reads) answers }
     ensures ended { result.0.items ≡ map (λ read. read.ended) reads.items }
     ensures answers { result.1.items ≡ map (λ read. read.answer) reads.items }
 {
@@ -60,10 +58,8 @@ pub fn split_values(
     mut takers: Vec<TakeEnd>,
     mut items: Vec<PackedItems>,
 ) -> (Vec<TakeEnd>, Vec<PackedItems>, bool)
-    requires empty { takers.items ≡ [] }
-    requires no_items { items.items ≡ [] }
-    requires room { vec_len values ≤ vec_capacity takers }
-    requires room_for_items { vec_len values ≤ vec_capacity items }
+    requires room { HasRoom (vec_len values) takers }
+    requires room_for_items { HasRoom (vec_len values) items }
     ensures takers { result.0.items ≡ map (λ value. value.taker) values.items }
     ensures items { result.1.items ≡ map (λ value. value.items) values.items }
     ensures memory { result.2 ≡ list_any (λ value. value.memory) values.items }

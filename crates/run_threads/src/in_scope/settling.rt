@@ -2,55 +2,44 @@
 
 ghost use Rattle.std.specs.Prelude.{◌≡◌, ◌+◌, ◌≤◌, map, vec_len};
 ghost use Rattle.std.specs.List.{All};
-ghost use Rattle.lane.specs.Ends.{first_puts, first_takes};
 ghost use Rattle.run_threads.specs.HandingOver.{IsHandedOver};
-ghost use Rattle.run_threads.specs.inner.Ready.{IsRoomFor};
 ghost use Rattle.run_threads.specs.inner.Started.{after_joins};
 
 use crate::handing_over::HandedOver;
 use crate::in_scope::giving_up::{GaveUp, join_behind, join_each, quit_each};
 use crate::in_scope::joining::{join_all, split_reads, split_values};
+use crate::in_scope::running::Running;
 use crate::promises::{ReaderHandle, ValuerHandle};
 use crate::result_room::ResultRoom;
 use crate::starts::{LaneEnded, Starter};
 use devices::feeds::feed::Feed;
 use lane::Closer;
-use plan_parts::plan::Plan;
 use std::sync::Wait;
 use std::thread::Threads;
 
-/// Joins the readers, stops the lane, joins the valuers, and gathers what they hand over. Of `_plan`, which is the plan of them all, only
-/// the contract speaks.
+/// Joins the readers, stops the lane, joins the valuers, and gathers what they hand over.
 pub fn settle<'s, E, T: Threads, R: Wait, F: Feed>(
     starter: &mut Starter<'s, E, T>,
     rt: &R,
-    closer: Closer,
-    readers: Vec<ReaderHandle<F>>,
-    valuers: Vec<ValuerHandle>,
-    room: ResultRoom,
-    _plan: &Plan,
+    running: Running<F>,
 ) -> HandedOver
-    // The threads have all ends of the lane, under one plan.
-    requires ends { map (λ h. h.promise.end.value) readers.items
-        ≡ first_puts closer.lane 0 closer.files }
-    requires takes { map (λ h. h.promise.end.value) valuers.items
-        ≡ first_takes closer.lane 0 closer.takers }
-    requires read_plans { All (λ h. h.promise.plan.value ≡ _plan.now) readers.items }
-    requires valuer_plans { All (λ h. h.promise.plan.value ≡ _plan.now) valuers.items }
-
-    // There is room for what each of them answers.
-    requires readers { vec_len readers ≡ closer.files }
-    requires valuers { vec_len valuers ≡ closer.takers }
-    requires running { starter.old.joined + (vec_len readers + vec_len valuers)
+    requires unjoined { starter.old.joined + (vec_len running.readers + vec_len running.valuers)
         ≤ starter.old.spent }
-    requires room { IsRoomFor closer.files closer.takers room }
 
     // What they hand over of the feeds that the readers were given, and that each of them is joined.
-    ensures handed { let given = map (λ h. h.promise.feed.value) readers.items in
-        IsHandedOver F.left F.is_sure F.failures _plan.now given closer.takers closer.lane.2 result given }
+    ensures handed { let given = map (λ h. h.promise.feed.value) running.readers.items in
+        IsHandedOver F.left F.is_sure F.failures running.plan.value given
+        running.closer.takers running.closer.lane.2 result given }
     ensures counted { starter.new
-        ≡ after_joins (vec_len readers + vec_len valuers) starter.old }
+        ≡ after_joins (vec_len running.readers + vec_len running.valuers) starter.old }
 {
+    let Running {
+        closer,
+        readers,
+        valuers,
+        room,
+        plan: _plan,
+    } = running;
     let ResultRoom {
         reads,
         ended,

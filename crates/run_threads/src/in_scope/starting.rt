@@ -1,16 +1,15 @@
 //! Starting the threads of a run, until a start is refused.
 
-ghost use Rattle.std.specs.Prelude.{◌≡◌, ◌<◌, ◌≤◌, ◌++◌, [], true, false, drop, is_some, length, map, vec_len, vec_capacity, IsFalse, IsTrue, IfSome};
-ghost use Rattle.std.specs.List.{All};
-ghost use Rattle.lane.specs.Ends.{Lane};
+ghost use Rattle.std.specs.Prelude.{◌≡◌, ◌≤◌, ◌++◌, true, false, drop, is_some, length, map, vec_len, IsFalse, IsTrue, IfSome};
 ghost use Rattle.lane.specs.MessageKinds.{is_done};
 ghost use Rattle.plan_parts.specs.Destinations.{formulas_of};
 ghost use Rattle.run_threads.specs.Reading.{IsRead};
-ghost use Rattle.run_threads.specs.inner.Promises.{AreUnsentFrom, IsUnsent};
-ghost use Rattle.run_threads.specs.inner.Started.{after_reader, after_readers, after_start, after_starts};
+ghost use Rattle.run_threads.specs.inner.Promises.{AreUnsent, IsUnsent};
+ghost use Rattle.run_threads.specs.inner.Ready.{HasRoom};
+ghost use Rattle.run_threads.specs.inner.Started.{after_reader, after_readers, after_start, after_starts, AreStarted};
 ghost use Rattle.rows.specs.ItemsView.{IsFullFor};
 ghost use Rattle.valuers.specs.Valuing.{items_by};
-ghost use Rattle.plan_parts.specs.declared.ranges.TheConstants.{MAX_DESTINATIONS, MAX_VALUERS, MAX_ZONES};
+ghost use Rattle.plan_parts.specs.declared.ranges.TheConstants.{MAX_DESTINATIONS, MAX_VALUERS};
 
 use crate::file_reading::{FileRead, read_file};
 use crate::promises::{ReaderHandle, ValuedBy, ValuerHandle};
@@ -37,21 +36,12 @@ pub fn start_valuers<'s, E, T, R: Wait + Sync, G: Gate + Sync>(
     mut handles: Vec<ValuerHandle>,
 ) -> Started<ValuerHandle>
     requires none_refused { starter.old.refused ≡ false }
-    requires within { starter.old.spent ≤ starter.old.allowed }
     requires takers { vec_len takes ≤ MAX_VALUERS }
-    requires empty { handles.items ≡ [] }
-    requires room { vec_len takes ≤ vec_capacity handles }
-    ensures ends { IsFalse result.refused
-        → map (λ h. h.promise.end.value) result.handles.items ≡ takes.items }
-    ensures lanes { (lane : Lane) → All (λ end. end.lane ≡ lane) takes.items
-        → All (λ h. h.promise.end.value.lane ≡ lane) result.handles.items }
-    ensures plans { All (λ h. h.promise.plan.value ≡ shared.now.plan.now) result.handles.items }
-    ensures count { vec_len result.handles ≤ vec_len takes }
-    ensures short { IsTrue result.refused → vec_len result.handles < vec_len takes }
-    ensures whole { IsFalse result.refused → vec_len result.handles ≡ vec_len takes }
+    requires room { HasRoom (vec_len takes) handles }
+    ensures started { AreStarted (λ h. h.promise.end.value) (λ end. end.lane) (λ h. h.promise.plan.value)
+        shared.now.plan.now takes result.handles result.refused }
     ensures counted { starter.new
         ≡ after_starts (vec_len result.handles) result.refused starter.old }
-    ensures within { starter.new.spent ≤ starter.new.allowed }
 {
     let mut valuer = 0u8;
     for take in takes {
@@ -79,30 +69,15 @@ pub fn start_readers<'s, E, T, R: Wait + Sync, F: Feed + Send + Drop + 's, G: Ga
     mut handles: Vec<ReaderHandle<F>>,
 ) -> Started<ReaderHandle<F>>
     requires none_refused { starter.old.refused ≡ false }
-    requires within { starter.old.spent ≤ starter.old.allowed }
-    requires files { length shared.now.plan.now.cones ≡ vec_len ends }
-    requires few { vec_len ends ≤ MAX_ZONES }
+    requires unsent { AreUnsent shared.now.plan.now ends }
     requires feeds { vec_len feeds ≡ vec_len ends }
-    requires unsent { AreUnsentFrom 0 ends.items }
-    requires empty { handles.items ≡ [] }
-    requires room { vec_len ends ≤ vec_capacity handles }
-
-    // Which readers run: where none was refused, one for each end.
-    ensures ends { IsFalse result.refused
-        → map (λ h. h.promise.end.value) result.handles.items ≡ ends.items }
-    ensures lanes { (lane : Lane) → All (λ end. end.lane ≡ lane) ends.items
-        → All (λ h. h.promise.end.value.lane ≡ lane) result.handles.items }
+    requires room { HasRoom (vec_len ends) handles }
+    ensures started { AreStarted (λ h. h.promise.end.value) (λ end. end.lane) (λ h. h.promise.plan.value)
+        shared.now.plan.now ends result.handles result.refused }
     ensures feeds { IsFalse result.refused
         → map (λ h. h.promise.feed.value) result.handles.items ≡ feeds.items }
-    ensures plans { All (λ h. h.promise.plan.value ≡ shared.now.plan.now) result.handles.items }
-
-    // How many there are.
-    ensures count { vec_len result.handles ≤ vec_len ends }
-    ensures short { IsTrue result.refused → vec_len result.handles < vec_len ends }
-    ensures whole { IsFalse result.refused → vec_len result.handles ≡ vec_len ends }
     ensures counted { starter.new
         ≡ after_readers (vec_len result.handles) result.refused starter.old }
-    ensures within { starter.new.spent ≤ starter.new.allowed }
 {
     let mut file = 0u8;
     let mut rest = feeds.into_iter();
@@ -133,7 +108,6 @@ fn start_valuer<'s, E, T, R: Wait + Sync, G: Gate + Sync>(
 ) -> Option<ValuerHandle>
     requires none_refused { starter.old.refused ≡ false }
     ensures counted { starter.new ≡ after_start (is_some result) starter.old }
-    ensures within { starter.new.spent ≤ starter.new.allowed }
     ensures promise { IfSome result (λ h.
         (h.promise.plan.value ≡ shared.now.plan.now) × (h.promise.end.value ≡ end)) }
 {
@@ -171,7 +145,6 @@ fn start_reader<'s, E, T, R: Wait + Sync, F: Feed + Send + Drop + 's, G: Gate + 
     requires none_refused { starter.old.refused ≡ false }
     requires unsent { IsUnsent shared.now.plan.now file end }
     ensures counted { starter.new ≡ after_reader (is_some result) starter.old }
-    ensures within { starter.new.spent ≤ starter.new.allowed }
     ensures promise { IfSome result (λ h. (h.promise.feed.value ≡ feed)
         × (h.promise.plan.value ≡ shared.now.plan.now) × (h.promise.end.value ≡ end)) }
 {

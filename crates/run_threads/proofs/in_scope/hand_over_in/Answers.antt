@@ -7,24 +7,28 @@ pub start_readers-readers-requires-clause-unsent :
     goal.start_readers-readers-requires-clause-unsent
 start_readers-readers-requires-clause-unsent g c κs within =
     let lane = c.args.ready.lane in
-    rw lane.puts_are (first_unsent lane.closer.lane 0 lane.closer.files)
+    record {
+      files = search rules;
+      few = search rules;
+      unsent = rw lane.puts_are (first_unsent lane.closer.lane 0 lane.closer.files);
+    }
 
 pub give_up-gave_up-requires-clause-takes : goal.give_up-gave_up-requires-clause-takes
 give_up-gave_up-requires-clause-takes g c =
     let lane = c.args.ready.lane in
-    c.start_valuers-valuers.ensures.lanes lane.closer.lane (rw lane.takes_are (takes_of_lane lane.closer.lane 0 lane.closer.takers))
+    c.start_valuers-valuers.ensures.started.lanes lane.closer.lane (rw lane.takes_are (takes_of_lane lane.closer.lane 0 lane.closer.takers))
 
 pub give_up-gave_up-requires-then-readers-clause-puts :
     goal.give_up-gave_up-requires-then-readers-clause-puts
 give_up-gave_up-requires-then-readers-clause-puts g c =
     let lane = c.args.ready.lane in
-    c.start_readers-readers.ensures.lanes lane.closer.lane (rw lane.puts_are (puts_of_lane lane.closer.lane 0 lane.closer.files))
+    c.start_readers-readers.ensures.started.lanes lane.closer.lane (rw lane.puts_are (puts_of_lane lane.closer.lane 0 lane.closer.files))
 
 pub give_up-gave_up-requires-then-readers-clause-takes :
     goal.give_up-gave_up-requires-then-readers-clause-takes
 give_up-gave_up-requires-then-readers-clause-takes g c =
     let lane = c.args.ready.lane in
-    c.start_valuers-valuers.ensures.lanes lane.closer.lane (rw lane.takes_are (takes_of_lane lane.closer.lane 0 lane.closer.takers))
+    c.start_valuers-valuers.ensures.started.lanes lane.closer.lane (rw lane.takes_are (takes_of_lane lane.closer.lane 0 lane.closer.takers))
 
 pub returns-clause-handed : goal.returns-clause-handed
 returns-clause-handed g c =
@@ -35,5 +39,7 @@ returns-clause-handed g c =
     let most = c.args.ready.lane.closer.lane.2 in
     let handed = c.settle-handed.result in
     let plan = c.args.ready.shared.plan.now in
-    let own = subst (λ fs. IsHandedOver g.F.Feed.left g.F.Feed.is_sure g.F.Feed.failures plan fs takers most handed fs) fed c.settle-handed.ensures.handed in
+    let given = map (λ h. h.promise.feed.value) handles in
+    let of_plan = subst (λ p. IsHandedOver g.F.Feed.left g.F.Feed.is_sure g.F.Feed.failures p given takers most handed given) c.of.ensures c.settle-handed.ensures.handed in
+    let own = subst (λ fs. IsHandedOver g.F.Feed.left g.F.Feed.is_sure g.F.Feed.failures plan fs takers most handed fs) fed of_plan in
     subst (λ fs. IsHandedOver g.F.Feed.left g.F.Feed.is_sure g.F.Feed.failures plan feeds takers most handed fs) (sym (c.of-given.ensures ∙ fed)) own

@@ -6,46 +6,46 @@ use Rattle.run_threads.proofs.in_scope.settling.settle.Goals as goal
 
 pub join_all-reads-requires-clause-lane : goal.join_all-reads-requires-clause-lane
 join_all-reads-requires-clause-lane g c =
-    let lane = c.args.closer.lane in
-    let ends = map (λ h. h.promise.end.value) c.args.readers.items in
-    of_given (λ (e : PutEndView). e.lane ≡ lane) (λ h. h.promise.end.value) c.args.readers.items [] (first_puts lane 0 c.args.closer.files)
-    (append-nil ends ∙ c.requires.ends) (puts_of_lane lane 0 c.args.closer.files)
+    let lane = c.args.running.closer.lane in
+    let ends = map (λ h. h.promise.end.value) c.args.running.readers.items in
+    of_given (λ (e : PutEndView). e.lane ≡ lane) (λ h. h.promise.end.value) c.args.running.readers.items [] (first_puts lane 0 c.args.running.closer.files)
+    (append-nil ends ∙ c.args.running.ends) (puts_of_lane lane 0 c.args.running.closer.files)
 
 pub join_all-values-requires-clause-lane : goal.join_all-values-requires-clause-lane
 join_all-values-requires-clause-lane g c =
-    let lane = c.args.closer.lane in
-    let ends = map (λ h. h.promise.end.value) c.args.valuers.items in
-    let Same : Lane → Type 0 = λ other. All (λ h. h.promise.end.value.lane ≡ other) c.args.valuers.items in
+    let lane = c.args.running.closer.lane in
+    let ends = map (λ h. h.promise.end.value) c.args.running.valuers.items in
+    let Same : Lane → Type 0 = λ other. All (λ h. h.promise.end.value.lane ≡ other) c.args.running.valuers.items in
     let ended : c.by_stop.result ≡ lane = c.by_stop.ensures ∙ c.stop-stopped.ensures.lane in
     subst Same (sym ended)
-    (of_given (λ (e : TakeEndView). e.lane ≡ lane) (λ h. h.promise.end.value) c.args.valuers.items [] (first_takes lane 0 c.args.closer.takers)
-    (append-nil ends ∙ c.requires.takes) (takes_of_lane lane 0 c.args.closer.takers))
+    (of_given (λ (e : TakeEndView). e.lane ≡ lane) (λ h. h.promise.end.value) c.args.running.valuers.items [] (first_takes lane 0 c.args.running.closer.takers)
+    (append-nil ends ∙ c.args.running.takes) (takes_of_lane lane 0 c.args.running.closer.takers))
 
 pub stop-stopped-requires : goal.stop-stopped-requires
 stop-stopped-requires g c =
     record {
       puts = rw c.split_reads-ended.ensures.ended (puts_of g.F.Feed.left g.F.Feed.is_sure g.F.Feed.failures
-          (λ h. h.promise.feed.value) (λ h. h.promise.plan.value) (λ h. h.promise.end.value) c.args._plan.now c.args.closer.lane c.args.closer.files 0 c.args.closer.files (omega arith) c.args.readers.items c.join_all-reads.result.items
-          c.join_all-reads.ensures.kept c.requires.ends);
+          (λ h. h.promise.feed.value) (λ h. h.promise.plan.value) (λ h. h.promise.end.value) c.args.running.plan.value c.args.running.closer.lane c.args.running.closer.files 0 c.args.running.closer.files (omega arith) c.args.running.readers.items c.join_all-reads.result.items
+          c.join_all-reads.ensures.kept c.args.running.ends);
     }
 
 pub gather-gathered-requires-clause-takes : goal.gather-gathered-requires-clause-takes
 gather-gathered-requires-clause-takes g c =
     rw (c.stop-stopped.ensures.lane, c.stop-stopped.ensures.takers, c.split_values-takers.ensures.takers)
-    (takes_of (λ h. h.promise.plan.value) (λ h. h.promise.end.value) c.args._plan.now c.args.closer.lane c.args.closer.takers 0
-    c.args.closer.takers (omega arith) c.args.valuers.items c.join_all-values.result.items c.join_all-values.ensures.kept
-    c.requires.takes)
+    (takes_of (λ h. h.promise.plan.value) (λ h. h.promise.end.value) c.args.running.plan.value c.args.running.closer.lane c.args.running.closer.takers 0
+    c.args.running.closer.takers (omega arith) c.args.running.valuers.items c.join_all-values.result.items c.join_all-values.ensures.kept
+    c.args.running.takes)
 
 pub gather-gathered-requires-clause-done : goal.gather-gathered-requires-clause-done
 gather-gathered-requires-clause-done g c =
     subst (λ l. All (λ (t : TakeEndView). is_done t.took ≡ true) l) (sym c.split_values-takers.ensures.takers)
-    (done_of (λ h. h.promise.plan.value) (λ h. h.promise.end.value) c.args._plan.now c.args.closer.lane c.args.closer.takers
-    c.args.valuers.items c.join_all-values.result.items c.join_all-values.ensures.kept)
+    (done_of (λ h. h.promise.plan.value) (λ h. h.promise.end.value) c.args.running.plan.value c.args.running.closer.lane c.args.running.closer.takers
+    c.args.running.valuers.items c.join_all-values.result.items c.join_all-values.ensures.kept)
 
 pub returns-clause-handed : goal.returns-clause-handed
 returns-clause-handed g c =
-    let plan = c.args._plan.now in
-    let lane = c.args.closer.lane in
+    let plan = c.args.running.plan.value in
+    let lane = c.args.running.closer.lane in
     record {
       whole = search rules;
       given = refl;
@@ -57,17 +57,17 @@ returns-clause-handed g c =
         c.split_reads-ended.ensures.ended,
       )
           (read_of g.F.Feed.left g.F.Feed.is_sure g.F.Feed.failures (λ h. h.promise.feed.value) (λ h. h.promise.plan.value)
-          (λ h. h.promise.end.value) plan lane c.args.closer.files 0 c.args.closer.files c.args.readers.items c.join_all-reads.result.items
-          c.join_all-reads.ensures.kept c.requires.read_plans c.requires.ends);
+          (λ h. h.promise.end.value) plan lane c.args.running.closer.files 0 c.args.running.closer.files c.args.running.readers.items c.join_all-reads.result.items
+          c.join_all-reads.ensures.kept c.args.running.read_plans c.args.running.ends);
       valued = λ fine.
           rw (c.split_values-takers.ensures.items, c.gather-gathered.ensures.took, c.split_values-takers.ensures.takers)
-          (valued_of (λ h. h.promise.plan.value) (λ h. h.promise.end.value) plan lane c.args.closer.takers 0 c.args.closer.takers
-          c.args.valuers.items c.join_all-values.result.items c.join_all-values.ensures.kept c.requires.valuer_plans c.requires.takes
+          (valued_of (λ h. h.promise.plan.value) (λ h. h.promise.end.value) plan lane c.args.running.closer.takers 0 c.args.running.closer.takers
+          c.args.running.valuers.items c.join_all-values.result.items c.join_all-values.ensures.kept c.args.running.valuer_plans c.args.running.takes
           (sym c.split_values-takers.ensures.memory ∙ fine));
       full = λ refused.
           rw c.split_values-takers.ensures.items
-          (full_of (λ h. h.promise.plan.value) (λ h. h.promise.end.value) plan lane c.args.closer.takers c.args.valuers.items
-          c.join_all-values.result.items c.join_all-values.ensures.kept c.requires.valuer_plans
+          (full_of (λ h. h.promise.plan.value) (λ h. h.promise.end.value) plan lane c.args.running.closer.takers c.args.running.valuers.items
+          c.join_all-values.result.items c.join_all-values.ensures.kept c.args.running.valuer_plans
           (sym c.split_values-takers.ensures.memory ∙ refused));
       takers = search rules;
     }

@@ -1,6 +1,7 @@
-use Rattle.std.proofs.Common.{rules, ◌≡◌, ◌+◌, ◌∷◌, ◌++◌, [], subst, vec_len}
+use Rattle.std.proofs.Common.{rules, ◌≡◌, ◌∙◌, ◌+◌, ◌∷◌, ◌++◌, [], append-nil, map, subst, sym, vec_len}
+use Rattle.std.proofs.lemmas.List.{nil_from_length}
 use Rattle.std.proofs.lemmas.List.Elements.{All-push}
-use Rattle.std.specs.Vec.Iter.{into_iter_items}
+use Rattle.std.specs.Vec.Iter.{into_iter_items, into_iter_len}
 use Rattle.lane.specs.Ends.{PutEndView}
 use Rattle.run_threads.specs.inner.Promises.{AreUnsentFrom}
 use Rattle.run_threads.proofs.Joined.{map_step, of_given, unsent_rest}
@@ -28,16 +29,33 @@ loop-end-preserved g c =
       unsent = subst (λ n. AreUnsentFrom n (into_iter_items c.next.new.self)) more
           (unsent_rest (vec_len c.loop-end.handles) c.in-Some.end (into_iter_items c.loop-end.end-iterator)
           (into_iter_items c.next.new.self) ends was.unsent).2;
+      behind = search rules;
       counted = search rules;
-      within = search rules;
     }
 
-pub returns-in_default-start_reader-clause-lanes : goal.returns-in_default-start_reader-clause-lanes
-returns-in_default-start_reader-clause-lanes g c =
-    λ lane same. of_given (λ (e : PutEndView). e.lane ≡ lane) (λ h. h.promise.end.value) c.loop-end.handles.items
-    (into_iter_items c.loop-end.end-iterator) c.args.ends.items c.loop-end.invariant.ends same
+pub returns-in_default-start_reader-clause-started : goal.returns-in_default-start_reader-clause-started
+returns-in_default-start_reader-clause-started g c =
+    record {
+      ends = search rules;
+      lanes = λ lane same. of_given (λ (e : PutEndView). e.lane ≡ lane) (λ h. h.promise.end.value) c.loop-end.handles.items
+          (into_iter_items c.loop-end.end-iterator) c.args.ends.items c.loop-end.invariant.ends same;
+      plans = c.loop-end.invariant.plans;
+      count = search rules;
+      short = search rules;
+      whole = search rules;
+    }
 
-pub returns-clause-lanes : goal.returns-clause-lanes
-returns-clause-lanes g c =
-    λ lane same. of_given (λ (e : PutEndView). e.lane ≡ lane) (λ h. h.promise.end.value) c.loop-end.handles.items
-    (into_iter_items c.loop-end.end-iterator) c.args.ends.items c.loop-end.invariant.ends same
+pub returns-clause-started : goal.returns-clause-started
+returns-clause-started g c =
+    let ends = map (λ h. h.promise.end.value) c.loop-end.handles.items in
+    let none : into_iter_len c.loop-end.end-iterator ≡ 0 = search rules in
+    let over = nil_from_length (into_iter_items c.loop-end.end-iterator) (sym c.loop-end.invariant.behind ∙ none) in
+    record {
+      ends = λ _. sym (append-nil ends) ∙ (rw over at c.loop-end.invariant.ends);
+      lanes = λ lane same. of_given (λ (e : PutEndView). e.lane ≡ lane) (λ h. h.promise.end.value) c.loop-end.handles.items
+          (into_iter_items c.loop-end.end-iterator) c.args.ends.items c.loop-end.invariant.ends same;
+      plans = c.loop-end.invariant.plans;
+      count = search rules;
+      short = search rules;
+      whole = λ _. search rules;
+    }

@@ -1,4 +1,4 @@
-use Rattle.std.proofs.Common.{◌≡◌, ◌+◌, ◌≤◌, ◌++◌, map, vec_len, All}
+use Rattle.std.proofs.Common.{◌≡◌, ◌+◌, ◌≤◌, ◌++◌, length, map, vec_len, All}
 use Rattle.std.specs.Prelude.{vec_capacity, false}
 use Rattle.std.specs.Vec.Iter.{into_iter_items, into_iter_len}
 use Rattle.run_threads.specs.inner.Promises.{AreUnsentFrom}
@@ -16,6 +16,6 @@ invariant-loop-end g l =
       fed : into_iter_len l.rest ≡ into_iter_len l.end-iterator;
       room : vec_len l.fn.ends ≤ vec_capacity l.handles;
       unsent : AreUnsentFrom (vec_len l.handles) (into_iter_items l.end-iterator);
+      behind : into_iter_len l.end-iterator ≡ length (into_iter_items l.end-iterator);
       counted : l.starter ≡ after_readers (vec_len l.handles) false l.fn.starter;
-      within : l.starter.spent ≤ l.starter.allowed;
     }

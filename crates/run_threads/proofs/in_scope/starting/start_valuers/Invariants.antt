@@ -1,4 +1,4 @@
-use Rattle.std.proofs.Common.{◌≡◌, ◌+◌, ◌≤◌, ◌++◌, map, vec_len, All}
+use Rattle.std.proofs.Common.{◌≡◌, ◌+◌, ◌≤◌, ◌++◌, length, map, vec_len, All}
 use Rattle.std.specs.Prelude.{vec_capacity, false}
 use Rattle.std.specs.Vec.Iter.{into_iter_items, into_iter_len}
 use Rattle.run_threads.specs.inner.Started.{after_starts}
@@ -12,6 +12,6 @@ invariant-loop-take g l =
       count : l.valuer ≡ vec_len l.handles;
       rest : vec_len l.handles + into_iter_len l.take-iterator ≡ vec_len l.fn.takes;
       room : vec_len l.fn.takes ≤ vec_capacity l.handles;
+      behind : into_iter_len l.take-iterator ≡ length (into_iter_items l.take-iterator);
       counted : l.starter ≡ after_starts (vec_len l.handles) false l.fn.starter;
-      within : l.starter.spent ≤ l.starter.allowed;
     }
