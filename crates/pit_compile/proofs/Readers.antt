@@ -20,9 +20,8 @@ use Rattle.pit_compile.specs.inner.ReadAnswers.{refusal_in, refusal_of}
 use Rattle.pit_compile.specs.ZoneFiles.{AreGiven}
 use Rattle.pit_compile.specs.Compiling.{IsNotCompiled}
 use Rattle.pit_compile.specs.Rows.{fault_in, file_fault, files_send}
-use Rattle.refusals.specs.declared.settings_fault.SettingsFault.{SettingsFault}
 use Rattle.refusals.specs.declared.refusal.Refusal.{Refusal}
-use Rattle.refusals.specs.declared.refusal.Refusal.TheVariants.{Settings, FeedFailed, TooLong, Row, OutOfMemory}
+use Rattle.refusals.specs.declared.refusal.Refusal.TheVariants.{FeedFailed, TooLong, Row, OutOfMemory}
 
 -- a file that was read is not too long, and has the fault of its rows
 fault_read : (grid : Grid) (n : ℕ) (left : Option (List ℕ)) (fault : Option RowFault) (sent : List Taken)
@@ -144,10 +143,9 @@ module _ {F : Type 0} (left : F → Option (List ℕ)) (is_sure : F → Bool) (f
       → AreRead left is_sure failures grid 0 feeds answers sents → refusal_in 0 answers ≡ None → AreAllRead grid 0 (map left feeds) sents
   all_read grid feeds answers sents h e = MatchOption-at_none _ (IsFirstUnread grid 0 feeds) e (told grid 0 feeds answers sents h)
 
-  -- why a file was not read is why nothing is compiled, and it is none of the settings
+  -- why a file was not read is why nothing is compiled
   why_unread : (plan : PlanParts) (feeds : List F) (refusal : Refusal) → IsFirstUnread plan.grid 0 feeds refusal
       → IsNotCompiled plan (map left feeds) (HasFailed is_sure failures feeds) refusal
-      × ((kind : SettingsFault) → refusal ≡ Settings kind → ⊥)
   why_unread plan feeds refusal h = by h.of.answer h.of.unread h.of.is
     where
       file : ℕ
@@ -155,7 +153,7 @@ module _ {F : Type 0} (left : F → Option (List ℕ)) (is_sure : F → Bool) (f
 
       -- so it is of a refusal that is the one of the answer
       Why : Refusal → Type 0
-      Why why = IsNotCompiled plan (map left feeds) (HasFailed is_sure failures feeds) why × ((kind : SettingsFault) → why ≡ Settings kind → ⊥)
+      Why why = IsNotCompiled plan (map left feeds) (HasFailed is_sure failures feeds) why
 
       by : (answer : ReadAnswer) → IsRead left is_sure failures plan.grid file h.of.feed answer h.of.sent
           → refusal_of file answer ≡ Some refusal → Why refusal
@@ -163,8 +161,8 @@ module _ {F : Type 0} (left : F → Option (List ℕ)) (is_sure : F → Bool) (f
       by (Ok (Err (row.Fault fault))) e is =
           let found = h.found e.text (Row file fault) (fault_read plan.grid file (left h.of.feed) (Some fault) h.of.sent e) in
           let own : Row file fault ≡ refusal = cc in
-          subst Why own (record { texts = h.texts e.text; given = h.given e.text e.given; refused = found }, λ kind is. cc)
-      by (Ok (Err row.OutOfMemory)) e is = let own : OutOfMemory ≡ refusal = cc in subst Why own (tt, λ kind is. cc)
+          subst Why own (record { texts = h.texts e.text; given = h.given e.text e.given; refused = found })
+      by (Ok (Err row.OutOfMemory)) e is = let own : OutOfMemory ≡ refusal = cc in subst Why own tt
       by (Err slurp.FeedFailed) e is =
           let same : h.behind ≡ h.of.file = omega (arith, h.is_file) in
           let some = some_text (left h.of.feed) in
@@ -175,18 +173,17 @@ module _ {F : Type 0} (left : F → Option (List ℕ)) (is_sure : F → Bool) (f
             failed = record { feed = h.of.feed; stands = subst (λ f. slice_get feeds f ≡ Some h.of.feed) same h.stands; refused = e };
           } in
           let own : FeedFailed file ≡ refusal = cc in
-          subst Why own (why, λ kind is. cc)
+          subst Why own why
       by (Err slurp.TooLong) e is =
           let long = long_text (left h.of.feed) e in
           let found = h.found long.0 (TooLong file) (too_long plan.grid file long.0 long.2) in
           let own : TooLong file ≡ refusal = cc in
-          subst Why own (record { texts = h.texts long.0; given = h.given long.0 long.1; refused = found }, λ kind is. cc)
-      by (Err slurp.OutOfMemory) e is = let own : OutOfMemory ≡ refusal = cc in subst Why own (tt, λ kind is. cc)
+          subst Why own (record { texts = h.texts long.0; given = h.given long.0 long.1; refused = found })
+      by (Err slurp.OutOfMemory) e is = let own : OutOfMemory ≡ refusal = cc in subst Why own tt
 
   pub not_read : (plan : PlanParts) (feeds : List F) (answers : List ReadAnswer) (sents : List (List Taken))
       (refusal : Refusal) → AreRead left is_sure failures plan.grid 0 feeds answers sents → refusal_in 0 answers ≡ Some refusal
       → IsNotCompiled plan (map left feeds) (HasFailed is_sure failures feeds) refusal
-      × ((kind : SettingsFault) → refusal ≡ Settings kind → ⊥)
   not_read plan feeds answers sents refusal h e =
       why_unread plan feeds refusal (MatchOption-at_some _ (IsFirstUnread plan.grid 0 feeds) refusal e
       (told plan.grid 0 feeds answers sents h))

@@ -1,21 +1,17 @@
 //! The first half of a run: from zone files to the instance.
 
-ghost use Rattle.std.specs.Prelude.{◌≡◌, ◌≢◌, ◌+◌, ◌≤◌, Err, length, map, IfErr, IfOk, IfSome, IsFalse};
+ghost use Rattle.std.specs.Prelude.{◌≡◌, ◌+◌, Err, length, map, IfErr, IfOk, IfSome};
 ghost use Rattle.mine_instance.specs.Valid.{IsValid};
 ghost use Rattle.pit_compile.specs.Compiling.{Compiles, IsCompiled, IsNotCompiled};
-ghost use Rattle.refusals.specs.declared.settings_fault.SettingsFault.{SettingsFault as ASettingsFault};
 ghost use Rattle.pit_compile.specs.Starts.{refused_start, SpendsStarts};
+ghost use Rattle.pit_compile.specs.Suits.{Suits};
 ghost use Rattle.pit_compile.specs.inner.Behind.{IsBehindThreads};
 ghost use Rattle.pit_compile.specs.inner.ReadAnswers.{refusal_in};
-ghost use Rattle.lane.specs.Whole.{IsWhole};
 ghost use Rattle.plan_parts.specs.Destinations.{formulas_of};
 ghost use Rattle.plan_parts.specs.PlanFormulas.{formulas_of_plan};
-ghost use Rattle.plan_parts.specs.declared.ranges.TheConstants.{MAX_VALUERS, MAX_ZONES};
-ghost use Rattle.run_threads.specs.Reading.{AreRead};
+ghost use Rattle.run_threads.specs.HandingOver.{IsHandedOver};
 ghost use Rattle.run_threads.specs.Refusing.{HasFailed};
 ghost use Rattle.run_threads.specs.Starts.{none_spent};
-ghost use Rattle.rows.specs.ItemsView.{items_in};
-ghost use Rattle.valuers.specs.Valuing.{items_by};
 
 use crate::collecting::collect;
 use crate::instance_building::instance_of_rows;
@@ -30,9 +26,8 @@ use plan_parts::formulas::destination::Destination;
 use plan_parts::plan::Plan;
 use precedence::FoundPreds;
 use refusals::refusal::Refusal;
-use run_threads::{Allowance, HandedOver, NoThread, Starts, hand_over};
+use run_threads::{Allowance, GivenFeeds, HandedOver, NoThread, Starts, hand_over};
 use std::alloc::Global;
-use std::snapshot::Snapshot;
 use std::sync::Wait;
 use std::thread::Threads;
 use valuers::Gate;
@@ -98,16 +93,15 @@ pub fn compile_with_starts<R: Threads + Wait + Sync, F: Feed + Send + Drop, G: G
         result }
 {
     require_settings(feeds.len(), plan, destinations, settings)?;
-    let given = Snapshot::of(&feeds);
     let allowance = Allowance {
         valuers: settings.valuers as u8,
         capacity: settings.capacity,
     };
-    let handed = match hand_over(alloc, feeds, plan, destinations, allowance, starts) {
-        Ok((handed, _given)) => handed,
+    let (handed, given) = match hand_over(alloc, feeds, plan, destinations, allowance, starts) {
+        Ok(made) => made,
         Err(fault) => return Err(refused_start(fault)),
     };
-    compiled_of(alloc, plan, given, handed)
+    compiled_of(alloc, plan, settings, handed, given)
 }
 
 // Why nothing was handed over.
@@ -121,36 +115,26 @@ fn refused_start(fault: OrMemory<NoThread>) -> Refusal
 }
 
 // What is compiled of what the threads handed over. Where the reader of a file did not finish, the first such file's answer is given, also
-// where a valuer was refused memory. Of `_feeds`, which the readers were given, only the contract speaks.
+// where a valuer was refused memory. Of `_settings`, and of the feeds `_given` that the readers had, only the contract speaks.
 fn compiled_of<F: Feed>(
     alloc: Global,
     plan: &Plan,
-    _feeds: Snapshot<Vec<F>>,
+    _settings: Settings,
     handed: HandedOver,
+    _given: GivenFeeds<F>,
 ) -> Result<Compiled, Refusal>
-    // Of a plan with as many zones as there were feeds, what the threads of a run promise.
-    requires files { length _feeds.value.items ≡ length plan.now.cones }
-    requires few { length plan.now.cones ≤ MAX_ZONES }
-    requires whole { IsWhole handed.gathered }
-    requires takers { length handed.gathered.took ≤ MAX_VALUERS }
-    requires read { AreRead F.left F.is_sure F.failures plan.now.grid 0 _feeds.value.items
-        handed.answers.items handed.gathered.sent }
-    requires valued { IsFalse handed.memory
-        → items_in handed.items.items ≡ map (items_by (formulas_of_plan plan.now)) handed.gathered.took }
-
-    // What is compiled.
-    ensures done { IfOk result
-        (IsCompiled plan.now (map F.left _feeds.value.items) (length handed.gathered.took)
-        handed.gathered.capacity) }
+    requires fit { Suits plan.now (length _given) (formulas_of_plan plan.now) _settings }
+    requires handed { IsHandedOver F.left F.is_sure F.failures plan.now _given
+        _settings.valuers _settings.capacity handed _given }
+    ensures done { IfOk result (IsCompiled plan.now (map F.left _given)
+        _settings.valuers _settings.capacity) }
     ensures valid { IfOk result (λ made. IsValid made.instance) }
 
-    // Why nothing is: never for the settings, and for the answer of a reader where one did not finish.
-    ensures settings { (kind : ASettingsFault) → result ≢ Err (Refusal.Settings kind) }
+    // Why nothing is: never for the settings or a start, and for the answer of a reader where one did not finish.
     ensures behind { IfErr result IsBehindThreads }
     ensures files { IfSome (refusal_in 0 handed.answers.items) (λ refusal. result ≡ Err refusal) }
-    ensures refused { IfErr result
-        (IsNotCompiled plan.now (map F.left _feeds.value.items)
-        (HasFailed F.is_sure F.failures _feeds.value.items)) }
+    ensures refused { IfErr result (IsNotCompiled plan.now (map F.left _given)
+        (HasFailed F.is_sure F.failures _given)) }
 {
     zone_files();
     let HandedOver {
