@@ -112,7 +112,7 @@ module _ (plan : PlanParts) (extents : List Extent) (tables : List ConeTable) (o
       slice_get-get_or plan.cones low.zone cone here ∙ ap (λ (c : Cone). Some c) own in
       let told = all_at (IsTold plan.grid plan.cones extents) tables (place low.zone) table has.told found.1 found.2 in
       rw (found.2, same) (blocks_where (is_in_rows (place_code low) table.rows.items) (is_above plan.grid cone low) 0 blocks
-      (λ j e within. told_is cone table.rows.items k j d e lt within told.in_order (told.each low.zone cone nowhere here own))))
+      (λ j e within. told_is cone table.rows.items k j d e lt within (10 ^ 15, table.in_order) (told.each low.zone cone nowhere here own))))
       (λ past. let below = has.below low.zone 0 (omega (arith, has.zones)) in absurd (omega (arith, past.0)))
       ((slice_get_cases tables (place low.zone)).1)
 
@@ -126,10 +126,6 @@ codes_small blocks = All-map (λ c. c < CODES) place_code blocks (λ k d lt. sma
   where
     small : (b : Block) → place_code b < CODES
     small b = omega (arith, b.x_in_grid, b.y_in_grid, b.z_in_grid)
-
-pub tables_in_order : (grid : Grid) (cones : List Cone) (extents : List Extent) (tables : List ConeTable) → All (IsTold grid cones extents) tables
-    → All (λ t. AreInOrder t.rows.items) tables
-tables_in_order grid cones extents tables told k d lt = (told k d lt).in_order
 
 -- what a search finds
 module _ (f : Inside) (keeps : KeepsFound f) where

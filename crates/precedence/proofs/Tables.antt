@@ -1,5 +1,5 @@
 -- Row by row and bench by bench, the rows of a cone tell which block lies above which.
-use Rattle.std.proofs.Common.{◌≡◌, ℕ, ◌+◌, ◌-◌, ◌*◌, ◌<◌, ◌≤◌, ◌&&◌, ◌||◌, Bool, true, false, List, [], ◌∷◌, ◌++◌, nat_lt, nat_le, max, min, refl, sym, ap, ◌∙◌, arith, ⊎_elim}
+use Rattle.std.proofs.Common.{◌≡◌, ℕ, ◌+◌, ◌-◌, ◌*◌, ◌^◌, ◌<◌, ◌≤◌, ◌&&◌, ◌||◌, Bool, true, false, List, [], ◌∷◌, ◌++◌, nat_lt, nat_le, max, min, refl, sym, ap, ◌∙◌, arith, ⊎_elim}
 use Rattle.std.proofs.Math.Bool.{and-false, or-false, or_assoc}
 use Rattle.std.proofs.lemmas.Bool.{cases_lt, lt-ltb, le-ltb, ltb-true, leb-true, and_parts}
 use Rattle.std.proofs.lemmas.Bool.Decides.{nat_tests}
@@ -33,6 +33,11 @@ apart_push low (r ∷ rows) high row up h le some past = (h.0, h.1, apart_push r
 pub apart_more : (low : ℕ) (rows : List Row) (high up : ℕ) → LieApart low rows high → high ≤ up → LieApart low rows up
 apart_more low [] high up h le = omega arith
 apart_more low (r ∷ rows) high up h le = (h.0, h.1, apart_more r.past rows high up h.2 le)
+
+-- no row is past further than all are
+pub apart_all : (low : ℕ) (rows : List Row) (high : ℕ) → low ≤ 10 ^ 15 → LieApart low rows high → LieApart low rows (10 ^ 15)
+apart_all low [] high le h = le
+apart_all low (row ∷ rows) high le h = (h.0, h.1, apart_all row.past rows high (omega (arith, row.small)) h.2)
 
 -- ---- where the codes of pairs of blocks lie
 

@@ -1,7 +1,6 @@
 pub mod Alike
 pub mod Arcs
 pub mod Beside
-pub mod CountedFields
 pub mod FoundFields
 pub mod Lists
 pub mod NumberingFields
@@ -9,6 +8,7 @@ pub mod PredsFields
 pub mod Reach
 pub mod Rest
 pub mod Rows
+pub mod RowsOnce
 pub mod Seen
 pub mod States
 pub mod Steps

@@ -1,5 +1,6 @@
 //! The rows of cones: how many blocks of each they take in, and their tables by zone.
 
+pub mod block_cones;
 pub mod bounds;
 pub mod cone_rows;
 pub mod cone_table;

@@ -4,7 +4,6 @@ use Rattle.std.proofs.lemmas.Bool.{cases_lt, le-ltb, lt-ltb}
 use Rattle.std.proofs.lemmas.List.{get_or_append_left, get_or_at, length-append}
 use Rattle.std.proofs.lemmas.Option.{slice_get-get_or}
 use Rattle.precedence.specs.inner.Rest.{IsRest}
-use Rattle.precedence.specs.inner.Rows.{AreInOrder}
 use Rattle.precedence.specs.inner.States.{rest_of, rows_of_state, AreStates, IsEdge}
 use Rattle.precedence.specs.inner.ZoneTables.{rows_of_table}
 use Rattle.precedence.specs.declared.cones.cone_rows.Row.{Row}
@@ -70,14 +69,8 @@ module _ (tables : List ConeTable) (states : List State) (more : State) where
   }
 
   -- one state more
-  pub state_more : (edges : List Edge) → AreInOrder more.rest.items → AreStates tables states edges → AreStates tables all edges
-  state_more edges order are = record {
-    in_order = λ k s lt. ⊎_elim
-        (λ old. subst (λ (x : State). AreInOrder x.rest.items) (sym (get_or_append_left states (more ∷ []) s k old)) (are.in_order k s old))
-        (λ new.
-        let last : length states ≡ k = omega (arith, new, lt, long) in
-        subst (λ (x : State). AreInOrder x.rest.items) (sym (get_or_at states more [] s k last)) order)
-        (cases_lt k (length states));
+  pub state_more : (edges : List Edge) → AreStates tables states edges → AreStates tables all edges
+  state_more edges are = record {
     follow = λ k e lt. edge_stays (get_or edges k e) (are.follow k e lt);
   }
 
@@ -96,7 +89,6 @@ module _ (tables : List ConeTable) (states : List State) (more : State) where
 pub edge_more : (tables : List ConeTable) (states : List State) (edges : List Edge) (more : Edge) → IsEdge tables states more
     → AreStates tables states edges → AreStates tables states (edges ++ more ∷ [])
 edge_more tables states edges more is are = record {
-  in_order = are.in_order;
   follow = λ k e lt.
       let long = length-append edges (more ∷ []) in
       ⊎_elim
@@ -110,6 +102,5 @@ edge_more tables states edges more is are = record {
 -- none at all
 pub no_state : (tables : List ConeTable) → AreStates tables [] []
 no_state tables = record {
-  in_order = λ k s lt. absurd (omega arith);
   follow = λ k e lt. absurd (omega arith);
 }

@@ -1,7 +1,6 @@
 -- The states of walks over cones, and how they follow one another.
-use Rattle.std.specs.Prelude.{ℕ, ◌+◌, ◌-◌, ◌<◌, List, [], Option, Some, None, All, length, nat_lt, slice_get, slice_index_or, if◌then◌else◌}
-use Rattle.precedence.specs.inner.Rest.{IsRest}
-use Rattle.precedence.specs.inner.Rows.{AreInOrder}
+use Rattle.std.specs.Prelude.{ℕ, ◌+◌, ◌-◌, ◌<◌, List, [], Option, Some, None, length, nat_lt, slice_get, slice_index_or, if◌then◌else◌}
+use Rattle.precedence.specs.inner.Rest.{IsRest, IsRestBehind}
 use Rattle.precedence.specs.inner.ZoneTables.{rows_of_table}
 use Rattle.precedence.specs.declared.cones.cone_rows.Row.{Row}
 use Rattle.precedence.specs.declared.cones.cone_table.ConeTable.{ConeTable}
@@ -23,7 +22,12 @@ pub record IsEdge (tables : List ConeTable) (states : List State) (e : Edge) : T
   pub next : e.next < length tables + length states
   pub rest : IsRest (rest_of tables states e.state) e.gap (rows_of_table (slice_get tables e.table)) (rest_of tables states e.next)
 
--- the rows of each state that was made lie in order, and each edge leads to what is left
+-- among the states `more` this one follows from a state of `states`, where the block that is found first, at a distance, has the cone of a
+-- table
+pub record IsNext (tables : List ConeTable) (states : List State) (state gap table : ℕ) (more : List State) (next : ℕ) : Type 0 where
+  pub within : next < length tables + length more
+  pub rest : IsRestBehind (rest_of tables states state) gap (rows_of_table (slice_get tables table)) (rest_of tables more next)
+
+-- each edge leads to what is left
 pub record AreStates (tables : List ConeTable) (states : List State) (edges : List Edge) : Type 0 where
-  pub in_order : All (λ s. AreInOrder s.rest.items) states
   pub follow : (k : ℕ) (e : Edge) → k < length edges → IsEdge tables states (slice_index_or edges k e)

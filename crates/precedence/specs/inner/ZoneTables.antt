@@ -3,7 +3,7 @@ use Rattle.std.specs.Prelude.{◌≡◌, ℕ, ◌<◌, ◌≤◌, List, [], Opti
 use Rattle.plan_parts.specs.declared.block.Block.{Block}
 use Rattle.plan_parts.specs.declared.cone.Cone.{Cone}
 use Rattle.plan_parts.specs.declared.grid.Grid.{Grid}
-use Rattle.precedence.specs.inner.Rows.{AreInOrder, IsTable}
+use Rattle.precedence.specs.inner.Rows.{IsTable}
 use Rattle.precedence.specs.declared.cones.bounds.Bounds.{Bounds}
 use Rattle.precedence.specs.declared.cones.cone_table.ConeTable.{ConeTable}
 use Rattle.precedence.specs.declared.cones.cone_rows.Extent.{Extent}
@@ -22,9 +22,15 @@ pub record IsWider (extent other : Extent) : Type 0 where
 
 -- the table tells of each zone that has its cone, as far as that zone needs it
 pub record IsTold (grid : Grid) (cones : List Cone) (extents : List Extent) (table : ConeTable) : Type 0 where
-  pub in_order : AreInOrder table.rows.items
   pub each : (z : ℕ) (cone : Cone) (e : Extent) → z < length cones → slice_index_or cones z cone ≡ table.cone
       → IsTable grid table.cone (slice_index_or extents z e) table.rows.items
+
+-- the table of a cone is at a place, and those before are as they were
+pub record HasTableAt (cone : Cone) (old new : List ConeTable) (place : ℕ) : Type 0 where
+  pub within : place < length new
+  pub cone_is : (t : ConeTable) → (slice_index_or new place t).cone ≡ cone
+  pub more : length old ≤ length new
+  pub kept : (k : ℕ) (t : ConeTable) → k < length old → slice_index_or new k t ≡ slice_index_or old k t
 
 -- zone by zone, the table at the zone's index is that of its cone
 pub record HasTables (grid : Grid) (cones : List Cone) (extents : List Extent) (tables : List ConeTable) (of_zone : List ℕ) : Type 0 where

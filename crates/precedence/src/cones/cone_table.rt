@@ -1,8 +1,9 @@
 //! The table of a cone.
 
-ghost use Rattle.std.specs.Prelude.{◌≡◌};
+ghost use Rattle.std.specs.Prelude.{◌≡◌, ◌^◌};
 ghost use Rattle.precedence.specs.inner.Beside.{AreNoWider};
-ghost use Rattle.precedence.specs.inner.Rows.{pasts};
+ghost use Rattle.precedence.specs.inner.Rows.{pasts, LieApart};
+ghost use Rattle.precedence.specs.inner.RowsOnce.{LieApart-prop};
 
 use crate::cones::cone_rows::{Row, Widths};
 use plan_parts::cone::Cone;
@@ -19,6 +20,7 @@ pub struct ConeTable {
     pub widest: usize,
     /// The number of rows in the tables before, where the hints for its own begin.
     pub start: usize,
+    pub ghost in_order: { LieApart 0 rows.items (10 ^ 15) } by { LieApart-prop 0 rows.items (10 ^ 15) },
     pub ghost all_past: { past.items ≡ pasts rows.items },
     pub ghost no_wider: { AreNoWider widths rows.items },
 }

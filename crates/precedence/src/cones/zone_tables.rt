@@ -1,9 +1,9 @@
 //! The tables of the cones of all zones.
 
-ghost use Rattle.std.specs.Prelude.{◌≡◌, ℕ, ◌<◌, ◌≤◌, IfOk, IfSome, OnOk, Some, All, length, slice_get, slice_index, slice_index_or};
+ghost use Rattle.std.specs.Prelude.{◌≡◌, ◌<◌, IfOk, IfSome, OnOk, Some, All, length, slice_get, slice_index, slice_index_or};
 ghost use Rattle.plan_parts.specs.PlanKept.{IsCone, IsGrid};
 ghost use Rattle.precedence.specs.inner.Rows.{pasts};
-ghost use Rattle.precedence.specs.inner.ZoneTables.{HasTables, IsTold};
+ghost use Rattle.precedence.specs.inner.ZoneTables.{HasTableAt, HasTables, IsTold};
 ghost use Rattle.precedence.specs.declared.cones.cone_table.ConeTable.{ConeTable};
 
 use crate::cones::bounds::extent_for;
@@ -20,13 +20,13 @@ use std::alloc::{AllocError, Global};
 pub struct ZoneTables {
     pub tables: Vec<ConeTable>,
     pub of_zone: Vec<usize>,
+    pub ghost below: { All (λ t. t < length tables.items) of_zone.items },
 }
 
 impl ZoneTables {
     /// The table of a zone's cone.
     pub fn of(&self, zone: u8) -> &ConeTable
-        requires zone { zone < length self.now.of_zone.items }
-        requires below { All (λ t. t < length self.now.tables.items) self.now.of_zone.items }
+        requires { zone < length self.now.of_zone.items }
         ensures { slice_get self.now.tables.items (slice_index self.now.of_zone.items zone)
             ≡ Some result.now }
     {
@@ -74,12 +74,7 @@ fn place_of(
     requires each { length extents.now ≡ length cones.now }
     requires told { All (IsTold grid cones.now extents.now) tables.old.items }
     ensures told { OnOk result (All (IsTold grid cones.now extents.now) tables.new.items) }
-    ensures within { IfOk result (λ place. place < length tables.new.items) }
-    ensures cone { IfOk result (λ place. (t : ConeTable)
-        → (slice_index_or tables.new.items place t).cone ≡ cone) }
-    ensures more { OnOk result (length tables.old.items ≤ length tables.new.items) }
-    ensures kept { OnOk result ((k : ℕ) (t : ConeTable) → k < length tables.old.items
-        → slice_index_or tables.new.items k t ≡ slice_index_or tables.old.items k t) }
+    ensures has { IfOk result (HasTableAt cone tables.old.items tables.new.items) }
 {
     if let Some(place) = find_cone(tables.as_slice(), cone) {
         return Ok(place);

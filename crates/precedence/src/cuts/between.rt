@@ -2,48 +2,33 @@
 
 ghost use Rattle.std.specs.Prelude.{◌≡◌, ◌<◌, ℕ, false, All, IsTrue, length, max, min};
 ghost use Rattle.precedence.specs.inner.Alike.{AreAlike};
-ghost use Rattle.precedence.specs.inner.Rows.{AreInOrder};
-ghost use Rattle.precedence.specs.inner.Steps.{cone_of, IsBetween, IsBetweenOf, LiesThere};
+ghost use Rattle.precedence.specs.inner.Steps.{codes_in, IsBetweenOf, LiesBetween, LiesThere};
 ghost use Rattle.precedence.specs.declared.places.code.TheConstants.{CODES};
 
+use crate::cones::block_cones::BlockCones;
 use crate::cones::cone_table::ConeTable;
-use crate::cones::zone_tables::ZoneTables;
 use crate::cuts::stretches::{Stretch, next_above, next_below};
 use crate::places::Places;
 use crate::places::start_of::start_of;
 use std::cell::Cell;
 
-/// Whether a block lies between two. `alike` tells of each block how many from it on are alike.
-pub fn has_between(
-    places: &Places,
-    zones: &[u8],
-    alike: &[u16],
-    tables: &ZoneTables,
-    low: u32,
-    high: u32,
-) -> bool
-    requires each { length zones.now ≡ length places.now.codes.items }
-    requires zones { All (λ z. z < length tables.now.of_zone.items) zones.now }
-    requires alike { AreAlike places.now.codes.items tables.now.of_zone.items zones.now alike.now }
-    requires below { All (λ t. t < length tables.now.tables.items) tables.now.of_zone.items }
-    requires in_order { All (λ t. AreInOrder t.rows.items) tables.now.tables.items }
-    requires low { low < length places.now.codes.items }
-    requires high { high < length places.now.codes.items }
-    ensures some { IsTrue result → (d : ℕ) × (IsBetween places.now.codes.items
-        (cone_of tables.now.tables.items tables.now.of_zone.items zones.now) low high d) }
-    ensures none { result ≡ false → (d : ℕ) → IsBetween places.now.codes.items
-        (cone_of tables.now.tables.items tables.now.of_zone.items zones.now) low high d → ⊥ }
+/// Whether a block lies between two.
+pub fn has_between(cones: &BlockCones<'_>, low: u32, high: u32) -> bool
+    requires low { low < length (codes_in cones.now) }
+    requires high { high < length (codes_in cones.now) }
+    ensures some { IsTrue result → (d : ℕ) × LiesBetween cones.now low high d }
+    ensures none { result ≡ false → (d : ℕ) → LiesBetween cones.now low high d → ⊥ }
 {
-    let from = places.codes[low as usize];
-    let to = places.codes[high as usize];
-    let own = tables.of(zones[low as usize]);
-    for number in 0..tables.tables.len() {
-        let table = &tables.tables[number];
+    let from = cones.places.codes[low as usize];
+    let to = cones.places.codes[high as usize];
+    let own = cones.tables.of(cones.zones[low as usize]);
+    for number in 0..cones.tables.tables.len() {
+        let table = &cones.tables.tables[number];
         if has_of_table(
-            places,
-            zones,
-            alike,
-            tables.of_zone.as_slice(),
+            cones.places,
+            cones.zones,
+            cones.alike,
+            cones.tables.of_zone.as_slice(),
             own,
             from,
             number,
@@ -76,8 +61,6 @@ fn has_of_table(
     requires each { length zones.now ≡ length places.now.codes.items }
     requires zones { All (λ z. z < length of_zone.now) zones.now }
     requires alike { AreAlike places.now.codes.items of_zone.now zones.now alike.now }
-    requires own { AreInOrder own.now.rows.items }
-    requires table { AreInOrder table.now.rows.items }
     requires from { from < CODES }
     requires to { to < CODES }
     ensures some { IsTrue result → (d : ℕ) × (IsBetweenOf places.now.codes.items of_zone.now zones.now

@@ -1,16 +1,15 @@
 //! Runs of identifiers that lie in the cones of blocks that are found.
 
-ghost use Rattle.std.specs.Prelude.{◌≡◌, ◌+◌, ◌<◌, ◌≤◌, ℕ, true, false, All, length, slice_index, slice_index_or};
+ghost use Rattle.std.specs.Prelude.{◌≡◌, ◌+◌, ◌<◌, ◌≤◌, ℕ, true, false, All, length, slice_index};
 ghost use Rattle.std.specs.List.Sorted.{IsStrictlyIncreasing};
 ghost use Rattle.precedence.specs.inner.Rows.{AreInOrder, LieFrom};
-ghost use Rattle.precedence.specs.inner.Steps.{cone_of, is_behind_id};
+ghost use Rattle.precedence.specs.inner.Steps.{codes_in, is_behind, tables_in, IsCovered};
 ghost use Rattle.precedence.specs.declared.cones.cone_table.ConeTable.{ConeTable};
 
+use crate::cones::block_cones::BlockCones;
 use crate::cones::cone_rows::Row;
 use crate::cones::cone_table::ConeTable;
-use crate::cones::zone_tables::ZoneTables;
 use crate::lists::runs_from::run_in_rows;
-use crate::places::Places;
 use std::cell::Cell;
 
 /// Where a block was covered last: by which of those found, in the order that they were found, and in which row of its cone. Both are
@@ -33,45 +32,26 @@ pub fn no_cover() -> Cover {
 /// More may follow than are told. No cone begins nearer to its block than at the distance `nearest`.
 pub fn run_covered(
     found: &[u32],
-    places: &Places,
-    zones: &[u8],
-    tables: &ZoneTables,
+    cones: &BlockCones<'_>,
     id: u32,
     nearest: u64,
     cover: &Cover,
 ) -> u32
-    requires each { length zones.now ≡ length places.now.codes.items }
-    requires zones { All (λ z. z < length tables.now.of_zone.items) zones.now }
-    requires below { All (λ t. t < length tables.now.tables.items) tables.now.of_zone.items }
-    requires in_order { All (λ t. AreInOrder t.rows.items) tables.now.tables.items }
-    requires nearest { All (λ t. LieFrom nearest t.rows.items) tables.now.tables.items }
+    requires nearest { All (λ t. LieFrom nearest t.rows.items) (tables_in cones.now) }
     requires rising { IsStrictlyIncreasing found.now }
-    requires found { All (λ d. d < length places.now.codes.items) found.now }
-    requires id { id < length places.now.codes.items }
-    ensures within { id + result ≤ length places.now.codes.items }
-    ensures covered { (k : ℕ) → k < result → (j : ℕ) × (j < length found.now)
-        × (is_behind_id places.now.codes.items (cone_of tables.now.tables.items tables.now.of_zone.items zones.now)
-        (slice_index found.now j) (id + k) ≡ true) }
+    requires found { All (λ d. d < length (codes_in cones.now)) found.now }
+    requires id { id < length (codes_in cones.now) }
+    ensures within { id + result ≤ length (codes_in cones.now) }
+    ensures covered { (k : ℕ) → k < result → IsCovered cones.now found.now (id + k) }
     ensures none { result ≡ 0 → (j : ℕ) → j < length found.now
-        → is_behind_id places.now.codes.items (cone_of tables.now.tables.items tables.now.of_zone.items zones.now)
-        (slice_index found.now j) id ≡ false }
+        → is_behind cones.now (slice_index found.now j) id ≡ false }
 {
     let start = cover.found.get().min(found.len());
-    let run = run_covered_by(
-        found,
-        start,
-        found.len(),
-        places,
-        zones,
-        tables,
-        id,
-        nearest,
-        cover,
-    );
+    let run = run_covered_by(found, start, found.len(), cones, id, nearest, cover);
     if run > 0 {
         return run;
     }
-    run_covered_by(found, 0, start, places, zones, tables, id, nearest, cover)
+    run_covered_by(found, 0, start, cones, id, nearest, cover)
 }
 
 // The same of those found from the place `begin` on and before `end`.
@@ -79,39 +59,30 @@ fn run_covered_by(
     found: &[u32],
     begin: usize,
     end: usize,
-    places: &Places,
-    zones: &[u8],
-    tables: &ZoneTables,
+    cones: &BlockCones<'_>,
     id: u32,
     nearest: u64,
     cover: &Cover,
 ) -> u32
-    requires each { length zones.now ≡ length places.now.codes.items }
-    requires zones { All (λ z. z < length tables.now.of_zone.items) zones.now }
-    requires below { All (λ t. t < length tables.now.tables.items) tables.now.of_zone.items }
-    requires in_order { All (λ t. AreInOrder t.rows.items) tables.now.tables.items }
-    requires nearest { All (λ t. LieFrom nearest t.rows.items) tables.now.tables.items }
+    requires nearest { All (λ t. LieFrom nearest t.rows.items) (tables_in cones.now) }
     requires rising { IsStrictlyIncreasing found.now }
-    requires found { All (λ d. d < length places.now.codes.items) found.now }
-    requires id { id < length places.now.codes.items }
+    requires found { All (λ d. d < length (codes_in cones.now)) found.now }
+    requires id { id < length (codes_in cones.now) }
     requires begin { begin ≤ end }
     requires end { end ≤ length found.now }
-    ensures within { id + result ≤ length places.now.codes.items }
-    ensures covered { (k : ℕ) → k < result → (j : ℕ) × (j < length found.now)
-        × (is_behind_id places.now.codes.items (cone_of tables.now.tables.items tables.now.of_zone.items zones.now)
-        (slice_index found.now j) (id + k) ≡ true) }
+    ensures within { id + result ≤ length (codes_in cones.now) }
+    ensures covered { (k : ℕ) → k < result → IsCovered cones.now found.now (id + k) }
     ensures none { result ≡ 0 → (j : ℕ) → begin ≤ j → j < end
-        → is_behind_id places.now.codes.items (cone_of tables.now.tables.items tables.now.of_zone.items zones.now)
-        (slice_index found.now j) id ≡ false }
+        → is_behind cones.now (slice_index found.now j) id ≡ false }
 {
-    let code = places.codes[id as usize];
+    let code = cones.places.codes[id as usize];
     for place in begin..end {
         let block = found[place];
         // This cone lies behind, and so do those of all blocks behind this one.
-        if code < places.codes[block as usize].saturating_add(nearest) {
+        if code < cones.places.codes[block as usize].saturating_add(nearest) {
             return 0;
         }
-        let run = run_in_cone(places, zones, tables, block, id, &cover.row);
+        let run = run_in_cone(cones, block, id, &cover.row);
         if run > 0 {
             cover.found.set(place);
             return run;
@@ -121,39 +92,31 @@ fn run_covered_by(
 }
 
 // How many identifiers from `id` on lie in a row of the cone of a block: 0 where `id` lies in none.
-fn run_in_cone(
-    places: &Places,
-    zones: &[u8],
-    tables: &ZoneTables,
-    block: u32,
-    id: u32,
-    row: &Cell<usize>,
-) -> u32
-    requires each { length zones.now ≡ length places.now.codes.items }
-    requires zones { All (λ z. z < length tables.now.of_zone.items) zones.now }
-    requires below { All (λ t. t < length tables.now.tables.items) tables.now.of_zone.items }
-    requires in_order { All (λ t. AreInOrder t.rows.items) tables.now.tables.items }
-    requires block { block < length places.now.codes.items }
-    requires id { id < length places.now.codes.items }
-    ensures within { id + result ≤ length places.now.codes.items }
-    ensures all { (k : ℕ) → k < result
-        → is_behind_id places.now.codes.items (cone_of tables.now.tables.items tables.now.of_zone.items zones.now)
-        block (id + k) ≡ true }
-    ensures none { result ≡ 0
-        → is_behind_id places.now.codes.items (cone_of tables.now.tables.items tables.now.of_zone.items zones.now)
-        block id ≡ false }
+fn run_in_cone(cones: &BlockCones<'_>, block: u32, id: u32, row: &Cell<usize>) -> u32
+    requires block { block < length (codes_in cones.now) }
+    requires id { id < length (codes_in cones.now) }
+    ensures within { id + result ≤ length (codes_in cones.now) }
+    ensures all { (k : ℕ) → k < result → is_behind cones.now block (id + k) ≡ true }
+    ensures none { result ≡ 0 → is_behind cones.now block id ≡ false }
 {
-    let zone = zones[block as usize];
-    let from = places.codes[block as usize];
-    let most = (places.codes.len() - id as usize) as u32;
-    let table = tables.of(zone);
+    let zone = cones.zones[block as usize];
+    let from = cones.places.codes[block as usize];
+    let most = (cones.places.codes.len() - id as usize) as u32;
+    let table = cones.tables.of(zone);
     let rows = table.rows.as_slice();
-    run_in_rows(places, rows, table.past.as_slice(), from, id, most, row)
+    run_in_rows(
+        cones.places,
+        rows,
+        table.past.as_slice(),
+        from,
+        id,
+        most,
+        row,
+    )
 }
 
 /// How far the first row of a cone is away from its block at the least.
 pub fn nearest_first(tables: &[ConeTable]) -> u64
-    requires { All (λ t. AreInOrder t.rows.items) tables.now }
     ensures { All (λ t. LieFrom result t.rows.items) tables.now }
 {
     let mut nearest = u64::MAX;

@@ -1,14 +1,16 @@
 //! The first block that lies in rows.
 
-ghost use Rattle.std.specs.Prelude.{◌≡◌, ◌-◌, ◌<◌, ◌≤◌, ℕ, true, false, None, IfSome, IsTrue, length, slice_index};
+ghost use Rattle.std.specs.Prelude.{◌≡◌, ◌-◌, ◌<◌, ◌≤◌, ℕ, false, None, IfSome, IsTrue, length, slice_index};
 ghost use Rattle.std.specs.List.Sorted.{IsStrictlyIncreasing};
-ghost use Rattle.precedence.specs.inner.Beside.{AreNoWider, IsNoWider};
-ghost use Rattle.precedence.specs.inner.Rows.{is_in_row, is_in_rows, pasts, AreInOrder};
+ghost use Rattle.precedence.specs.inner.Beside.{IsNoWider};
+ghost use Rattle.precedence.specs.inner.Rows.{is_in_row, is_in_rows};
+ghost use Rattle.precedence.specs.inner.Steps.{IsFirstIn};
 ghost use Rattle.precedence.specs.declared.cones.cone_rows.Row.{Row};
 ghost use Rattle.precedence.specs.declared.places.code.TheConstants.{CODES};
 ghost use Rattle.plan_parts.specs.declared.ranges.TheConstants.{MAX_BLOCKS};
 
-use crate::cones::cone_rows::{Row, Widths};
+use crate::cones::cone_rows::Widths;
+use crate::cuts::state_rows::StateRows;
 use crate::lists::beside::{Behind, ByChunk, PassBlocks};
 use crate::lists::row_runs::{Hint, next_row};
 use crate::places::Places;
@@ -22,34 +24,24 @@ pub struct Reached {
     pub row: usize,
 }
 
-/// The first identifier from the one that was reached on whose code lies in the rows, seen from the code `from`. `past` has the end of
-/// each row, and the rows are no wider than `widths`. The hints, one for each row, are guesses of where it begins.
+/// The first identifier from the one that was reached on whose code lies in the rows that are left, seen from the code `from`.
 #[inline(always)]
 pub fn first_in_rows(
     places: &Places,
-    rows: &[Row],
-    past: &[u64],
-    widths: &Widths,
-    hints: &[Cell<Hint>],
+    left: &StateRows<'_>,
     from: u64,
     reached: Reached,
 ) -> Option<Reached>
-    requires in_order { AreInOrder rows.now }
-    requires past { past.now ≡ pasts rows.now }
-    requires widths { AreNoWider widths.now rows.now }
     requires reached { reached.id < length places.now.codes.items }
     requires from { from < CODES }
-    ensures within { IfSome result (λ f. f.id < length places.now.codes.items) }
-    ensures later { IfSome result (λ f. reached.id ≤ f.id) }
-    ensures above { IfSome result (λ f. from ≤ slice_index places.now.codes.items f.id) }
-    ensures some { IfSome result
-        (λ f. is_in_rows from rows.now (slice_index places.now.codes.items f.id) ≡ true) }
-    ensures least { IfSome result (λ f. (y : ℕ) → reached.id ≤ y → y < f.id
-        → is_in_rows from rows.now (slice_index places.now.codes.items y) ≡ false) }
+    ensures found { IfSome result
+        (λ f. IsFirstIn places.now.codes.items from left.now.rows.now reached.id f.id) }
     ensures none { result ≡ None → (y : ℕ) → reached.id ≤ y → y < length places.now.codes.items
-        → is_in_rows from rows.now (slice_index places.now.codes.items y) ≡ false }
+        → is_in_rows from left.now.rows.now (slice_index places.now.codes.items y) ≡ false }
 {
     let codes = places.codes.as_slice();
+    let rows = left.rows;
+    let past = left.past;
     let mut behind = Behind {
         id: reached.id as u32,
         retry: first_try(places),
@@ -57,11 +49,11 @@ pub fn first_in_rows(
     let mut i = row_reached(codes, past, from, reached);
     while i < rows.len() {
         let row = rows[i];
-        let id = first_from(codes, hints, i, behind.id as usize, from + row.first);
+        let id = first_from(codes, left.hints, i, behind.id as usize, from + row.first);
         if is_below(codes, id, from + row.past) {
             return Some(Reached { id, row: i });
         }
-        behind = behind_none(places, past, widths, i, id, behind.retry, from);
+        behind = behind_none(places, past, left.widths, i, id, behind.retry, from);
         i = next_row(places, past, i, behind.id as usize, from);
     }
     None

@@ -1,8 +1,9 @@
 //! States of walks over cones. Definitions name these types, and so no function stands beside them.
 
-ghost use Rattle.std.specs.Prelude.{◌≡◌};
+ghost use Rattle.std.specs.Prelude.{◌≡◌, ◌^◌};
 ghost use Rattle.precedence.specs.inner.Beside.{AreNoWider};
-ghost use Rattle.precedence.specs.inner.Rows.{pasts};
+ghost use Rattle.precedence.specs.inner.Rows.{pasts, LieApart};
+ghost use Rattle.precedence.specs.inner.RowsOnce.{LieApart-prop};
 
 use crate::cones::cone_rows::{Row, Widths};
 use crate::lists::row_runs::Hint;
@@ -17,6 +18,7 @@ pub struct State {
     pub widths: Widths,
     /// Where each row was found to begin last: guesses.
     pub hints: Vec<Cell<Hint>>,
+    pub ghost in_order: { LieApart 0 rest.items (10 ^ 15) } by { LieApart-prop 0 rest.items (10 ^ 15) },
     pub ghost all_past: { past.items ≡ pasts rest.items },
     pub ghost no_wider: { AreNoWider widths rest.items },
 }

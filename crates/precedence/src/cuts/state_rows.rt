@@ -1,8 +1,9 @@
 //! What is left of a cone in a state.
 
-ghost use Rattle.std.specs.Prelude.{◌≡◌, ◌+◌, ◌<◌, All, length};
+ghost use Rattle.std.specs.Prelude.{◌≡◌, ◌+◌, ◌<◌, ◌^◌, length};
 ghost use Rattle.precedence.specs.inner.Beside.{AreNoWider};
-ghost use Rattle.precedence.specs.inner.Rows.{pasts, AreInOrder};
+ghost use Rattle.precedence.specs.inner.Rows.{pasts, LieApart};
+ghost use Rattle.precedence.specs.inner.RowsOnce.{LieApart-prop};
 ghost use Rattle.precedence.specs.inner.States.{rest_of};
 
 use crate::cones::cone_rows::{Row, Widths};
@@ -11,7 +12,7 @@ use crate::cuts::state::State;
 use crate::lists::row_runs::Hint;
 use std::cell::Cell;
 
-/// The rows that are left in a state, lent.
+/// The rows that are left in a state, lent. They lie in order.
 #[derive(Clone, Copy, Drop)]
 pub struct StateRows<'a> {
     pub rows: &'a [Row],
@@ -20,6 +21,9 @@ pub struct StateRows<'a> {
     pub widths: &'a Widths,
     /// Where each was found to begin last: guesses.
     pub hints: &'a [Cell<Hint>],
+    pub ghost in_order: { LieApart 0 rows.now (10 ^ 15) } by { LieApart-prop 0 rows.now (10 ^ 15) },
+    pub ghost all_past: { past.now ≡ pasts rows.now },
+    pub ghost no_wider: { AreNoWider widths.now rows.now },
 }
 
 /// What is left in a state. The hints are those of all rows of the tables.
@@ -30,13 +34,8 @@ pub fn rows_at<'a>(
     hints: &'a [Cell<Hint>],
     state: usize,
 ) -> StateRows<'a>
-    requires tables { All (λ t. AreInOrder t.rows.items) tables.now }
-    requires states { All (λ s. AreInOrder s.rest.items) states.now }
-    requires state { state < length tables.now + length states.now }
-    ensures rows { result.rows.now ≡ rest_of tables.now states.now state }
-    ensures in_order { AreInOrder result.rows.now }
-    ensures past { result.past.now ≡ pasts result.rows.now }
-    ensures widths { AreNoWider result.widths.now result.rows.now }
+    requires { state < length tables.now + length states.now }
+    ensures { result.rows.now ≡ rest_of tables.now states.now state }
 {
     if state < tables.len() {
         rows_of_table(&tables[state], hints)
@@ -48,9 +47,7 @@ pub fn rows_at<'a>(
 // The whole cone of a table.
 #[inline(always)]
 fn rows_of_table<'a>(table: &'a ConeTable, hints: &'a [Cell<Hint>]) -> StateRows<'a>
-    ensures rows { result.rows.now ≡ table.now.rows.items }
-    ensures past { result.past.now ≡ pasts result.rows.now }
-    ensures widths { AreNoWider result.widths.now result.rows.now }
+    ensures { result.rows.now ≡ table.now.rows.items }
 {
     StateRows {
         rows: table.rows.as_slice(),
@@ -63,9 +60,7 @@ fn rows_of_table<'a>(table: &'a ConeTable, hints: &'a [Cell<Hint>]) -> StateRows
 // What is left in a state that was made.
 #[inline(always)]
 fn rows_of_state(state: &State) -> StateRows<'_>
-    ensures rows { result.rows.now ≡ state.now.rest.items }
-    ensures past { result.past.now ≡ pasts result.rows.now }
-    ensures widths { AreNoWider result.widths.now result.rows.now }
+    ensures { result.rows.now ≡ state.now.rest.items }
 {
     StateRows {
         rows: state.rest.as_slice(),

@@ -1,10 +1,8 @@
 //! Going from one state of a walk to the next, which is made where it is lacking.
 
-ghost use Rattle.std.specs.Prelude.{◌≡◌, ◌+◌, ◌<◌, ◌≤◌, ◌^◌, [], None, All, IfOk, IfSome, length, slice_get};
-ghost use Rattle.precedence.specs.inner.Rest.{IsRestBehind};
+ghost use Rattle.std.specs.Prelude.{◌≡◌, ◌+◌, ◌<◌, ◌^◌, [], None, IfOk, IfSome, length};
 ghost use Rattle.precedence.specs.inner.Rows.{pasts, AreInOrder};
-ghost use Rattle.precedence.specs.inner.States.{rest_of, AreStates};
-ghost use Rattle.precedence.specs.inner.ZoneTables.{rows_of_table};
+ghost use Rattle.precedence.specs.inner.States.{AreStates, IsNext};
 
 use crate::cones::cone_rows::Row;
 use crate::cones::cone_table::ConeTable;
@@ -107,18 +105,13 @@ pub fn next_state(
     table: usize,
     hashes: usize,
 ) -> Result<Option<usize>, AllocError>
-    requires in_order { All (λ t. AreInOrder t.rows.items) tables.now }
     requires states { AreStates tables.now states.old.states.items states.old.edges.items }
     requires state { state < length tables.now + length states.old.states.items }
     requires table { table < length tables.now }
     requires gap { gap < 10 ^ 15 }
     ensures states { AreStates tables.now states.new.states.items states.new.edges.items }
-    ensures within { IfOk result (λ next. IfSome next
-        (λ n. n < length tables.now + length states.new.states.items)) }
-    ensures rest { IfOk result (λ next. IfSome next (λ n. IsRestBehind
-        (rest_of tables.now states.old.states.items state) gap
-        (rows_of_table (slice_get tables.now table))
-        (rest_of tables.now states.new.states.items n))) }
+    ensures next { IfOk result (λ next. IfSome next
+        (IsNext tables.now states.old.states.items state gap table states.new.states.items)) }
     ensures kept { IfOk result (λ next. next ≡ None
         → states.new.states.items ≡ states.old.states.items) }
 {
@@ -140,13 +133,9 @@ fn made_state(
     gap: u64,
     table: usize,
 ) -> Option<usize>
-    requires states { AreStates tables.now states.now.states.items states.now.edges.items }
-    ensures within { IfSome result
-        (λ next. next < length tables.now + length states.now.states.items) }
-    ensures rest { IfSome result (λ next. IsRestBehind
-        (rest_of tables.now states.now.states.items state) gap
-        (rows_of_table (slice_get tables.now table))
-        (rest_of tables.now states.now.states.items next)) }
+    requires { AreStates tables.now states.now.states.items states.now.edges.items }
+    ensures { IfSome result
+        (IsNext tables.now states.now.states.items state gap table states.now.states.items) }
 {
     let mut number = newest_edge(states, hash_of(state, gap, table));
     while number < states.edges.len() {
@@ -200,18 +189,13 @@ fn add_state(
     table: usize,
     hashes: usize,
 ) -> Result<Option<usize>, AllocError>
-    requires in_order { All (λ t. AreInOrder t.rows.items) tables.now }
     requires states { AreStates tables.now states.old.states.items states.old.edges.items }
     requires state { state < length tables.now + length states.old.states.items }
     requires table { table < length tables.now }
     requires gap { gap < 10 ^ 15 }
     ensures states { AreStates tables.now states.new.states.items states.new.edges.items }
-    ensures within { IfOk result (λ next. IfSome next
-        (λ n. n < length tables.now + length states.new.states.items)) }
-    ensures rest { IfOk result (λ next. IfSome next (λ n. IsRestBehind
-        (rest_of tables.now states.old.states.items state) gap
-        (rows_of_table (slice_get tables.now table))
-        (rest_of tables.now states.new.states.items n))) }
+    ensures next { IfOk result (λ next. IfSome next
+        (IsNext tables.now states.old.states.items state gap table states.new.states.items)) }
     ensures kept { IfOk result (λ next. next ≡ None
         → states.new.states.items ≡ states.old.states.items) }
 {

@@ -1,14 +1,11 @@
 //! Walks over cones, from one predecessor that is found to the next.
 
-ghost use Rattle.std.specs.Prelude.{◌≡◌, ◌+◌, ◌<◌, ◌++◌, [], ◌∷◌, None, All, IfOk, IfSome, OnOk, length, slice_get};
-ghost use Rattle.precedence.specs.inner.Beside.{AreNoWider};
-ghost use Rattle.precedence.specs.inner.Rows.{pasts, AreInOrder};
-ghost use Rattle.precedence.specs.inner.States.{rest_of, AreStates};
-ghost use Rattle.precedence.specs.inner.Steps.{cone_of, HasEnded, IsWalkedTo};
-ghost use Rattle.precedence.specs.inner.ZoneTables.{rows_of_table};
+ghost use Rattle.std.specs.Prelude.{◌≡◌, ◌+◌, ◌<◌, ◌++◌, [], ◌∷◌, None, IfOk, IfSome, OnOk, length};
+ghost use Rattle.precedence.specs.inner.States.{AreStates};
+ghost use Rattle.precedence.specs.inner.Steps.{tables_in, HasFoundAll, HasFoundSome, HasHalted};
 ghost use Rattle.precedence.specs.declared.places.code.TheConstants.{CODES};
 
-use crate::cones::zone_tables::ZoneTables;
+use crate::cones::block_cones::BlockCones;
 use crate::cuts::covers::{nearest_first, no_cover, run_covered};
 use crate::cuts::first::{Reached, first_in_rows};
 use crate::cuts::rest::lies_behind;
@@ -16,7 +13,6 @@ use crate::cuts::state::States;
 use crate::cuts::state_rows::{StateRows, rows_at};
 use crate::cuts::states::{let_go_if_full, next_state};
 use crate::lists::row_runs::Hint;
-use crate::places::Places;
 use std::alloc::{AllocError, Global};
 use std::cell::Cell;
 
@@ -32,35 +28,25 @@ struct Halt {
 pub fn walk(
     alloc: Global,
     found: &mut Vec<u32>,
-    places: &Places,
-    zones: &[u8],
-    tables: &ZoneTables,
+    cones: &BlockCones<'_>,
     hints: &[Cell<Hint>],
     states: &mut States,
     table: usize,
     from: u64,
 ) -> Result<(), AllocError>
-    requires each { length zones.now ≡ length places.now.codes.items }
-    requires zones { All (λ z. z < length tables.now.of_zone.items) zones.now }
-    requires below { All (λ t. t < length tables.now.tables.items) tables.now.of_zone.items }
-    requires in_order { All (λ t. AreInOrder t.rows.items) tables.now.tables.items }
-    requires states { AreStates tables.now.tables.items states.old.states.items states.old.edges.items }
-    requires table { table < length tables.now.tables.items }
+    requires states { AreStates (tables_in cones.now) states.old.states.items states.old.edges.items }
+    requires table { table < length (tables_in cones.now) }
     requires from { from < CODES }
     requires none { found.old.items ≡ [] }
-    ensures ended { OnOk result (HasEnded places.now.codes.items
-        (cone_of tables.now.tables.items tables.now.of_zone.items zones.now) from
-        (rows_of_table (slice_get tables.now.tables.items table)) found.new.items) }
-    ensures states { AreStates tables.now.tables.items states.new.states.items states.new.edges.items }
+    ensures ended { OnOk result (HasFoundAll cones.now table from found.new.items) }
+    ensures states { AreStates (tables_in cones.now) states.new.states.items states.new.edges.items }
 {
-    let all = tables.tables.as_slice();
+    let all = cones.tables.tables.as_slice();
     let_go_if_full(all, states);
-    match walk_by_states(
-        alloc, found, places, zones, tables, hints, states, table, from,
-    )? {
+    match walk_by_states(alloc, found, cones, hints, states, table, from)? {
         Some(halt) => {
             let left = rows_at(all, states.states.as_slice(), hints, halt.state);
-            walk_on(found, places, zones, tables, table, &left, from, halt.id)
+            walk_on(found, cones, table, &left, from, halt.id)
         }
         None => Ok(()),
     }
@@ -70,51 +56,37 @@ pub fn walk(
 fn walk_by_states(
     alloc: Global,
     found: &mut Vec<u32>,
-    places: &Places,
-    zones: &[u8],
-    tables: &ZoneTables,
+    cones: &BlockCones<'_>,
     hints: &[Cell<Hint>],
     states: &mut States,
     table: usize,
     from: u64,
 ) -> Result<Option<Halt>, AllocError>
-    requires each { length zones.now ≡ length places.now.codes.items }
-    requires zones { All (λ z. z < length tables.now.of_zone.items) zones.now }
-    requires below { All (λ t. t < length tables.now.tables.items) tables.now.of_zone.items }
-    requires in_order { All (λ t. AreInOrder t.rows.items) tables.now.tables.items }
-    requires states { AreStates tables.now.tables.items states.old.states.items states.old.edges.items }
-    requires table { table < length tables.now.tables.items }
+    requires states { AreStates (tables_in cones.now) states.old.states.items states.old.edges.items }
+    requires table { table < length (tables_in cones.now) }
     requires from { from < CODES }
     requires none { found.old.items ≡ [] }
-    ensures ended { IfOk result (λ halt. halt ≡ None → HasEnded places.now.codes.items
-        (cone_of tables.now.tables.items tables.now.of_zone.items zones.now) from
-        (rows_of_table (slice_get tables.now.tables.items table)) found.new.items) }
-    ensures within { IfOk result (λ halt. IfSome halt
-        (λ h. h.state < length tables.now.tables.items + length states.new.states.items)) }
-    ensures walked { IfOk result (λ halt. IfSome halt (λ h. IsWalkedTo places.now.codes.items
-        (cone_of tables.now.tables.items tables.now.of_zone.items zones.now) from
-        (rows_of_table (slice_get tables.now.tables.items table))
-        (rest_of tables.now.tables.items states.new.states.items h.state) h.id found.new.items)) }
-    ensures states { AreStates tables.now.tables.items states.new.states.items states.new.edges.items }
+    ensures ended { IfOk result (λ halt. halt ≡ None
+        → HasFoundAll cones.now table from found.new.items) }
+    ensures halted { IfOk result (λ halt. IfSome halt (λ h.
+        HasHalted cones.now states.new.states.items table from found.new.items h.state h.id)) }
+    ensures states { AreStates (tables_in cones.now) states.new.states.items states.new.edges.items }
 {
-    let all = tables.tables.as_slice();
+    let all = cones.tables.tables.as_slice();
     let mut state = table;
     let mut reached = Reached { id: 0, row: 0 };
-    while reached.id < places.codes.len() {
+    while reached.id < cones.places.codes.len() {
         let own = rows_at(all, states.states.as_slice(), hints, state);
-        let first = first_in_rows(
-            places, own.rows, own.past, own.widths, own.hints, from, reached,
-        );
-        let at = match first {
+        let at = match first_in_rows(cones.places, &own, from, reached) {
             Some(at) => at,
             None => return Ok(None),
         };
-        let gap = places.codes[at.id] - from;
-        let number = tables.of_zone[zones[at.id] as usize];
+        let gap = cones.places.codes[at.id] - from;
+        let number = cones.tables.of_zone[cones.zones[at.id] as usize];
         let rows = all[number].rows.as_slice();
         // Where this cone lies behind all that is left, that stays.
         if !lies_behind(own.rows, own.past, gap, rows) {
-            let hashes = places.codes.len() / 4;
+            let hashes = cones.places.codes.len() / 4;
             state = match next_state(alloc, all, states, state, gap, number, hashes)? {
                 Some(next) => next,
                 None => {
@@ -138,57 +110,26 @@ fn walk_by_states(
 // there.
 fn walk_on(
     found: &mut Vec<u32>,
-    places: &Places,
-    zones: &[u8],
-    tables: &ZoneTables,
+    cones: &BlockCones<'_>,
     table: usize,
     left: &StateRows<'_>,
     from: u64,
     id: usize,
 ) -> Result<(), AllocError>
-    requires each { length zones.now ≡ length places.now.codes.items }
-    requires zones { All (λ z. z < length tables.now.of_zone.items) zones.now }
-    requires below { All (λ t. t < length tables.now.tables.items) tables.now.of_zone.items }
-    requires in_order { All (λ t. AreInOrder t.rows.items) tables.now.tables.items }
-    requires table { table < length tables.now.tables.items }
-    requires rows { AreInOrder left.now.rows.now }
-    requires past { left.now.past.now ≡ pasts left.now.rows.now }
-    requires widths { AreNoWider left.now.widths.now left.now.rows.now }
+    requires table { table < length (tables_in cones.now) }
     requires from { from < CODES }
-    requires walked { IsWalkedTo places.now.codes.items
-        (cone_of tables.now.tables.items tables.now.of_zone.items zones.now) from
-        (rows_of_table (slice_get tables.now.tables.items table))
-        left.now.rows.now id found.old.items }
-    ensures { OnOk result (HasEnded places.now.codes.items
-        (cone_of tables.now.tables.items tables.now.of_zone.items zones.now) from
-        (rows_of_table (slice_get tables.now.tables.items table)) found.new.items) }
+    requires walked { HasFoundSome cones.now table from left.now.rows.now id found.old.items }
+    ensures { OnOk result (HasFoundAll cones.now table from found.new.items) }
 {
-    let nearest = nearest_first(tables.tables.as_slice());
+    let nearest = nearest_first(cones.tables.tables.as_slice());
     let cover = no_cover();
     let mut reached = Reached { id, row: 0 };
-    while reached.id < places.codes.len() {
-        let first = first_in_rows(
-            places,
-            left.rows,
-            left.past,
-            left.widths,
-            left.hints,
-            from,
-            reached,
-        );
-        let at = match first {
+    while reached.id < cones.places.codes.len() {
+        let at = match first_in_rows(cones.places, left, from, reached) {
             Some(at) => at,
             None => return Ok(()),
         };
-        let run = run_covered(
-            found.as_slice(),
-            places,
-            zones,
-            tables,
-            at.id as u32,
-            nearest,
-            &cover,
-        );
+        let run = run_covered(found.as_slice(), cones, at.id as u32, nearest, &cover);
         let passed = pass_or_find(found, at.id as u32, run)?;
         reached = Reached {
             id: at.id + passed as usize,

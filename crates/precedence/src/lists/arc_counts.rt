@@ -30,8 +30,6 @@ pub fn arcs_in_cones(
     requires each { length zones.now ≡ length places.now.codes.items }
     requires zones { All (λ z. z < length tables.now.of_zone.items) zones.now }
     requires alike { AreAlike places.now.codes.items tables.now.of_zone.items zones.now alike.now }
-    requires below { All (λ t. t < length tables.now.tables.items) tables.now.of_zone.items }
-    requires in_order { All (λ t. AreInOrder t.rows.items) tables.now.tables.items }
     ensures { IfOk result (λ arcs. arcs ≡ sum_by length (in_cones tables.now.tables.items
         tables.now.of_zone.items places.now.codes.items zones.now places.now.codes.items)) }
 {

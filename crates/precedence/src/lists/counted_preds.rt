@@ -18,7 +18,7 @@ pub struct CountedPreds {
 
 impl Model for CountedPreds {
     ghost use Rattle.std.specs.Prelude.{ℕ, List};
-    ghost use Rattle.precedence.specs.inner.CountedFields.{counted_of, KeepsCounted};
+    ghost use Rattle.precedence.specs.inner.PredsFields.{counted_of, KeepsCounted};
 
     ghost Value = { List (List ℕ) };
 

@@ -1,13 +1,13 @@
 //! Predecessors that are found when they are asked for.
 
-ghost use Rattle.std.specs.Prelude.{◌≡◌, ◌<◌, ◌++◌, IfOk, OnOk, All, length, map, sum_by};
+ghost use Rattle.std.specs.Prelude.{◌≡◌, ◌<◌, ◌++◌, IfOk, OnOk, length, map, sum_by};
 ghost use Rattle.precedence.specs.Cone.{preds};
 ghost use Rattle.precedence.specs.Zones.{HasZones};
 ghost use Rattle.precedence.specs.IdRuns.{ids_of};
 ghost use Rattle.precedence.specs.inner.Lists.{in_cone};
-ghost use Rattle.precedence.specs.inner.Rows.{AreInOrder};
 ghost use Rattle.precedence.specs.declared.places.code.TheConstants.{CODES};
 
+use crate::cones::block_cones::BlockCones;
 use crate::cones::bounds::extents_of;
 use crate::cones::zone_tables::{ZoneTables, tables_of};
 use crate::cuts::between::has_between;
@@ -174,12 +174,16 @@ impl EnoughPreds for FoundPreds {
         let zone = self.zones[index];
         let from = self.places.codes[index];
         let table = self.tables.of_zone[zone as usize];
+        let cones = BlockCones {
+            places: &self.places,
+            zones: self.zones.as_slice(),
+            alike: self.alike.as_slice(),
+            tables: &self.tables,
+        };
         walk(
             alloc,
             found,
-            &self.places,
-            self.zones.as_slice(),
-            &self.tables,
+            &cones,
             self.hints.as_slice(),
             &mut self.states,
             table,
@@ -190,14 +194,13 @@ impl EnoughPreds for FoundPreds {
 
     #[tactic(auto, using(crate::proofs::AllLists::found_length))]
     fn is_behind(&self, block: u32, id: u32) -> bool {
-        has_between(
-            &self.places,
-            self.zones.as_slice(),
-            self.alike.as_slice(),
-            &self.tables,
-            block,
-            id,
-        )
+        let cones = BlockCones {
+            places: &self.places,
+            zones: self.zones.as_slice(),
+            alike: self.alike.as_slice(),
+            tables: &self.tables,
+        };
+        has_between(&cones, block, id)
     }
 
     #[tactic(auto, using(crate::proofs::AllLists::found_length))]
@@ -266,8 +269,6 @@ fn add_runs_in_cone(
     from: u64,
 ) -> Result<(), AllocError>
     requires zone { zone < length tables.now.of_zone.items }
-    requires below { All (λ t. t < length tables.now.tables.items) tables.now.of_zone.items }
-    requires in_order { All (λ t. AreInOrder t.rows.items) tables.now.tables.items }
     requires from { from < CODES }
     ensures { OnOk result (ids_of runs.new.items
         ≡ ids_of runs.old.items ++ in_cone tables.now.tables.items tables.now.of_zone.items

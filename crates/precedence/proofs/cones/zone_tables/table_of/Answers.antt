@@ -1,11 +1,23 @@
-use Rattle.precedence.proofs.Tables.{narrower}
+use Rattle.std.proofs.Common.{◌∙◌, ap, arith}
+use Rattle.precedence.specs.inner.Rows.{pasts}
+use Rattle.precedence.proofs.Tables.{apart_all, narrower}
 use Rattle.precedence.proofs.cones.zone_tables.table_of.Goals as goal
+
+pub invariant_of-result-clause-in_order : goal.invariant_of-result-clause-in_order
+invariant_of-result-clause-in_order c =
+    let table = c.in_ok-rows.ensures in
+    apart_all 0 c.in_ok-rows.rows.items table.high (omega arith) table.apart
+
+pub invariant_of-result-clause-all_past : goal.invariant_of-result-clause-all_past
+invariant_of-result-clause-all_past c = c.in_ok-past.ensures ∙ ap pasts c.as_slice.ensures.value
+
+pub invariant_of-result-clause-no_wider : goal.invariant_of-result-clause-no_wider
+invariant_of-result-clause-no_wider c = rw c.as_slice-2.ensures.value at c.widths_of-widths.ensures
 
 pub returns-clause-told : goal.returns-clause-told
 returns-clause-told c =
     let rows = c.in_ok-rows.rows.items in
     let table = c.in_ok-rows.ensures in
     record {
-      in_order = (table.high, table.apart);
       each = λ z cone e lt same. narrower c.args.grid c.args.cone c.extent_for.result _ rows (c.extent_for.ensures z cone e lt same) table;
     }

@@ -15,15 +15,15 @@ loop-cone-preserved c =
     record {
       zones = omega (arith, ap length pushed, length_push of_zone place, had.zones);
       below = rw pushed (All-push (λ t. t < length c.place_of.new.tables.items) of_zone place
-          (λ k d lt. omega (arith, had.below k d lt, e.more)) e.within);
+          (λ k d lt. omega (arith, had.below k d lt, e.has.more)) e.has.within);
       same = λ z cone table lt. rw pushed (⊎_elim
           (λ earlier. rw (get_or_append_left of_zone (place ∷ []) 0 z (omega (arith, had.zones)))
-          (ap (λ (t : ConeTable). t.cone) (e.kept (get_or of_zone z 0) table (had.below z 0 (omega (arith, had.zones))))
+          (ap (λ (t : ConeTable). t.cone) (e.has.kept (get_or of_zone z 0) table (had.below z 0 (omega (arith, had.zones))))
           ∙ had.same z cone table earlier))
           (λ last.
           let here : z ≡ c.loop-cone.cone-index = omega arith in
           rw (get_or_push of_zone place 0 z (had.zones ∙ sym here))
-          (e.cone table ∙ get_or_default c.args.cones.now c.loop-cone.cone-index _ cone c.loop-cone-test.true
+          (e.has.cone_is table ∙ get_or_default c.args.cones.now c.loop-cone.cone-index _ cone c.loop-cone-test.true
           ∙ ap (λ k. get_or c.args.cones.now k cone) (sym here)))
           (cases_lt z c.loop-cone.cone-index));
       told = e.told;

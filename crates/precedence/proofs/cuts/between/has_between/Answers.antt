@@ -1,39 +1,24 @@
-use Rattle.std.proofs.Common.{◌≡◌, ◌<◌, length, get_or, slice_get, subst, sym, ap, ◌∙◌, arith, ⊎_elim}
+use Rattle.std.proofs.Common.{◌≡◌, ◌<◌, length, get_or, slice_get, sym, ap, ◌∙◌, arith, ⊎_elim}
 use Rattle.std.proofs.lemmas.Bool.{cases_lt}
 use Rattle.std.proofs.lemmas.List.{get_or_default}
-use Rattle.std.proofs.lemmas.Option.{slice_get-get_or, slice_get_within}
-use Rattle.precedence.specs.inner.Rows.{AreInOrder}
+use Rattle.std.proofs.lemmas.Option.{slice_get-get_or}
 use Rattle.precedence.specs.inner.Steps.{cone_of}
 use Rattle.precedence.specs.inner.ZoneTables.{rows_of_table}
 use Rattle.precedence.specs.declared.cones.cone_table.ConeTable.{ConeTable}
-use Rattle.precedence.proofs.AllLists.{all_at}
 use Rattle.precedence.proofs.enough.Mids.{of_any, of_table}
 use Rattle.precedence.proofs.cuts.between.has_between.Goals as goal
 
-pub has_of_table-requires-clause-own : goal.has_of_table-requires-clause-own
-has_of_table-requires-clause-own c =
-    let tables = c.args.tables.now.tables.items in
-    let place = get_or c.args.tables.now.of_zone.items (get_or c.args.zones.now c.args.low 0) 0 in
-    all_at (λ (t : ConeTable). AreInOrder t.rows.items) tables place c.of-own.result.now c.requires.in_order
-    (slice_get_within tables place c.of-own.result.now c.of-own.ensures) c.of-own.ensures
-
-pub has_of_table-requires-clause-table : goal.has_of_table-requires-clause-table
-has_of_table-requires-clause-table c =
-    let number = c.loop-number.number in
-    let within : number < length c.args.tables.now.tables.items = omega (arith, c.loop-number-test.true, c.len-number-end.ensures, c.args.tables.now.tables.ok) in
-    subst (λ (t : ConeTable). AreInOrder t.rows.items) (sym c.index-table.ensures) (c.requires.in_order number c.index-table.result.now within)
-
 pub returns-then-has_of_table-clause-some : goal.returns-then-has_of_table-clause-some
 returns-then-has_of_table-clause-some c = λ _.
-    let codes = c.args.places.now.codes.items in
-    let zones = c.args.zones.now in
-    let tables = c.args.tables.now.tables.items in
-    let of_zone = c.args.tables.now.of_zone.items in
+    let codes = c.args.cones.now.places.now.codes.items in
+    let zones = c.args.cones.now.zones.now in
+    let tables = c.args.cones.now.tables.now.tables.items in
+    let of_zone = c.args.cones.now.tables.now.of_zone.items in
     let number = c.loop-number.number in
     let from = c.index-from.result.now in
     let to = c.index-to.result.now in
     let table = c.index-table.result.now in
-    let within : number < length tables = omega (arith, c.loop-number-test.true, c.len-number-end.ensures, c.args.tables.now.tables.ok) in
+    let within : number < length tables = omega (arith, c.loop-number-test.true, c.len-number-end.ensures, c.args.cones.now.tables.now.tables.ok) in
     let at_low : from ≡ get_or codes c.args.low 0 = c.index-from.ensures ∙ get_or_default codes c.args.low from 0 c.requires.low in
     let at_high : to ≡ get_or codes c.args.high 0 = c.index-to.ensures ∙ get_or_default codes c.args.high to 0 c.requires.high in
     let own_is : c.of-own.result.now.rows.items ≡ cone_of tables of_zone zones c.args.low = sym (ap rows_of_table c.of-own.ensures) in
@@ -44,15 +29,15 @@ returns-then-has_of_table-clause-some c = λ _.
 
 pub loop-number-preserved : goal.loop-number-preserved
 loop-number-preserved c =
-    let codes = c.args.places.now.codes.items in
-    let zones = c.args.zones.now in
-    let tables = c.args.tables.now.tables.items in
-    let of_zone = c.args.tables.now.of_zone.items in
+    let codes = c.args.cones.now.places.now.codes.items in
+    let zones = c.args.cones.now.zones.now in
+    let tables = c.args.cones.now.tables.now.tables.items in
+    let of_zone = c.args.cones.now.tables.now.of_zone.items in
     let number = c.loop-number.number in
     let from = c.index-from.result.now in
     let to = c.index-to.result.now in
     let table = c.index-table.result.now in
-    let within : number < length tables = omega (arith, c.loop-number-test.true, c.len-number-end.ensures, c.args.tables.now.tables.ok) in
+    let within : number < length tables = omega (arith, c.loop-number-test.true, c.len-number-end.ensures, c.args.cones.now.tables.now.tables.ok) in
     let at_low : from ≡ get_or codes c.args.low 0 = c.index-from.ensures ∙ get_or_default codes c.args.low from 0 c.requires.low in
     let at_high : to ≡ get_or codes c.args.high 0 = c.index-to.ensures ∙ get_or_default codes c.args.high to 0 c.requires.high in
     let own_is : c.of-own.result.now.rows.items ≡ cone_of tables of_zone zones c.args.low = sym (ap rows_of_table c.of-own.ensures) in

@@ -1,9 +1,15 @@
-use Rattle.std.proofs.Common.{◌≡◌, ◌<◌, length, get_or, sym, ap, ◌∙◌, arith, ⊎_elim}
+use Rattle.std.proofs.Common.{◌≡◌, ◌<◌, ◌^◌, length, get_or, sym, ap, ◌∙◌, arith, ⊎_elim}
 use Rattle.std.proofs.lemmas.Bool.{cases_lt, eqb-false}
 use Rattle.precedence.specs.declared.cones.cone_rows.Row.{Row}
 use Rattle.precedence.proofs.enough.Covers.{from_first}
 use Rattle.precedence.proofs.runs.RunsOfRows.{before_rows}
 use Rattle.precedence.proofs.cuts.between.has_of_table.Goals as goal
+
+pub next_above-above-requires-clause-in_order : goal.next_above-above-requires-clause-in_order
+next_above-above-requires-clause-in_order c = rw c.as_slice-own_rows.ensures.value (10 ^ 15, c.args.own.now.in_order)
+
+pub next_below-below-requires-clause-in_order : goal.next_below-below-requires-clause-in_order
+next_below-below-requires-clause-in_order c = rw c.as_slice-rows.ensures.value (10 ^ 15, c.args.table.now.in_order)
 
 pub loop-code-init : goal.loop-code-init
 loop-code-init c =
@@ -12,7 +18,7 @@ loop-code-init c =
     let row = c.index-own_rows-0.result in
     let at : row ≡ get_or own 0 row = rw c.as_slice-own_rows.ensures.value at c.index-own_rows-0.is in
     let some : 0 < length own = omega (arith, eqb-false _ _ (sym c.is_empty.ensures ∙ c.if-is_empty.false), ap length c.as_slice-own_rows.ensures.value) in
-    let begins = from_first own row some at c.requires.own in
+    let begins = from_first own row some at (10 ^ 15, c.args.own.now.in_order) in
     let first = ap (λ (r : Row). r.first) c.index-own_rows-0.is in
     record {
       begun = omega arith;
@@ -32,7 +38,7 @@ returns-then-above-end-clause-none c = λ _ d mid.
     let end = c.saturating_sub-end.result in
     let at : row ≡ get_or rows 0 row = rw c.as_slice-rows.ensures.value at c.index-rows-0.is in
     let some : 0 < length rows = omega (arith, eqb-false _ _ (sym c.is_empty-else-is_empty.ensures ∙ c.if-is_empty-2.false), ap length c.as_slice-rows.ensures.value) in
-    let begins = from_first rows row some at c.requires.table in
+    let begins = from_first rows row some at (10 ^ 15, c.args.table.now.in_order) in
     let first = ap (λ (r : Row). r.first) c.index-rows-0.is in
     let none = rw c.as_slice-own_rows.ensures.value at c.next_above-above.ensures.none in
     ⊎_elim
@@ -62,7 +68,7 @@ loop-code-preserved c =
     let both = c.meeting-both in
     let at : row ≡ get_or rows 0 row = rw c.as_slice-rows.ensures.value at c.index-rows-0.is in
     let some : 0 < length rows = omega (arith, eqb-false _ _ (sym c.is_empty-else-is_empty.ensures ∙ c.if-is_empty-2.false), ap length c.as_slice-rows.ensures.value) in
-    let begins = from_first rows row some at c.requires.table in
+    let begins = from_first rows row some at (10 ^ 15, c.args.table.now.in_order) in
     let first = ap (λ (r : Row). r.first) c.index-rows-0.is in
     let none_above = rw c.as_slice-own_rows.ensures.value at above.ensures.none in
     let none_below = rw c.as_slice-rows.ensures.value at below.ensures.none in
@@ -111,7 +117,7 @@ returns-clause-none c = λ _ d mid.
     let row = c.index-rows-0.result in
     let at : row ≡ get_or rows 0 row = rw c.as_slice-rows.ensures.value at c.index-rows-0.is in
     let some : 0 < length rows = omega (arith, eqb-false _ _ (sym c.is_empty-else-is_empty.ensures ∙ c.if-is_empty-2.false), ap length c.as_slice-rows.ensures.value) in
-    let begins = from_first rows row some at c.requires.table in
+    let begins = from_first rows row some at (10 ^ 15, c.args.table.now.in_order) in
     let first = ap (λ (r : Row). r.first) c.index-rows-0.is in
     ⊎_elim
     (λ old. c.loop-code.invariant.none d old mid)

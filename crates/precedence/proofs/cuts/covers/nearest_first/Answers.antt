@@ -1,7 +1,7 @@
-use Rattle.std.proofs.Common.{◌≡◌, ◌<◌, List, length, get_or, subst, sym, ap, ◌∙◌, arith, ⊎_elim}
+use Rattle.std.proofs.Common.{◌≡◌, ◌<◌, ◌^◌, List, length, get_or, subst, ap, ◌∙◌, arith, ⊎_elim}
 use Rattle.std.proofs.lemmas.Bool.{cases_lt}
 use Rattle.std.proofs.lemmas.List.{get_or_default}
-use Rattle.precedence.specs.inner.Rows.{AreInOrder, LieFrom}
+use Rattle.precedence.specs.inner.Rows.{LieFrom}
 use Rattle.precedence.specs.declared.cones.cone_rows.Row.{Row}
 use Rattle.precedence.specs.declared.cones.cone_table.ConeTable.{ConeTable}
 use Rattle.precedence.proofs.enough.Covers.{from_less}
@@ -10,8 +10,7 @@ use Rattle.precedence.proofs.cuts.covers.nearest_first.Goals as goal
 pub first_of-requires : goal.first_of-requires
 first_of-requires c =
     rw c.as_slice.ensures.value
-    (subst (λ (t : ConeTable). AreInOrder t.rows.items) (sym c.table-item.is)
-    (c.requires c.loop-table.table-index c.table-item.result (omega (arith, c.loop-table-test.true))))
+    (10 ^ 15, c.table-item.result.in_order)
 
 pub loop-table-preserved : goal.loop-table-preserved
 loop-table-preserved c =

@@ -1,29 +1,22 @@
-use Rattle.std.proofs.Common.{◌≡◌, ◌+◌, List, get_or, sym, ap, ◌∙◌}
+use Rattle.std.proofs.Common.{◌≡◌, ◌+◌, ◌^◌, List, get_or, sym, ap, ◌∙◌}
 use Rattle.std.proofs.lemmas.List.{get_or_default}
-use Rattle.std.proofs.lemmas.Option.{slice_get_within}
-use Rattle.precedence.specs.inner.Rows.{is_in_rows, AreInOrder}
+use Rattle.precedence.specs.inner.Rows.{is_in_rows}
 use Rattle.precedence.specs.inner.Steps.{cone_of}
 use Rattle.precedence.specs.inner.ZoneTables.{rows_of_table}
 use Rattle.precedence.specs.declared.cones.cone_rows.Row.{Row}
-use Rattle.precedence.specs.declared.cones.cone_table.ConeTable.{ConeTable}
-use Rattle.precedence.proofs.AllLists.{all_at}
 use Rattle.precedence.proofs.cuts.covers.run_in_cone.Goals as goal
 
 pub run_in_rows-requires-clause-in_order : goal.run_in_rows-requires-clause-in_order
 run_in_rows-requires-clause-in_order c =
-    let tables = c.args.tables.now.tables.items in
-    let place = get_or c.args.tables.now.of_zone.items (get_or c.args.zones.now c.args.block 0) 0 in
-    rw c.as_slice-rows.ensures.value
-    (all_at (λ (t : ConeTable). AreInOrder t.rows.items) tables place c.of-table.result.now c.requires.in_order
-    (slice_get_within tables place c.of-table.result.now c.of-table.ensures) c.of-table.ensures)
+    rw c.as_slice-rows.ensures.value (10 ^ 15, c.of-table.result.now.in_order)
 
 pub returns-clause-all : goal.returns-clause-all
 returns-clause-all c = λ k lt.
-    let codes = c.args.places.now.codes.items in
-    let zones = c.args.zones.now in
+    let codes = c.args.cones.now.places.now.codes.items in
+    let zones = c.args.cones.now.zones.now in
     let block = c.args.block in
     let from = c.index-from.result.now in
-    let cone : cone_of c.args.tables.now.tables.items c.args.tables.now.of_zone.items zones block ≡ c.of-table.result.now.rows.items =
+    let cone : cone_of c.args.cones.now.tables.now.tables.items c.args.cones.now.tables.now.of_zone.items zones block ≡ c.of-table.result.now.rows.items =
     ap rows_of_table c.of-table.ensures in
     let at : from ≡ get_or codes block 0 = c.index-from.ensures ∙ get_or_default codes block from 0 c.requires.block in
     let all = rw c.as_slice-rows.ensures.value at (c.run_in_rows.ensures.all k lt) in
@@ -32,11 +25,11 @@ returns-clause-all c = λ k lt.
 
 pub returns-clause-none : goal.returns-clause-none
 returns-clause-none c = λ zero.
-    let codes = c.args.places.now.codes.items in
-    let zones = c.args.zones.now in
+    let codes = c.args.cones.now.places.now.codes.items in
+    let zones = c.args.cones.now.zones.now in
     let block = c.args.block in
     let from = c.index-from.result.now in
-    let cone : cone_of c.args.tables.now.tables.items c.args.tables.now.of_zone.items zones block ≡ c.of-table.result.now.rows.items =
+    let cone : cone_of c.args.cones.now.tables.now.tables.items c.args.cones.now.tables.now.of_zone.items zones block ≡ c.of-table.result.now.rows.items =
     ap rows_of_table c.of-table.ensures in
     let at : from ≡ get_or codes block 0 = c.index-from.ensures ∙ get_or_default codes block from 0 c.requires.block in
     let none = rw c.as_slice-rows.ensures.value at (c.run_in_rows.ensures.none zero) in

@@ -18,14 +18,14 @@ pub run_covered-run-requires-clause-found : goal.run_covered-run-requires-clause
 run_covered-run-requires-clause-found c =
     let w = c.loop-reached.invariant.walked in
     let found = c.loop-reached.found.items in
-    let codes = c.args.places.now.codes.items in
+    let codes = c.args.cones.now.places.now.codes.items in
     rw c.as_slice-in-loop-reached.ensures.value (λ k e lt.
-    let within = lying_within c.args.from (rows_of_table (slice_get c.args.tables.now.tables.items c.args.table)) codes (get_or found k 0) (w.among (get_or found k 0) (at_in found k lt)) in
+    let within = lying_within c.args.from (rows_of_table (slice_get c.args.cones.now.tables.now.tables.items c.args.table)) codes (get_or found k 0) (w.among (get_or found k 0) (at_in found k lt)) in
     omega (arith, within, get_or_default found k e 0 lt))
 
 pub returns-in-None : goal.returns-in-None
 returns-in-None c =
-    let codes = c.args.places.now.codes.items in
+    let codes = c.args.cones.now.places.now.codes.items in
     let rest = c.args.left.now.rows.now in (
       rest,
       (
@@ -37,7 +37,7 @@ returns-in-None c =
 
 pub returns : goal.returns
 returns c =
-    let codes = c.args.places.now.codes.items in
+    let codes = c.args.cones.now.places.now.codes.items in
     let rest = c.args.left.now.rows.now in (
       rest,
       (
@@ -49,10 +49,10 @@ returns c =
 
 pub loop-reached-preserved : goal.loop-reached-preserved
 loop-reached-preserved c =
-    let codes = c.args.places.now.codes.items in
-    let zones = c.args.zones.now in
-    let tables = c.args.tables.now.tables.items in
-    let of_zone = c.args.tables.now.of_zone.items in
+    let codes = c.args.cones.now.places.now.codes.items in
+    let zones = c.args.cones.now.zones.now in
+    let tables = c.args.cones.now.tables.now.tables.items in
+    let of_zone = c.args.cones.now.tables.now.of_zone.items in
     let from = c.args.from in
     let id = c.in-Some.at.id in
     let cone = cone_of tables of_zone zones in
@@ -68,8 +68,8 @@ loop-reached-preserved c =
           (λ some.
           subst (λ (f : List ℕ). IsWalkedTo codes cone from rows c.args.left.now.rows.now (id + n) f) (sym (c.in_ok-passed.ensures.kept some))
           (subst (λ (m : ℕ). IsWalkedTo codes cone from rows c.args.left.now.rows.now (id + m) found) (sym (c.in_ok-passed.ensures.run some))
-          (pass_step codes cone from rows c.args.left.now.rows.now c.args.places.now.rising found c.loop-reached.reached.id w id c.in-Some.ensures.within c.in-Some.ensures.later
-          c.in-Some.ensures.some c.in-Some.ensures.least run (λ k lt.
+          (pass_step codes cone from rows c.args.left.now.rows.now c.args.cones.now.places.now.rising found c.loop-reached.reached.id w id c.in-Some.ensures.found.within c.in-Some.ensures.found.later
+          c.in-Some.ensures.found.some c.in-Some.ensures.found.least run (λ k lt.
           let cover = c.run_covered-run.ensures.covered k lt in
           let there = cover.1 in (
             get_or found cover.0 0,
@@ -80,8 +80,8 @@ loop-reached-preserved c =
           let zero : run ≡ 0 = omega (arith, none) in
           subst (λ (f : List ℕ). IsWalkedTo codes cone from rows c.args.left.now.rows.now (id + n) f) (sym (c.in_ok-passed.ensures.found zero))
           (subst (λ (m : ℕ). IsWalkedTo codes cone from rows c.args.left.now.rows.now (id + m) (found ++ id ∷ [])) (sym (c.in_ok-passed.ensures.one zero))
-          (stay_step codes cone from rows c.args.left.now.rows.now c.args.places.now.rising found c.loop-reached.reached.id w id c.in-Some.ensures.within c.in-Some.ensures.later
-          c.in-Some.ensures.some c.in-Some.ensures.least (λ b has.
+          (stay_step codes cone from rows c.args.left.now.rows.now c.args.cones.now.places.now.rising found c.loop-reached.reached.id w id c.in-Some.ensures.found.within c.in-Some.ensures.found.later
+          c.in-Some.ensures.found.some c.in-Some.ensures.found.least (λ b has.
           let at = in_at found b has in
           let lt = at.1 in
           subst (λ (m : ℕ). is_behind_id codes cone m id ≡ false) at.2

@@ -1,11 +1,11 @@
-use Rattle.std.proofs.Common.{◌≡◌, ◌+◌, ◌*◌, ◌<◌, ◌≤◌, ℕ, List, length, get_or, slice_get, subst, sym, ap, ◌∙◌, arith}
+use Rattle.std.proofs.Common.{◌≡◌, ◌+◌, ◌*◌, ◌^◌, ◌<◌, ◌≤◌, ℕ, List, length, get_or, slice_get, sym, ap, ◌∙◌, arith}
 use Rattle.std.specs.Prelude.{sum_by}
 use Rattle.std.proofs.lemmas.Option.{slice_get-get_or}
 use Rattle.plan_parts.specs.declared.ranges.TheConstants.{MAX_BLOCKS}
 use Rattle.precedence.specs.Cone.{places_where}
 use Rattle.precedence.specs.inner.Arcs.{arcs_before, codes_with}
 use Rattle.precedence.specs.inner.Lists.{in_cone}
-use Rattle.precedence.specs.inner.Rows.{is_in_rows, AreInOrder}
+use Rattle.precedence.specs.inner.Rows.{is_in_rows}
 use Rattle.precedence.specs.inner.ZoneTables.{rows_of_table, zone_rows}
 use Rattle.precedence.specs.declared.cones.cone_rows.Row.{Row}
 use Rattle.precedence.specs.declared.cones.cone_table.ConeTable.{ConeTable}
@@ -21,10 +21,7 @@ loop-number-init c =
 
 pub arcs_in_rows-arcs-requires-clause-in_order : goal.arcs_in_rows-arcs-requires-clause-in_order
 arcs_in_rows-arcs-requires-clause-in_order c =
-    let tables = c.args.tables.now.tables.items in
-    rw c.as_slice-rows.ensures.value
-    (subst (λ (t : ConeTable). AreInOrder t.rows.items) (sym c.index.ensures)
-    (c.requires.in_order c.loop-number.number c.index.result.now (omega (arith, c.loop-number-test.true, c.len-number-end.ensures))))
+    rw c.as_slice-rows.ensures.value (10 ^ 15, c.index.result.now.in_order)
 
 -- how the tables before one and that one are counted
 module _ (tables : List ConeTable) (of_zone codes zones : List ℕ) (number : ℕ) (own : ConeTable) (rows : List Row)
@@ -91,7 +88,7 @@ returns c =
     ∙ all_tables (in_cone t.tables.items t.of_zone.items codes) t.of_zone.items number zones codes
     (λ k d lt. let one = t.of_zone.items in
     let z = c.requires.zones k d lt in
-    let below = c.requires.below _ 0 z in
+    let below = c.args.tables.now.below _ 0 z in
     omega (arith, below, c.loop-number-test.false, c.len-number-end.ensures))
 
 pub arcs_in_rows-arcs-requires-clause-rising : goal.arcs_in_rows-arcs-requires-clause-rising

@@ -9,7 +9,7 @@ use Rattle.precedence.specs.Cone.{preds}
 use Rattle.precedence.specs.Zones.{HasZones}
 use Rattle.precedence.specs.inner.Lists.{in_cones}
 use Rattle.precedence.proofs.enough.States.{no_state}
-use Rattle.precedence.proofs.AllLists.{preds_are, tables_in_order}
+use Rattle.precedence.proofs.AllLists.{preds_are}
 use Rattle.precedence.proofs.Later.{rising_later}
 use Rattle.precedence.proofs.closed.OneCone.{one_table}
 use Rattle.precedence.proofs.lists.found_preds.FoundPreds.new.Goals as goal
@@ -34,8 +34,6 @@ invariant_of-result c =
       zones = rw c.in_ok-zones.ensures (All-map (λ z. z < length tables.of_zone.items) (λ (b : Block). b.zone) blocks
           (λ k d lt. omega (arith, zones k d lt, c.in_ok-tables.ensures.zones, cones)));
       alike = rw (c.as_slice-2.ensures.value, c.as_slice-3.ensures.value, c.as_slice-4.ensures.value) at c.in_ok-alike.ensures;
-      below = c.in_ok-tables.ensures.below;
-      in_order = tables_in_order c.grid.result c.cones-cones.result.now c.as_slice.result.now tables.tables.items c.in_ok-tables.ensures.told;
       states = rw (c.no_states.ensures.states, c.no_states.ensures.edges) (no_state tables.tables.items);
       closed = λ known. subst (λ (lists : List (List ℕ)). AreClosed lists) (sym found_is)
           (one_table c.args.plan.now c.as_slice.result.now tables.tables.items tables.of_zone.items blocks
