@@ -128,14 +128,6 @@ rest_is_behind rest gap rows left is = λ from c up.
     let after : nat_lt (from + gap) c ≡ true = lt-ltb _ _ up in
     is from c ∙ (λ j. is_in_rows from rest c && (after j && not (is_in_rows (from + gap) rows c)))
 
-and_true_right : (b : Bool) → b ≡ (b && true)
-and_true_right true = refl
-and_true_right false = refl
-
--- where a cone has no rows, all is left
-pub no_cone_behind : (rest : List Row) (gap : ℕ) → IsRestBehind rest gap [] rest
-no_cone_behind rest gap = λ from c up. and_true_right (is_in_rows from rest c)
-
 -- of what lies in rows none lies behind the last
 before_end : (from c high : ℕ) (rows : List Row) → LieApart 0 rows high → is_in_rows from rows c ≡ true
     → c < from + get_or (pasts rows) (length rows - 1) 0
