@@ -129,20 +129,6 @@ sum_skip f xs d k (suc n) le none =
       sum_skip f xs d k n (omega (arith, le)) (λ j low up. none j low (omega (arith, up))),
     )
 
--- codes that have as many each
-pub sum_as_many : {X : Type 0} (f : X → ℕ) (xs : List X) (d : X) (k n each : ℕ) → k + n ≤ length xs
-    → ((j : ℕ) → k ≤ j → j < k + n → f (get_or xs j d) ≡ each) → sum_by f (take (k + n) xs) ≡ sum_by f (take k xs) + n * each
-sum_as_many f xs d k zero each le same = let none : k + zero ≡ k = omega arith in omega (arith, ap (λ m. sum_by f (take m xs)) none)
-sum_as_many f xs d k (suc n) each le same =
-    let more : k + suc n ≡ (k + n) + 1 = omega arith in
-    ap (λ m. sum_by f (take m xs)) more
-    ∙ omega (
-      arith,
-      sum_by_more f xs (k + n) d (omega (arith, le)),
-      same (k + n) (omega arith) (omega arith),
-      sum_as_many f xs d k n each (omega (arith, le)) (λ j low up. same j low (omega (arith, up))),
-    )
-
 -- as many from one place up to another
 pub sum_to : {X : Type 0} (f : X → ℕ) (xs : List X) (d : X) (k to : ℕ) → k ≤ to → to ≤ length xs
     → ((j : ℕ) → k ≤ j → j < to → f (get_or xs j d) ≡ 0) → sum_by f (take to xs) ≡ sum_by f (take k xs)

@@ -4,9 +4,7 @@ use Rattle.std.specs.List.Sorted.{IsStrictlyIncreasing}
 use Rattle.std.proofs.lemmas.Bool.{cases_lt}
 use Rattle.std.proofs.lemmas.List.Kept.{AllPairs-from_increasing}
 use Rattle.precedence.specs.inner.Alike.{AreAlike, AreAlikeFrom, FollowAlong, FollowFrom, Follows}
-use Rattle.precedence.specs.inner.Arcs.{count_in}
 use Rattle.precedence.specs.inner.Rows.{start_of}
-use Rattle.precedence.specs.declared.cones.cone_rows.Row.{Row}
 use Rattle.precedence.proofs.runs.Starts.{start_after, start_before, start_within}
 
 module _ (codes of_zone zones : List ℕ) where
@@ -34,30 +32,6 @@ module _ (codes of_zone zones : List ℕ) where
 
 pub codes_along : (codes of_zone zones alike : List ℕ) → AreAlike codes of_zone zones alike → FollowAlong codes alike
 codes_along codes of_zone zones alike all = (all.each, λ id lt j less. let h = all.follow id lt j less in (h.within, h.code))
-
--- rising numbers grow by one at least
-pub grows_by : (xs : List ℕ) (k t : ℕ) → IsStrictlyIncreasing xs → k + t < length xs → get_or xs k 0 + t ≤ get_or xs (k + t) 0
-grows_by xs k zero rising lt = let at : k + zero ≡ k = omega arith in omega (arith, ap (λ n. get_or xs n 0) at)
-grows_by xs k (suc t) rising lt =
-    omega (
-      arith,
-      AllPairs-from_increasing xs rising (k + t) (k + suc t) 0 (omega arith) lt,
-      grows_by xs k t rising (omega (arith, lt)),
-    )
-
--- so where the last of some is no further than their number, they follow one another
-pub follow_up_to : (xs : List ℕ) (k n t : ℕ) → IsStrictlyIncreasing xs → k + n < length xs → get_or xs (k + n) 0 ≡ get_or xs k 0 + n → t ≤ n
-    → get_or xs (k + t) 0 ≡ get_or xs k 0 + t
-follow_up_to xs k n t rising lt last le =
-    let at : (k + t) + (n - t) ≡ k + n = omega (arith, le) in
-    omega (
-      arith,
-      last,
-      le,
-      grows_by xs k t rising (omega (arith, lt, le)),
-      grows_by xs (k + t) (n - t) rising (omega (arith, lt, le)),
-      ap (λ m. get_or xs m 0) at,
-    )
 
 -- no two identifiers have one code
 pub one_code : (codes : List ℕ) (a b : ℕ) → IsStrictlyIncreasing codes → a < length codes → b < length codes
@@ -105,14 +79,3 @@ module _ (codes : List ℕ) (rising : IsStrictlyIncreasing codes) (first count :
   -- where codes from a target on begin that is no more than `count` further than the first one
   pub start_is : (target k : ℕ) → target ≡ get_or codes first 0 + k → k ≤ count → start_of target codes ≡ first + k
   start_is target k at le = omega (arith, low target k at le, up target k at le)
-
-  -- a row that begins with the first of them is full as long as they reach
-  pub full : (from t : ℕ) (row : Row) → get_or codes first 0 ≡ from + row.first → t + (row.past - row.first) ≤ count
-      → count_in codes row (from + t) ≡ row.past - row.first
-  full from t row at le =
-      omega (
-        arith,
-        row.in_order,
-        start_is (from + t + row.first) t (omega (arith, at)) (omega (arith, le)),
-        start_is (from + t + row.past) (t + (row.past - row.first)) (omega (arith, at, row.in_order)) le,
-      )

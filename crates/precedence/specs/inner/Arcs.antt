@@ -1,11 +1,15 @@
 -- How many identifiers stand in lists, counted row by row of the cones.
-use Rattle.std.specs.Prelude.{ℕ, ◌+◌, ◌-◌, ◌==◌, List, [], ◌∷◌, length, nat_lt, slice_index, if◌then◌else◌}
+use Rattle.std.specs.Prelude.{◌≡◌, ℕ, ◌+◌, ◌-◌, ◌==◌, ◌≤◌, Bool, List, [], ◌∷◌, length, nat_lt, slice_index, if◌then◌else◌}
 use Rattle.precedence.specs.inner.Rows.{start_of}
 use Rattle.precedence.specs.declared.cones.cone_rows.Row.{Row}
 
 -- how many codes lie in a row, as seen from a code
 abbrev pub count_in : List ℕ → Row → ℕ → ℕ
 count_in codes row from = start_of (from + row.past) codes - start_of (from + row.first) codes
+
+-- where codes from a target on begin is one further for each of so many steps of the target, or stays
+abbrev pub GoesOn : List ℕ → (target start steps : ℕ) (moves : Bool) → Type 0
+GoesOn codes target start steps moves = (t : ℕ) → t ≤ steps → start_of (target + t) codes ≡ start + (if moves then t else 0)
 
 -- the codes of the blocks whose cone has a table, by the zones and codes of blocks
 abbrev pub codes_with : List ℕ → ℕ → List ℕ → List ℕ → List ℕ

@@ -1,7 +1,7 @@
 //! Blocks that follow one another along x and have one cone.
 
 ghost use Rattle.std.specs.Prelude.{◌≡◌, ◌+◌, ◌<◌, All, IfOk, length};
-ghost use Rattle.precedence.specs.inner.Alike.{AreAlike, AreAlikeFrom};
+ghost use Rattle.precedence.specs.inner.Alike.{AreAlike, AreAlikeFrom, FollowAlong};
 
 use std::alloc::{AllocError, Global};
 
@@ -26,6 +26,14 @@ pub fn alike_of(
         alike[id] = behind;
     }
     Ok(alike)
+}
+
+/// Of each of these codes how many codes, it being the first, follow one another.
+pub fn follow_of(alloc: Global, codes: &[u64]) -> Result<Vec<u16>, AllocError>
+    ensures { IfOk result (λ follow. FollowAlong codes.now follow.items) }
+{
+    let one_zone = vec![in alloc; 0; codes.len()]?;
+    alike_of(alloc, codes, one_zone.as_slice(), &[0])
 }
 
 // How many blocks from one on are alike, where from the next one on so many are.

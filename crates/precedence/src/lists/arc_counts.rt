@@ -12,14 +12,18 @@ ghost use Rattle.plan_parts.specs.declared.ranges.TheConstants.{MAX_BLOCKS};
 
 use crate::cones::cone_rows::Row;
 use crate::cones::zone_tables::ZoneTables;
+use crate::lists::alike::follow_of;
+use crate::lists::arc_counts::even_stretch::stretch_from;
 use crate::lists::row_runs::{NOTHING_KNOWN, find_run};
 use crate::places::Places;
 use crate::places::start_of::start_of;
 use std::alloc::{AllocError, Global};
 
+pub mod even_stretch;
+
 /// How many identifiers stand in the lists of all blocks. Of each cone it goes over its rows, and of each row over the blocks with this
-/// cone, so that where a row's run begins and ends is mostly one further than for the block before. `alike` tells of each block how many from
-/// it on are alike. Fails only where memory is refused.
+/// cone, so that where a row's run begins and ends is mostly one further than for the block before, or the same. `alike` tells of each block
+/// how many from it on are alike. Fails only where memory is refused.
 pub fn arcs_in_cones(
     alloc: Global,
     places: &Places,
@@ -36,8 +40,10 @@ pub fn arcs_in_cones(
     let mut arcs = 0;
     for number in 0..tables.tables.len() {
         let own = codes_with(alloc, places, zones, tables.of_zone.as_slice(), number)?;
+        let own = own.as_slice();
+        let follow = follow_of(alloc, own)?;
         let rows = tables.tables[number].rows.as_slice();
-        arcs += arcs_in_rows(places, alike, own.as_slice(), rows);
+        arcs += arcs_in_rows(places, alike, own, follow.as_slice(), rows);
     }
     Ok(arcs)
 }
@@ -81,9 +87,10 @@ fn push_own(own: &mut Vec<u64>, place: usize, number: usize, code: u64) -> Resul
     Ok(())
 }
 
-// How many identifiers lie in the rows, seen from each of these codes.
-fn arcs_in_rows(places: &Places, alike: &[u16], own: &[u64], rows: &[Row]) -> u64
+// How many identifiers lie in the rows, seen from each of these codes. `follow` tells of each how many from it on follow one another.
+fn arcs_in_rows(places: &Places, alike: &[u16], own: &[u64], follow: &[u16], rows: &[Row]) -> u64
     requires alike { FollowAlong places.now.codes.items alike.now }
+    requires follow { FollowAlong own.now follow.now }
     requires in_order { AreInOrder rows.now }
     requires rising { IsStrictlyIncreasing own.now }
     requires small { All (λ c. c < CODES) own.now }
@@ -92,14 +99,16 @@ fn arcs_in_rows(places: &Places, alike: &[u16], own: &[u64], rows: &[Row]) -> u6
 {
     let mut arcs = 0;
     for row in rows {
-        arcs += arcs_in_row(places, alike, own, *row);
+        arcs += arcs_in_row(places, alike, own, follow, *row);
     }
     arcs
 }
 
-// The same of one row. Blocks with nothing in it are passed over, and those for which it is full are counted, many at a time.
-fn arcs_in_row(places: &Places, alike: &[u16], own: &[u64], row: Row) -> u64
+// The same of one row. Blocks with nothing in it are passed over, and those of which it has evenly more or fewer are counted, many at a
+// time.
+fn arcs_in_row(places: &Places, alike: &[u16], own: &[u64], follow: &[u16], row: Row) -> u64
     requires alike { FollowAlong places.now.codes.items alike.now }
+    requires follow { FollowAlong own.now follow.now }
     requires rising { IsStrictlyIncreasing own.now }
     requires small { All (λ c. c < CODES) own.now }
     requires few { length own.now ≤ MAX_BLOCKS }
@@ -111,56 +120,15 @@ fn arcs_in_row(places: &Places, alike: &[u16], own: &[u64], row: Row) -> u64
     while k < own.len() {
         run = find_run(places, row, run, own[k]);
         if run.first < run.past {
-            let count = u64::from(run.past - run.first);
-            let as_many = full_behind(places, alike, own, row, k, run.first, count);
-            arcs += count * (as_many as u64 + 1);
-            k += as_many + 1;
+            let stretch = stretch_from(places, alike, own, follow, row, k, run);
+            arcs += stretch.arcs;
+            k += stretch.blocks;
+            run = stretch.last;
         } else {
             k = next_own(places, own, row, k, run.first as usize);
         }
     }
     arcs
-}
-
-// For how many of these codes behind the place `k` the row is full, as it is for that one. The identifier `first` is that of the first code
-// in it; of how many there, is a guess.
-#[inline(always)]
-fn full_behind(
-    places: &Places,
-    alike: &[u16],
-    own: &[u64],
-    row: Row,
-    k: usize,
-    first: u32,
-    count: u64,
-) -> usize
-    requires alike { FollowAlong places.now.codes.items alike.now }
-    requires rising { IsStrictlyIncreasing own.now }
-    requires small { All (λ c. c < CODES) own.now }
-    requires k { k < length own.now }
-    requires first { first < length places.now.codes.items }
-    ensures within { k + result < length own.now }
-    ensures same { (j : ℕ) → k ≤ j → j ≤ k + result → count_in places.now.codes.items row (slice_index own.now j)
-        ≡ count_in places.now.codes.items row (slice_index own.now k) }
-{
-    let width = row.past - row.first;
-    if count != width {
-        return 0;
-    }
-    if places.codes[first as usize] != own[k] + row.first {
-        return 0;
-    }
-    let long = u64::from(alike[first as usize]);
-    if long <= width {
-        return 0;
-    }
-    let as_many = own.len() - 1 - k;
-    let as_many = as_many.min((long - width) as usize);
-    if own[k + as_many].saturating_sub(own[k]) == as_many as u64 {
-        as_many
-    } else {
-        0
-    }
 }
 
 // The first of these codes behind the place `k` in whose row the identifier `id` can lie, or their number.

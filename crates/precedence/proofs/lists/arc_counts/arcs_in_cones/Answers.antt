@@ -52,7 +52,7 @@ overflow_add-arcs c =
     let zones = c.args.zones.now in
     let number = c.loop-number.number in
     let own = ap (sum_by (λ from. length (places_where (is_in_rows from c.as_slice-rows.result.now) 0 codes)))
-    (c.as_slice-in-loop-number.ensures.value ∙ c.in_ok-own.ensures.own ∙ ap (λ oz. codes_with oz number zones codes) c.as_slice.ensures.value) in
+    (c.as_slice-own.ensures.value ∙ c.in_ok-own.ensures.own ∙ ap (λ oz. codes_with oz number zones codes) c.as_slice.ensures.value) in
     let more = one_more t.tables.items t.of_zone.items codes zones number c.index.result.now c.as_slice-rows.result.now
     (omega (arith, c.loop-number-test.true, c.len-number-end.ensures)) c.index.ensures c.as_slice-rows.ensures.value in
     omega (
@@ -73,7 +73,7 @@ loop-number-preserved c =
     let zones = c.args.zones.now in
     let number = c.loop-number.number in
     let own = ap (sum_by (λ from. length (places_where (is_in_rows from c.as_slice-rows.result.now) 0 codes)))
-    (c.as_slice-in-loop-number.ensures.value ∙ c.in_ok-own.ensures.own ∙ ap (λ oz. codes_with oz number zones codes) c.as_slice.ensures.value) in
+    (c.as_slice-own.ensures.value ∙ c.in_ok-own.ensures.own ∙ ap (λ oz. codes_with oz number zones codes) c.as_slice.ensures.value) in
     let more = one_more t.tables.items t.of_zone.items codes zones number c.index.result.now c.as_slice-rows.result.now
     (omega (arith, c.loop-number-test.true, c.len-number-end.ensures)) c.index.ensures c.as_slice-rows.ensures.value in
     omega (arith, more, own, c.loop-number.invariant, c.arcs_in_rows-arcs.ensures)
@@ -93,9 +93,12 @@ returns c =
 
 pub arcs_in_rows-arcs-requires-clause-rising : goal.arcs_in_rows-arcs-requires-clause-rising
 arcs_in_rows-arcs-requires-clause-rising c =
-    rw (c.as_slice-in-loop-number.ensures.value, c.in_ok-own.ensures.own)
+    rw (c.as_slice-own.ensures.value, c.in_ok-own.ensures.own)
     (codes_rise c.as_slice.result.now c.loop-number.number c.args.zones.now c.args.places.now.codes.items c.args.places.now.rising)
 
 pub arcs_in_rows-arcs-requires-clause-alike : goal.arcs_in_rows-arcs-requires-clause-alike
 arcs_in_rows-arcs-requires-clause-alike c =
     codes_along c.args.places.now.codes.items c.args.tables.now.of_zone.items c.args.zones.now c.args.alike.now c.requires.alike
+
+pub arcs_in_rows-arcs-requires-clause-follow : goal.arcs_in_rows-arcs-requires-clause-follow
+arcs_in_rows-arcs-requires-clause-follow c = rw c.as_slice-in-loop-number.ensures.value c.in_ok-follow.ensures

@@ -1,0 +1,114 @@
+//! Blocks that follow one another, and of which each has one more in a row than the one before it, or one fewer, or as many.
+
+ghost use Rattle.std.specs.Prelude.{◌≡◌, ◌+◌, ◌*◌, ◌<◌, ◌≤◌, ◌^◌, All, if◌then◌else◌, length, slice_index, sum_by, take};
+ghost use Rattle.std.specs.List.Sorted.{IsStrictlyIncreasing};
+ghost use Rattle.precedence.specs.inner.Alike.{FollowAlong};
+ghost use Rattle.precedence.specs.inner.Arcs.{count_in, GoesOn};
+ghost use Rattle.precedence.specs.inner.Rows.{start_of};
+ghost use Rattle.precedence.specs.declared.places.code.TheConstants.{CODES};
+ghost use Rattle.plan_parts.specs.declared.ranges.TheConstants.{MAX_BLOCKS};
+
+use crate::cones::cone_rows::Row;
+use crate::lists::row_runs::Hint;
+use crate::places::Places;
+
+/// So many blocks that have so many in a row together, and the row's run for the last of them.
+#[derive(Clone, Copy, Debug)]
+pub struct Stretch {
+    pub blocks: usize,
+    pub arcs: u64,
+    pub last: Hint,
+}
+
+/// What the blocks from the place `k` on have in a row, as far as it is evenly more or fewer. `run` is the row's run for the first of them.
+/// `follow` tells of each how many from it on follow one another.
+#[inline(always)]
+pub fn stretch_from(
+    places: &Places,
+    alike: &[u16],
+    own: &[u64],
+    follow: &[u16],
+    row: Row,
+    k: usize,
+    run: Hint,
+) -> Stretch
+    requires alike { FollowAlong places.now.codes.items alike.now }
+    requires follow { FollowAlong own.now follow.now }
+    requires small { All (λ c. c < CODES) own.now }
+    requires k { k < length own.now }
+    requires first { run.first ≡ start_of (slice_index own.now k + row.first) places.now.codes.items }
+    requires past { run.past ≡ start_of (slice_index own.now k + row.past) places.now.codes.items }
+    requires in_order { run.first ≤ run.past }
+    requires in_codes { run.past ≤ length places.now.codes.items }
+    ensures some { 0 < result.blocks }
+    ensures within { k + result.blocks ≤ length own.now }
+    ensures arcs { sum_by (count_in places.now.codes.items row) (take (k + result.blocks) own.now)
+        ≡ sum_by (count_in places.now.codes.items row) (take k own.now) + result.arcs }
+    ensures few { result.arcs ≤ result.blocks * MAX_BLOCKS }
+{
+    let here = u64::from(run.past - run.first);
+    let most = u64::from(follow[k]).saturating_sub(1);
+    if most == 0 {
+        return Stretch {
+            blocks: 1,
+            arcs: here,
+            last: run,
+        };
+    }
+    let first = course_of(places, alike, own[k] + row.first, run.first as usize);
+    let past = course_of(places, alike, own[k] + row.past, run.past as usize);
+    let steps = most.min(first.steps).min(past.steps);
+    let last = Hint {
+        first: moved(first, run.first, steps as u32),
+        past: moved(past, run.past, steps as u32),
+    };
+    let there = u64::from(last.past.saturating_sub(last.first));
+    Stretch {
+        blocks: steps as usize + 1,
+        arcs: (steps + 1) * (here + there) / 2,
+        last,
+    }
+}
+
+// How where codes from a target on begin goes on: for so many steps of the target it moves by one each, or stays.
+#[derive(Clone, Copy, Debug)]
+struct Course {
+    steps: u64,
+    moves: bool,
+}
+
+// How it goes on from this target, for which it is `start`.
+#[inline(always)]
+fn course_of(places: &Places, alike: &[u16], target: u64, start: usize) -> Course
+    requires alike { FollowAlong places.now.codes.items alike.now }
+    requires start { start ≡ start_of target places.now.codes.items }
+    ensures { GoesOn places.now.codes.items target start result.steps result.moves }
+{
+    if start >= places.codes.len() {
+        return Course {
+            steps: u64::MAX,
+            moves: false,
+        };
+    }
+    let gap = places.codes[start].saturating_sub(target);
+    if gap > 0 {
+        Course {
+            steps: gap,
+            moves: false,
+        }
+    } else {
+        Course {
+            steps: u64::from(alike[start]),
+            moves: true,
+        }
+    }
+}
+
+// Where it is so many steps further.
+#[inline(always)]
+fn moved(course: Course, start: u32, steps: u32) -> u32
+    requires { start + steps < 2 ^ 32 }
+    ensures { result ≡ start + (if course.moves then steps else 0) }
+{
+    if course.moves { start + steps } else { start }
+}
