@@ -1,6 +1,5 @@
 -- Why there is no plan, in other words, and how that ends the program.
-use Rattle.std.proofs.Common.{◌≡◌, ◌≤◌, ℕ, List, Option, length, arith, inl, inr, refl, sym, subst, Err}
-use Rattle.std.specs.Prelude.{IfSome}
+use Rattle.std.proofs.Common.{◌≡◌, ◌≤◌, ℕ, List, Option, length, arith, inl, inr, refl, sym, subst, Err, Ok}
 use Rattle.pit_model.specs.Planned.{planned}
 use Rattle.pit_model.specs.declared.plan_fault.PlanFault.{PlanFault}
 use Rattle.plan_parts.specs.declared.plan.Plan.{Plan}
@@ -9,8 +8,9 @@ use Rattle.pit_units.specs.declared.or_memory.OrMemory.{OrMemory}
 use Rattle.pit_units.specs.declared.or_memory.OrMemory.TheVariants as or_memory
 use Rattle.refusals.specs.declared.refusal.Refusal.TheVariants.{OutOfMemory}
 use Rattle.command_io.specs.FaultLine.{Ends, EndsRefused, EndsWith}
-use Rattle.command_io.specs.PlanFile.{IsNoPlanFile}
+use Rattle.command_io.specs.PlanFile.{HasPlan, IsNoPlanFile}
 use Rattle.command_io.specs.PlanText.{IsNoPlan}
+use Rattle.command_io.specs.ReadWhole.{IsReadWhole}
 use Rattle.command_io.specs.Refused.{IsUnread, plan_refused, refused_text}
 use Rattle.command_io.specs.declared.refused.Refused.{Refused}
 use Rattle.command_io.specs.declared.refused.Refused.TheVariants.{NotUtf8, FeedFailed, TooLong, Text, Run}
@@ -23,14 +23,18 @@ pub faulty_plan : (text : List ℕ) (error : OrMemory PlanFault) (why : Refused)
 faulty_plan text (or_memory.Fault fault) why short e stated = subst (IsNoPlan text) (sym e) (short, stated)
 faulty_plan text or_memory.OutOfMemory why short e stated = subst (IsNoPlan text) (sym e) refl
 
-module _ (left : Option (List ℕ)) (given given_now failures failures_now : ℕ) (why : Refused) where
-  pub plan_unread : IsUnread source.Plan left 1048576 given given_now failures failures_now why
+module _ (left : Option (List ℕ)) (given given_now failures failures_now : ℕ) where
+  pub plan_unread : (why : Refused) → IsUnread source.Plan left 1048576 given given_now failures failures_now why
       → IsNoPlanFile left given given_now failures failures_now why
-  plan_unread unread = inl unread
+  plan_unread why unread = inl unread
 
-  pub plan_read : (text : List ℕ) → IfSome left (λ bytes. text ≡ bytes) → IsNoPlan text why
+  pub plan_read : (why : Refused) (text : List ℕ) → IsReadWhole left given given_now failures failures_now text → IsNoPlan text why
       → IsNoPlanFile left given given_now failures failures_now why
-  plan_read text is refused = inr (text, is, refused)
+  plan_read why text is refused = inr (text, is, refused)
+
+  pub plan_stated : (plan : Plan) (text : List ℕ) → IsReadWhole left given given_now failures failures_now text
+      → length text ≤ 1048576 → planned text ≡ Ok plan → HasPlan left given given_now failures failures_now plan
+  plan_stated plan text is short states = record { text = text; read = is; short = short; states = states }
 
 -- a text that gives no plan ends the program with 1, a line appended, or for want of memory with none
 one_or_memory : (words old new : List ℕ) (status : ℕ) → EndsWith 1 words old new status → EndsRefused old new status

@@ -1,7 +1,8 @@
 //! A source, whole.
 
-ghost use Rattle.std.specs.Prelude.{◌≡◌, ◌≢◌, ◌+◌, ◌≤◌, length, Err, IsTrue, IfOk, IfErr, IfSome, OnOk};
+ghost use Rattle.std.specs.Prelude.{◌≢◌, ◌≤◌, length, Err, IsTrue, IfOk, IfErr};
 ghost use Rattle.devices.specs.declared.feeds.slurp.TheConstants.{GREATEST_LIMIT};
+ghost use Rattle.command_io.specs.ReadWhole.{IsReadWhole};
 ghost use Rattle.command_io.specs.Refused.{IsUnread};
 
 use crate::refused::Refused;
@@ -26,10 +27,9 @@ pub fn read_source<F: Feed>(
     requires { limit ≤ GREATEST_LIMIT }
 
     // What an answer holds.
-    ensures whole { IfOk result (λ text. IfSome (F.left feed.old) (λ bytes. text.items ≡ bytes)) }
+    ensures read { IfOk result (λ text. IsReadWhole (F.left feed.old) (F.given feed.old)
+        (F.given feed.new) (F.failures feed.old) (F.failures feed.new) text.items) }
     ensures short { IfOk result (λ text. length text.items ≤ limit) }
-    ensures counts { IfOk result (λ text. F.given feed.new ≡ F.given feed.old + length text.items) }
-    ensures works { OnOk result (F.failures feed.new ≡ F.failures feed.old) }
 
     // When each refusal comes.
     ensures refused { IfErr result (IsUnread source (F.left feed.old) limit (F.given feed.old)

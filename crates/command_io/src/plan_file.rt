@@ -22,7 +22,8 @@ use std::alloc::Global;
 /// - `Plan`: its text has a faulty record.
 /// - `Run`: memory was refused.
 pub fn read_plan_file<O: Opener>(alloc: Global, files: &mut O, path: &str) -> Result<Plan, Refused>
-    ensures plan { IfOk result (IsPlanAt path.now (O.opened files.old) (O.opened files.new)) }
+    ensures plan { IfOk result (IsPlanAt O.Opened.given O.Opened.failures path.now
+        (O.opened files.old) (O.opened files.new)) }
     ensures refused { IfErr result (IsNoPlanAt O.Opened.given O.Opened.failures path.now
         (O.opened files.old) (O.opened files.new)) }
 {
@@ -33,9 +34,10 @@ pub fn read_plan_file<O: Opener>(alloc: Global, files: &mut O, path: &str) -> Re
 }
 
 // The plan that the bytes of a feed state.
-#[tactic(auto, using(crate::proofs::Ends::plan_unread, crate::proofs::Ends::plan_read))]
+#[tactic(auto, using(crate::proofs::Ends::plan_unread, crate::proofs::Ends::plan_read, crate::proofs::Ends::plan_stated))]
 fn plan_of_feed<F: Feed>(alloc: Global, feed: &mut F) -> Result<Plan, Refused>
-    ensures plan { IfOk result (HasPlan (F.left feed.old)) }
+    ensures plan { IfOk result (HasPlan (F.left feed.old) (F.given feed.old)
+        (F.given feed.new) (F.failures feed.old) (F.failures feed.new)) }
     ensures refused { IfErr result (IsNoPlanFile (F.left feed.old) (F.given feed.old)
         (F.given feed.new) (F.failures feed.old) (F.failures feed.new)) }
 {

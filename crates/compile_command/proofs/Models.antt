@@ -1,11 +1,11 @@
 -- Why an input gives no model, in other words.
 use Rattle.std.proofs.Common.{◌≡◌, ◌≤◌, ℕ, List, length, inl, inr, Ok, Option, subst}
-use Rattle.std.specs.Prelude.{IfSome}
 use Rattle.pit_model.specs.Planned.{planned}
 use Rattle.plan_parts.specs.declared.plan.Plan.{Plan}
 use Rattle.compile_command.specs.Model.{HasTooManyFiles, IsNoModel}
 use Rattle.command_io.specs.Pieces.{plan_piece}
 use Rattle.command_io.specs.PlanText.{IsNoPlan}
+use Rattle.command_io.specs.ReadWhole.{IsReadWhole}
 use Rattle.command_io.specs.Refused.{IsUnread}
 use Rattle.command_io.specs.declared.refused.Refused.{Refused}
 use Rattle.command_io.specs.declared.refused.source.Source.TheVariants.{Input}
@@ -15,8 +15,8 @@ module _ (left : Option (List ℕ)) (given given_now failures failures_now : ℕ
       → IsNoModel left given given_now failures failures_now why
   unread why h = inl h
 
-module _ (left : Option (List ℕ)) (given given_now failures failures_now : ℕ) (input text : List ℕ) (own : IfSome left (λ bytes. input ≡ bytes)) (small : length input ≤ 268435456)
-    (first : text ≡ plan_piece input) where
+module _ (left : Option (List ℕ)) (given given_now failures failures_now : ℕ) (input text : List ℕ)
+    (own : IsReadWhole left given given_now failures failures_now input) (small : length input ≤ 268435456) (first : text ≡ plan_piece input) where
   pub planless : (why : Refused) → IsNoPlan text why → IsNoModel left given given_now failures failures_now why
   planless why h = inr (input, own, small, inl (subst (λ plan. IsNoPlan plan why) first h))
 

@@ -68,22 +68,23 @@ module _ (plan : PlanParts) (base : List ℕ) (zones : List (List ℕ)) (opened_
         × IsNoCompile plan zones opened_old opened_new starts_old starts_new (unbegun_at tells base) (all_told told_at sinks) left is_sure failures
         formulas settings refused
 
--- the same of the plan that the file at this path states, which was opened first
+-- the same of the plan that the file at this path states, which was opened first; `given` and `failures` are how many bytes a feed gave and how
+-- many pulls it refused
 pub record TellsRowsFrom (path base : List ℕ) (zones : List (List ℕ)) (opened_old opened_new : List Opening) (made_old made_new : List (List ℕ))
-    (starts_old starts_new : StartsView) (tells : Bool) (settings : Settings) (sinks : Option (Sinks FileSinkView)) (out_old out_new : List ℕ)
-    : Type 0 where
+    (starts_old starts_new : StartsView) (tells : Bool) {F : Type 0} (given failures : F → ℕ) (settings : Settings)
+    (sinks : Option (Sinks FileSinkView)) (out_old out_new : List ℕ) : Type 0 where
   pub plan : PlanParts
   pub between : List Opening
-  pub read : IsPlanAt path opened_old between plan
+  pub read : IsPlanAt given failures path opened_old between plan
   pub told : TellsRowsAt plan base zones between opened_new made_old made_new starts_old starts_new tells settings sinks out_old out_new
 
 -- why it is not: the plan that the file at this path states, which was opened first, is not compiled; `left` and so on are as above
 pub record IsNoCompileFrom (path base : List ℕ) (zones : List (List ℕ)) (opened_old opened_new : List Opening) (made_old made_new : List (List ℕ))
-    (starts_old starts_new : StartsView) (tells : Bool) {F : Type 0} (left : F → Option (List ℕ)) (is_sure : F → Bool) (failures : F → ℕ)
+    (starts_old starts_new : StartsView) (tells : Bool) {F : Type 0} (left : F → Option (List ℕ)) (is_sure : F → Bool) (given failures : F → ℕ)
     (settings : Settings) (sinks : Option (Sinks FileSinkView)) (refused : Refused) : Type 0 where
   pub plan : PlanParts
   pub between : List Opening
-  pub read : IsPlanAt path opened_old between plan
+  pub read : IsPlanAt given failures path opened_old between plan
   pub why : IsNoCompileAt plan base zones between opened_new made_old made_new starts_old starts_new tells left is_sure failures
       (formulas_of_plan plan) settings sinks refused
 

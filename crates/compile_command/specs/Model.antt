@@ -1,11 +1,12 @@
 -- The model that an input gives, and why one gives none.
-use Rattle.std.specs.Prelude.{◌≡◌, ℕ, ◌<◌, ◌≤◌, ◌⊎◌, List, length, Ok, Option, IfSome}
+use Rattle.std.specs.Prelude.{◌≡◌, ℕ, ◌<◌, ◌≤◌, ◌⊎◌, List, length, Ok, Option}
 use Rattle.refusals.specs.declared.refusal.Refusal.TheVariants.{Settings, OutOfMemory}
 use Rattle.refusals.specs.declared.settings_fault.SettingsFault.TheVariants.{Files}
 use Rattle.pit_model.specs.Planned.{planned}
 use Rattle.plan_parts.specs.declared.plan.Plan.{Plan}
 use Rattle.command_io.specs.Pieces.{PiecesView, plan_piece, zone_pieces}
 use Rattle.command_io.specs.PlanText.{IsNoPlan}
+use Rattle.command_io.specs.ReadWhole.{IsReadWhole}
 use Rattle.command_io.specs.Refused.{IsUnread}
 use Rattle.command_io.specs.declared.refused.Refused.{Refused}
 use Rattle.command_io.specs.declared.refused.Refused.TheVariants.{Run}
@@ -29,8 +30,17 @@ abbrev pub GivesNoModel : List ℕ → Refused → Type 0
 GivesNoModel input refused =
     IsNoPlan (plan_piece input) refused ⊎ ((plan : Plan) × (planned (plan_piece input) ≡ Ok plan) × HasTooManyFiles input plan refused)
 
--- an input was not read; or its bytes, at most 256 MiB and those that it had left where it tells them, give no model
-abbrev pub IsNoModel : Option (List ℕ) → (given given_now failures failures_now : ℕ) → Refused → Type 0
-IsNoModel left given given_now failures failures_now refused =
-    IsUnread Input left MAX_FILE_BYTES given given_now failures failures_now refused
-    ⊎ ((input : List ℕ) × IfSome left (λ bytes. input ≡ bytes) × (length input ≤ MAX_FILE_BYTES) × GivesNoModel input refused)
+-- of an input, by what it had left, where it tells that, and by how many bytes it gave and how many pulls it refused, before and now
+module _ (left : Option (List ℕ)) (given given_now failures failures_now : ℕ) where
+  -- it was read to its end, and gives this model
+  pub record IsRead (plan : Plan) (pieces : PiecesView) : Type 0 where
+    pub input : List ℕ
+    pub read : IsReadWhole left given given_now failures failures_now input
+    pub model : IsModel input pieces plan
+
+  -- it was not read; or it was, to its end, and its bytes, at most 256 MiB, give no model
+  abbrev pub IsNoModel : Refused → Type 0
+  IsNoModel refused =
+      IsUnread Input left MAX_FILE_BYTES given given_now failures failures_now refused
+      ⊎ ((input : List ℕ) × IsReadWhole left given given_now failures failures_now input × (length input ≤ MAX_FILE_BYTES)
+      × GivesNoModel input refused)

@@ -1,5 +1,5 @@
 -- What the pipe form prints of a model: the texts of its instance, each under its section line.
-use Rattle.std.specs.Prelude.{◌≡◌, ℕ, ◌+◌, ◌⊎◌, List, ◌++◌, length, IfSome, Option}
+use Rattle.std.specs.Prelude.{◌≡◌, ℕ, ◌+◌, ◌⊎◌, List, ◌++◌, length, Option}
 use Rattle.command_io.specs.Pieces.{PiecesView}
 use Rattle.command_io.specs.Sections.{printed}
 use Rattle.command_io.specs.declared.refused.Refused.{Refused}
@@ -16,7 +16,7 @@ use Rattle.plan_parts.specs.declared.plan.Plan.{Plan}
 use Rattle.plan_parts.specs.declared.formulas.formula.Formula.{Formula}
 use Rattle.pit_compile.specs.Starts.{AreStartsOf}
 use Rattle.run_threads.specs.Starts.{AreSpent, StartsView}
-use Rattle.compile_command.specs.Model.{IsModel, IsNoModel}
+use Rattle.compile_command.specs.Model.{IsNoModel, IsRead}
 use Rattle.compile_command.specs.RunRefused.{RunRefused}
 
 -- the verdict accepts the zone files, and what is printed of their instance is appended
@@ -38,25 +38,22 @@ abbrev pub IsNoPipe : PlanParts → List Formula → List (List ℕ) → (old ne
 IsNoPipe plan formulas zones old new refused =
     (why : Refusal) × (refused ≡ Run why) × PipeRefused plan formulas zones why × AreStartsOf (4 + length zones) old new why
 
--- by what an input had left, where it tells that: it was read, and gives a model
-pub record IsRead (left : Option (List ℕ)) (plan : Plan) (pieces : PiecesView) : Type 0 where
-  pub input : List ℕ
-  pub given : IfSome left (λ bytes. input ≡ bytes)
-  pub model : IsModel input pieces plan
+-- of an input, by what it had left, where it tells that, and by how many bytes it gave and how many pulls it refused, before and now
+module _ (left : Option (List ℕ)) (given given_now failures failures_now : ℕ) where
+  -- it was read to its end, and what is printed of its model was appended, a thread having run for each valuer and zone file
+  abbrev pub PrintsInput : StartsView → (out_old out_new : List ℕ) → Type 0
+  PrintsInput starts out_old out_new =
+      (plan : Plan) × (pieces : PiecesView) × IsRead left given given_now failures failures_now plan pieces
+      × IsPrinted plan pieces.zones out_old out_new × AreSpent (4 + length pieces.zones) starts
 
--- and what is printed of its model was appended, a thread having run for each valuer and zone file
-abbrev pub PrintsInput : Option (List ℕ) → StartsView → (out_old out_new : List ℕ) → Type 0
-PrintsInput left starts out_old out_new =
-    (plan : Plan) × (pieces : PiecesView) × IsRead left plan pieces × IsPrinted plan pieces.zones out_old out_new
-    × AreSpent (4 + length pieces.zones) starts
+  -- it was, and this is why nothing is printed of it
+  abbrev pub IsNotPrinted : (old new : StartsView) → Refused → Type 0
+  IsNotPrinted old new refused =
+      (plan : Plan) × (pieces : PiecesView) × IsRead left given given_now failures failures_now plan pieces
+      × IsNoPipe plan (formulas_of_plan plan) pieces.zones old new refused
 
--- and why nothing is printed of it
-abbrev pub IsNotPrinted : Option (List ℕ) → (old new : StartsView) → Refused → Type 0
-IsNotPrinted left old new refused =
-    (plan : Plan) × (pieces : PiecesView) × IsRead left plan pieces × IsNoPipe plan (formulas_of_plan plan) pieces.zones old new refused
-
--- and why nothing is done with it: it gives no model; or it gives one, and memory was refused
-abbrev pub IsNoInput : Option (List ℕ) → (given given_now failures failures_now : ℕ) → Refused → Type 0
-IsNoInput left given given_now failures failures_now refused =
-    IsNoModel left given given_now failures failures_now refused
-    ⊎ ((plan : Plan) × (pieces : PiecesView) × IsRead left plan pieces × (refused ≡ Run OutOfMemory))
+  -- and why nothing is done with it: it gives no model; or it gives one, and memory was refused
+  abbrev pub IsNoInput : Refused → Type 0
+  IsNoInput refused =
+      IsNoModel left given given_now failures failures_now refused
+      ⊎ ((plan : Plan) × (pieces : PiecesView) × IsRead left given given_now failures failures_now plan pieces × (refused ≡ Run OutOfMemory))

@@ -1,7 +1,7 @@
 //! The model that an input gives.
 
-ghost use Rattle.std.specs.Prelude.{◌≡◌, ◌+◌, ℕ, List, length, IfOk, IfErr, IfSome, OnOk};
-ghost use Rattle.compile_command.specs.Model.{HasTooManyFiles, IsModel, IsNoModel};
+ghost use Rattle.std.specs.Prelude.{◌≡◌, IfOk, IfErr};
+ghost use Rattle.compile_command.specs.Model.{HasTooManyFiles, IsNoModel, IsRead};
 ghost use Rattle.command_io.specs.Pieces.{plan_piece, zone_pieces};
 
 use command_io::input::read_source;
@@ -32,11 +32,8 @@ pub struct Model {
 /// - `Run`: it has more zone files than its plan has zones, as a run would say, so that no list of them is held; or memory was refused.
 #[tactic(auto, using(crate::proofs::Models::unread, crate::proofs::Models::planless, crate::proofs::Models::uncut))]
 pub fn read_model<F: Feed>(alloc: Global, feed: &mut F) -> Result<Model, Refused>
-    ensures model { IfOk result (λ model. (input : List ℕ)
-        × IfSome (F.left feed.old) (λ left. input ≡ left)
-        × (F.given feed.new ≡ F.given feed.old + length input)
-        × IsModel input model.pieces model.plan) }
-    ensures works { OnOk result (F.failures feed.new ≡ F.failures feed.old) }
+    ensures model { IfOk result (λ model. IsRead (F.left feed.old) (F.given feed.old)
+        (F.given feed.new) (F.failures feed.old) (F.failures feed.new) model.plan model.pieces) }
     ensures refused { IfErr result (IsNoModel (F.left feed.old) (F.given feed.old)
         (F.given feed.new) (F.failures feed.old) (F.failures feed.new)) }
 {

@@ -121,11 +121,14 @@ fn print_model<I: Feed, T: Threads + Wait + Sync, O: Opener, F: FileSlots>(
 ) -> Result<u8, Refused>
     requires unspent { starts.old ≡ none_spent starts.old.allowed }
     ensures done { IfOk result (λ status. status ≡ 0
-        → PrintsInput (I.left input.old) starts.new text.old.items text.new.items) }
+        → PrintsInput (I.left input.old) (I.given input.old) (I.given input.new) (I.failures input.old)
+        (I.failures input.new) starts.new text.old.items text.new.items) }
     ensures quiet { IfOk result (λ status. status ≡ 0 → lines.new.items ≡ lines.old.items) }
     ensures kept { IfOk result (λ status. status ≢ 0 → text.new.items ≡ text.old.items) }
     ensures refused { IfOk result (λ status. status ≢ 0
-        → EndsBy (IsNotPrinted (I.left input.old) starts.old starts.new) lines.old.items lines.new.items status) }
+        → EndsBy (IsNotPrinted (I.left input.old) (I.given input.old) (I.given input.new)
+        (I.failures input.old) (I.failures input.new) starts.old starts.new) lines.old.items
+        lines.new.items status) }
     ensures unread { IfErr result (IsNoInput (I.left input.old) (I.given input.old)
         (I.given input.new) (I.failures input.old) (I.failures input.new)) }
     ensures still { OnErr result ((starts.new ≡ starts.old) × (text.new.items ≡ text.old.items)
@@ -155,14 +158,15 @@ fn compile<T: Threads + Wait + Sync, O: Opener, F: FileSlots>(
     requires unspent { starts.old ≡ none_spent starts.old.allowed }
     ensures done { IfOk result (λ ended. ended.status ≡ 0 → TellsRowsFrom plan.now (string_bytes base)
         (map string_bytes zones.items) (O.opened files.old) (O.opened files.new) (F.made slots.old)
-        (F.made slots.new) starts.old starts.new F.Slot.tells settings ended.sinks text.old.items
-        text.new.items) }
+        (F.made slots.new) starts.old starts.new F.Slot.tells O.Opened.given O.Opened.failures
+        settings ended.sinks text.old.items text.new.items) }
     ensures quiet { IfOk result (λ ended. ended.status ≡ 0 → lines.new.items ≡ lines.old.items) }
     ensures kept { IfOk result (λ ended. ended.status ≢ 0 → text.new.items ≡ text.old.items) }
     ensures refused { IfOk result (λ ended. ended.status ≢ 0 → EndsBy (IsNoCompileFrom plan.now
         (string_bytes base) (map string_bytes zones.items) (O.opened files.old) (O.opened files.new)
         (F.made slots.old) (F.made slots.new) starts.old starts.new F.Slot.tells O.Opened.left
-        O.Opened.is_sure O.Opened.failures settings ended.sinks) lines.old.items lines.new.items ended.status) }
+        O.Opened.is_sure O.Opened.given O.Opened.failures settings ended.sinks) lines.old.items
+        lines.new.items ended.status) }
     ensures unread { IfErr result (IsNotBegun O.Opened.given O.Opened.failures plan.now
         (O.opened files.old) (O.opened files.new)) }
     ensures still { OnErr result ((F.made slots.new ≡ F.made slots.old) × (starts.new ≡ starts.old)

@@ -113,13 +113,14 @@ fn thin_from<T: Threads + Wait + Sync, O: Opener, S: Sink>(
     requires unspent { starts.old ≡ none_spent starts.old.allowed }
     ensures done { IfOk result (λ status. status ≡ 0 → TellsThinnedFrom plan.now
         (map string_bytes zones.now) (O.opened files.old) (O.opened files.new) starts.old starts.new
-        (S.state sink.old) (S.state sink.new) settings text.old.items text.new.items) }
+        (S.state sink.old) (S.state sink.new) O.Opened.given O.Opened.failures settings
+        text.old.items text.new.items) }
     ensures quiet { IfOk result (λ status. status ≡ 0 → lines.new.items ≡ lines.old.items) }
     ensures kept { IfOk result (λ status. status ≢ 0 → text.new.items ≡ text.old.items) }
     ensures refused { IfOk result (λ status. status ≢ 0 → EndsBy (IsNotThinnedFrom plan.now
         (map string_bytes zones.now) (O.opened files.old) (O.opened files.new) starts.old starts.new
-        (S.state sink.old) (S.state sink.new) O.Opened.left O.Opened.is_sure O.Opened.failures settings)
-        lines.old.items lines.new.items status) }
+        (S.state sink.old) (S.state sink.new) O.Opened.left O.Opened.is_sure O.Opened.given
+        O.Opened.failures settings) lines.old.items lines.new.items status) }
     ensures unread { IfErr result (IsNotBegun O.Opened.given O.Opened.failures plan.now
         (O.opened files.old) (O.opened files.new)) }
     ensures still { OnErr result ((S.state sink.new ≡ S.state sink.old) × (starts.new ≡ starts.old)

@@ -88,19 +88,20 @@ module _ (plan : PlanParts) (paths : List (List ℕ)) (opened_old opened_new : L
         ⊎ (((why : Refusal) × (refused ≡ Run why) × ((i : Instance) × IsRead settings i × IsStopped (thin_text i) old new why))
         ⊎ ((refused ≡ Run refusal.OutOfMemory) × ((i : Instance) × IsThinned settings i))))
 
--- the same of the plan that the file at this path states, which was opened first
+-- the same of the plan that the file at this path states, which was opened first; `given` and `failures` are how many bytes a feed gave and how
+-- many pulls it refused
 pub record TellsThinnedFrom (path : List ℕ) (zones : List (List ℕ)) (opened_old opened_new : List Opening) (starts_old starts_new : StartsView)
-    (old new : SinkState) (settings : Settings) (out_old out_new : List ℕ) : Type 0 where
+    (old new : SinkState) {F : Type 0} (given failures : F → ℕ) (settings : Settings) (out_old out_new : List ℕ) : Type 0 where
   pub plan : PlanParts
   pub between : List Opening
-  pub read : IsPlanAt path opened_old between plan
+  pub read : IsPlanAt given failures path opened_old between plan
   pub told : TellsThinned plan zones between opened_new starts_old starts_new old new settings out_old out_new
 
 -- and why it is not thinned
 pub record IsNotThinnedFrom (path : List ℕ) (zones : List (List ℕ)) (opened_old opened_new : List Opening) (starts_old starts_new : StartsView)
-    (old new : SinkState) {F : Type 0} (left : F → Option (List ℕ)) (is_sure : F → Bool) (failures : F → ℕ) (settings : Settings)
+    (old new : SinkState) {F : Type 0} (left : F → Option (List ℕ)) (is_sure : F → Bool) (given failures : F → ℕ) (settings : Settings)
     (refused : Refused) : Type 0 where
   pub plan : PlanParts
   pub between : List Opening
-  pub read : IsPlanAt path opened_old between plan
+  pub read : IsPlanAt given failures path opened_old between plan
   pub why : IsNotThinned plan zones between opened_new starts_old starts_new old new left is_sure failures (formulas_of_plan plan) settings refused

@@ -5,8 +5,7 @@ use Rattle.pitc.proofs.print_model.Goals as goal
 pub returns-clause-refused : goal.returns-clause-refused
 returns-clause-refused g c = λ bad.
     let told = c.in_ok-ended.ensures.refused bad in
-    let model = c.in_ok-read_model.ensures.model in
-    (told.0, (_, _, record { input = model.0; given = model.1; model = model.3 }, told.1.0), told.2)
+    (told.0, (_, _, c.in_ok-read_model.ensures.model, told.1.0), told.2)
 
 pub returns-clause-opened : goal.returns-clause-opened
 returns-clause-opened g c = ⊎_elim (λ zero. (c.in_ok-ended.ensures.done zero).1.0)
