@@ -4,6 +4,7 @@
 
 mod closer;
 mod gathered;
+mod lane_ended;
 pub mod laws;
 mod message;
 mod opening;
@@ -15,6 +16,7 @@ mod take_end;
 
 pub use closer::{Closer, GivenUp, Stopped};
 pub use gathered::Gathered;
+pub use lane_ended::LaneEnded;
 pub use message::Taken;
 pub use opening::open;
 pub use part::Part;

@@ -12,7 +12,7 @@ ghost use Rattle.run_threads.specs.declared.starts.OnThread.{OnThread as AThread
 use crate::file_reading::FileRead;
 use crate::promises::{ReadBy, ReaderHandle, ValuedBy, ValuerHandle};
 use devices::feeds::feed::Feed;
-use lane::{Closer, GivenUp, PutEnd, SeatedSender, Stopped};
+use lane::{Closer, LaneEnded, PutEnd};
 use plan_parts::plan::Plan;
 use std::marker::{Model, PhantomData};
 use std::mem;
@@ -149,38 +149,6 @@ pub trait OfLane {
 // It is not closed yet.
 impl OfLane for Closer {
     ghost lane_of = { λ closer. closer.lane };
-}
-
-/// That each valuer which was started at this lane is sent the mark that ends it. Contracts see the lane.
-#[derive(Drop)]
-pub struct LaneEnded {
-    seat: Snapshot<SeatedSender>,
-}
-
-impl Model for LaneEnded {
-    ghost Value = { Lane };
-
-    ghost view = { λ ended. ended.seat.value.lane };
-}
-
-impl LaneEnded {
-    /// The lane was stopped.
-    pub fn by_stop(stopped: &Stopped) -> LaneEnded
-        ensures { result ≡ stopped.now.lane }
-    {
-        LaneEnded {
-            seat: Snapshot::of(stopped.seat()),
-        }
-    }
-
-    /// The lane was given up.
-    pub fn by_quits(quits: &GivenUp) -> LaneEnded
-        ensures { result ≡ quits.now.lane }
-    {
-        LaneEnded {
-            seat: Snapshot::of(quits.seat()),
-        }
-    }
 }
 
 impl OfLane for LaneEnded {

@@ -1,5 +1,5 @@
 -- The starts of threads, step by step.
-use Rattle.std.specs.Prelude.{◌≡◌, ℕ, ◌+◌, ◌<◌, ◌≤◌, Bool, true, false, List, map, vec_len, IsFalse, IsTrue, IfOk, IfErr, Result}
+use Rattle.std.specs.Prelude.{◌≡◌, ℕ, ◌+◌, ◌<◌, ◌≤◌, Bool, true, false, map, vec_len, IsFalse, IsTrue, IfOk, IfErr, Result}
 use Rattle.std.specs.List.{All}
 use Rattle.std.specs.Global.{Vec}
 use Rattle.lane.specs.Ends.{Lane}

@@ -6,8 +6,8 @@ ghost use Rattle.std.specs.List.{All};
 ghost use Rattle.run_threads.specs.inner.Started.{after_joins};
 
 use crate::promises::ValuerHandle;
-use crate::starts::{LaneEnded, RunPromise, Starter};
-use lane::{Closer, GivenUp};
+use crate::starts::{RunPromise, Starter};
+use lane::{Closer, GivenUp, LaneEnded};
 use std::sync::Wait;
 use std::thread::{Promise, PromisedHandle, Threads};
 

@@ -11,9 +11,9 @@ use crate::in_scope::joining::{join_all, split_reads, split_values};
 use crate::in_scope::running::Running;
 use crate::promises::{ReaderHandle, ValuerHandle};
 use crate::result_room::ResultRoom;
-use crate::starts::{LaneEnded, Starter};
+use crate::starts::Starter;
 use devices::feeds::feed::Feed;
-use lane::Closer;
+use lane::{Closer, LaneEnded};
 use std::sync::Wait;
 use std::thread::Threads;
 
