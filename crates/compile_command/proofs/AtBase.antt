@@ -4,7 +4,7 @@ use Rattle.std.proofs.Math.Path.{fun_ext}
 use Rattle.devices.specs.files.Opening.{Opening}
 use Rattle.devices.specs.sinks.FileSinkView.{FileSinkView, unbegun}
 use Rattle.minelib_lines.specs.declared.text_name.TextName.{TextName}
-use Rattle.compile_command.specs.BaseFiles.{AreThere, HasFile, IsNoCompileAt, base_path, base_paths, told_at, unbegun_at}
+use Rattle.compile_command.specs.BaseFiles.{AreThere, HasFile, IsNoCompileAt, TellsRowsAt, base_path, base_paths, told_at, unbegun_at}
 use Rattle.compile_command.specs.Compile.{IsNoCompile, TellsRows}
 use Rattle.pit_compile.specs.Sinks.{all_told, sink_of}
 use Rattle.pit_compile.specs.declared.sinks.Sinks.{Sinks}
@@ -24,6 +24,16 @@ module _ (plan : PlanParts) (base : List ℕ) (zones : List (List ℕ)) (opened_
   are_there path out_old out_new placed has told = λ name.
       let text = told.compiled.done.written name in
       let it = has name text.begun in (it.0, it.1 ∙ text.before ∙ placed name)
+
+  pub tells_rows : (made_old made_new : List (List ℕ)) (tells : Bool) (out_old out_new : List ℕ)
+      → ((name : TextName) → sink_of old name ≡ unbegun tells (base_path base name)) → made_new ≡ made_old ++ base_paths base
+      → TellsRows plan zones opened_old opened_new starts_old starts_new (all_told told_at old) (all_told told_at new) settings out_old out_new
+      → TellsRowsAt plan base zones opened_old opened_new made_old made_new starts_old starts_new tells settings (Some new) out_old out_new
+  tells_rows made_old made_new tells out_old out_new fresh made h =
+      let first : all_told told_at old ≡ unbegun_at tells base = fun_ext (λ name. ap told_at (fresh name)) in (
+        made,
+        subst (λ sinks. TellsRows plan zones opened_old opened_new starts_old starts_new sinks (all_told told_at new) settings out_old out_new) first h,
+      )
 
   pub no_compile : {F : Type 0} (left : F → Option (List ℕ)) (is_sure : F → Bool) (failures : F → ℕ) (formulas : List Formula)
       (made_old made_new : List (List ℕ)) (tells : Bool) (why : Refused) → ((name : TextName) → sink_of old name ≡ unbegun tells (base_path base name))

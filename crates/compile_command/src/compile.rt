@@ -1,8 +1,8 @@
 //! From the files of a plan and its zones to the texts of an instance.
 
-ghost use Rattle.std.specs.Prelude.{◌≡◌, ◌≢◌, ◌++◌, map, string_bytes, IfErr, OnOk, OnErr};
+ghost use Rattle.std.specs.Prelude.{◌≡◌, ◌++◌, map, string_bytes, IfErr, OnOk, OnErr};
 ghost use Rattle.pit_compile.specs.Sinks.{all_told};
-ghost use Rattle.command_io.specs.FaultLine.{EndsBy};
+ghost use Rattle.command_io.specs.FaultLine.{IsDoneOrRefused};
 ghost use Rattle.plan_parts.specs.Destinations.{formulas_of};
 ghost use Rattle.run_threads.specs.Starts.{none_spent, AreSettled};
 ghost use Rattle.compile_command.specs.BaseFiles.{AreThere, IsNoCompileOfFiles, TellsRowsOfFiles};
@@ -92,13 +92,12 @@ pub fn compile_files<R: Files + Threads + Wait + Sync>(
 ) -> u8
 where
     R::File: Send,
-    ensures done { result ≡ 0 → TellsRowsOfFiles plan.now base.now (map string_bytes zones.now)
-        settings out.old.items out.new.items }
+    ensures ends { IsDoneOrRefused
+        (TellsRowsOfFiles plan.now base.now (map string_bytes zones.now) settings)
+        (IsNoCompileOfFiles plan.now base.now (map string_bytes zones.now)
+        (formulas_of destinations.now) settings)
+        out.old.items out.new.items err.old.items err.new.items result }
     ensures there { result ≡ 0 → AreThere (⟦<SystemFile<R::File> as AtPath>⟧.path) base.now }
-    ensures quiet { result ≡ 0 → err.new.items ≡ err.old.items }
-    ensures kept { result ≢ 0 → out.new.items ≡ out.old.items }
-    ensures told { result ≢ 0 → EndsBy (IsNoCompileOfFiles plan.now base.now (map string_bytes zones.now)
-        (formulas_of destinations.now) settings) err.old.items err.new.items result }
 {
     let ended = compile_at(
         alloc,

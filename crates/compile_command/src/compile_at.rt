@@ -1,11 +1,11 @@
 //! From the files of a plan and its zones to the files of BASE.
 
-ghost use Rattle.std.specs.Prelude.{◌≡◌, ◌≢◌, map, string_bytes};
+ghost use Rattle.std.specs.Prelude.{◌≡◌, map, string_bytes};
 ghost use Rattle.minelib_lines.specs.declared.text_name.TextName.{TextName as AName};
 ghost use Rattle.compile_command.specs.BaseFiles.{AreThere, HasFile, IsNoCompileAt, TellsRowsAt};
 ghost use Rattle.compile_command.specs.Compile.{IsNoCompile, TellsRows};
 ghost use Rattle.pit_compile.specs.Sinks.{all_told, sink_of};
-ghost use Rattle.command_io.specs.FaultLine.{EndsBy};
+ghost use Rattle.command_io.specs.FaultLine.{IsDoneOrRefused};
 ghost use Rattle.plan_parts.specs.Destinations.{formulas_of};
 ghost use Rattle.run_threads.specs.Starts.{none_spent, AreSettled};
 
@@ -55,16 +55,14 @@ pub fn compile_at<R: Threads + Wait + Sync, O: Opener, F: FileSlots>(
     err: &mut Vec<u8>,
 ) -> Ended<F::Slot>
     requires unspent { starts.old ≡ none_spent starts.old.allowed }
-    ensures done { result.status ≡ 0 → TellsRowsAt plan.now base.now (map string_bytes zones.now)
+    ensures ends { IsDoneOrRefused (TellsRowsAt plan.now base.now (map string_bytes zones.now)
         (O.opened files.old) (O.opened files.new) (F.made slots.old) (F.made slots.new) starts.old
-        starts.new F.Slot.tells settings result.sinks out.old.items out.new.items }
+        starts.new F.Slot.tells settings result.sinks) (IsNoCompileAt plan.now base.now
+        (map string_bytes zones.now) (O.opened files.old) (O.opened files.new) (F.made slots.old)
+        (F.made slots.new) starts.old starts.new F.Slot.tells O.Opened.left O.Opened.is_sure
+        O.Opened.failures (formulas_of destinations.now) settings result.sinks)
+        out.old.items out.new.items err.old.items err.new.items result.status }
     ensures there { result.status ≡ 0 → AreThere F.Slot.File.path base.now }
-    ensures quiet { result.status ≡ 0 → err.new.items ≡ err.old.items }
-    ensures kept { result.status ≢ 0 → out.new.items ≡ out.old.items }
-    ensures refused { result.status ≢ 0 → EndsBy (IsNoCompileAt plan.now base.now (map string_bytes zones.now)
-        (O.opened files.old) (O.opened files.new) (F.made slots.old) (F.made slots.new) starts.old
-        starts.new F.Slot.tells O.Opened.left O.Opened.is_sure O.Opened.failures
-        (formulas_of destinations.now) settings result.sinks) err.old.items err.new.items result.status }
     ensures settled { AreSettled starts.old starts.new }
 {
     let mut sinks = match sinks_of(slots, alloc, base) {
@@ -110,17 +108,13 @@ fn compile_with<R: Threads + Wait + Sync, O: Opener, S: Sink>(
     err: &mut Vec<u8>,
 ) -> u8
     requires unspent { starts.old ≡ none_spent starts.old.allowed }
-    ensures done { let told = all_told S.state in
-        result ≡ 0 → TellsRows plan.now (map string_bytes zones.now) (O.opened files.old)
-        (O.opened files.new) starts.old starts.new (told sinks.old) (told sinks.new)
-        settings out.old.items out.new.items }
-    ensures quiet { result ≡ 0 → err.new.items ≡ err.old.items }
-    ensures kept { result ≢ 0 → out.new.items ≡ out.old.items }
-    ensures refused { let told = all_told S.state in
-        result ≢ 0 → EndsBy (IsNoCompile plan.now (map string_bytes zones.now) (O.opened files.old)
+    ensures ends { let told = all_told S.state in
+        IsDoneOrRefused (TellsRows plan.now (map string_bytes zones.now) (O.opened files.old)
+        (O.opened files.new) starts.old starts.new (told sinks.old) (told sinks.new) settings)
+        (IsNoCompile plan.now (map string_bytes zones.now) (O.opened files.old)
         (O.opened files.new) starts.old starts.new (told sinks.old) (told sinks.new)
         O.Opened.left O.Opened.is_sure O.Opened.failures (formulas_of destinations.now) settings)
-        err.old.items err.new.items result }
+        out.old.items out.new.items err.old.items err.new.items result }
     ensures settled { AreSettled starts.old starts.new }
 {
     match compile_into(

@@ -1,8 +1,8 @@
 //! A model to be compiled, by the pipe form or from files to files.
 
-ghost use Rattle.std.specs.Prelude.{◌≡◌, ◌≢◌, ◌+◌, length, IfErr, OnErr, OnOk};
+ghost use Rattle.std.specs.Prelude.{◌≡◌, ◌+◌, length, IfErr, OnErr, OnOk};
 ghost use Rattle.plan_parts.specs.Destinations.{formulas_of};
-ghost use Rattle.command_io.specs.FaultLine.{EndsBy};
+ghost use Rattle.command_io.specs.FaultLine.{IsDoneOrRefused};
 ghost use Rattle.run_threads.specs.Starts.{none_spent, AreSettled, AreSpent};
 ghost use Rattle.compile_command.specs.Printed.{IsNoPipe, IsPrinted};
 ghost use Rattle.compile_command.specs.Task.{IsNoTask, IsTaskDone, plan_in};
@@ -60,15 +60,12 @@ impl Task {
         lines: &mut Vec<u8>,
     ) -> Ended<F::Slot>
         requires unspent { starts.old ≡ none_spent starts.old.allowed }
-        ensures done { result.status ≡ 0 → IsTaskDone (O.opened files.old) (O.opened files.new)
+        ensures ends { IsDoneOrRefused (IsTaskDone (O.opened files.old) (O.opened files.new)
             (F.made slots.old) (F.made slots.new) starts.old starts.new F.Slot.tells self.now
-            result.sinks text.old.items text.new.items }
-        ensures quiet { result.status ≡ 0 → lines.new.items ≡ lines.old.items }
-        ensures kept { result.status ≢ 0 → text.new.items ≡ text.old.items }
-        ensures refused { result.status ≢ 0 → EndsBy (IsNoTask (O.opened files.old)
-            (O.opened files.new) (F.made slots.old) (F.made slots.new) starts.old starts.new
-            F.Slot.tells O.Opened.left O.Opened.is_sure O.Opened.failures self.now
-            (formulas_of destinations.now) result.sinks) lines.old.items lines.new.items result.status }
+            result.sinks) (IsNoTask (O.opened files.old) (O.opened files.new) (F.made slots.old)
+            (F.made slots.new) starts.old starts.new F.Slot.tells O.Opened.left O.Opened.is_sure
+            O.Opened.failures self.now (formulas_of destinations.now) result.sinks)
+            text.old.items text.new.items lines.old.items lines.new.items result.status }
         ensures settled { AreSettled starts.old starts.new }
     {
         match self {

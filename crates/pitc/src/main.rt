@@ -4,8 +4,8 @@
 //! output. `pitc compile` does so from files to files. `pitc check BASE` reads the files of an instance and prints its counts.
 #![tactic(auto)]
 
-ghost use Rattle.std.specs.Prelude.{◌≡◌, ◌≢◌, map, string_bytes, IfErr, IfOk, OnErr};
-ghost use Rattle.command_io.specs.FaultLine.{EndsBy};
+ghost use Rattle.std.specs.Prelude.{◌≡◌, map, string_bytes, IfErr, IfOk, OnErr};
+ghost use Rattle.command_io.specs.FaultLine.{IsDoneOrRefused};
 ghost use Rattle.command_io.specs.PlanFile.{IsNotBegun};
 ghost use Rattle.compile_command.specs.BaseFiles.{IsNoCompileFrom, TellsRowsFrom};
 ghost use Rattle.compile_command.specs.Printed.{IsNoInput, IsNotPrinted, PrintsInput};
@@ -120,15 +120,11 @@ fn print_model<I: Feed, T: Threads + Wait + Sync, O: Opener, F: FileSlots>(
     lines: &mut Vec<u8>,
 ) -> Result<u8, Refused>
     requires unspent { starts.old ≡ none_spent starts.old.allowed }
-    ensures done { IfOk result (λ status. status ≡ 0
-        → PrintsInput (I.left input.old) (I.given input.old) (I.given input.new) (I.failures input.old)
-        (I.failures input.new) starts.new text.old.items text.new.items) }
-    ensures quiet { IfOk result (λ status. status ≡ 0 → lines.new.items ≡ lines.old.items) }
-    ensures kept { IfOk result (λ status. status ≢ 0 → text.new.items ≡ text.old.items) }
-    ensures refused { IfOk result (λ status. status ≢ 0
-        → EndsBy (IsNotPrinted (I.left input.old) (I.given input.old) (I.given input.new)
-        (I.failures input.old) (I.failures input.new) starts.old starts.new) lines.old.items
-        lines.new.items status) }
+    ensures ends { IfOk result (IsDoneOrRefused (PrintsInput (I.left input.old) (I.given input.old)
+        (I.given input.new) (I.failures input.old) (I.failures input.new) starts.new)
+        (IsNotPrinted (I.left input.old) (I.given input.old) (I.given input.new)
+        (I.failures input.old) (I.failures input.new) starts.old starts.new)
+        text.old.items text.new.items lines.old.items lines.new.items) }
     ensures unread { IfErr result (IsNoInput (I.left input.old) (I.given input.old)
         (I.given input.new) (I.failures input.old) (I.failures input.new)) }
     ensures still { OnErr result ((starts.new ≡ starts.old) × (text.new.items ≡ text.old.items)
@@ -156,17 +152,14 @@ fn compile<T: Threads + Wait + Sync, O: Opener, F: FileSlots>(
     lines: &mut Vec<u8>,
 ) -> Result<Ended<F::Slot>, Refused>
     requires unspent { starts.old ≡ none_spent starts.old.allowed }
-    ensures done { IfOk result (λ ended. ended.status ≡ 0 → TellsRowsFrom plan.now (string_bytes base)
+    ensures ends { IfOk result (λ ended. IsDoneOrRefused (TellsRowsFrom plan.now (string_bytes base)
         (map string_bytes zones.items) (O.opened files.old) (O.opened files.new) (F.made slots.old)
         (F.made slots.new) starts.old starts.new F.Slot.tells O.Opened.given O.Opened.failures
-        settings ended.sinks text.old.items text.new.items) }
-    ensures quiet { IfOk result (λ ended. ended.status ≡ 0 → lines.new.items ≡ lines.old.items) }
-    ensures kept { IfOk result (λ ended. ended.status ≢ 0 → text.new.items ≡ text.old.items) }
-    ensures refused { IfOk result (λ ended. ended.status ≢ 0 → EndsBy (IsNoCompileFrom plan.now
-        (string_bytes base) (map string_bytes zones.items) (O.opened files.old) (O.opened files.new)
-        (F.made slots.old) (F.made slots.new) starts.old starts.new F.Slot.tells O.Opened.left
-        O.Opened.is_sure O.Opened.given O.Opened.failures settings ended.sinks) lines.old.items
-        lines.new.items ended.status) }
+        settings ended.sinks) (IsNoCompileFrom plan.now (string_bytes base)
+        (map string_bytes zones.items) (O.opened files.old) (O.opened files.new) (F.made slots.old)
+        (F.made slots.new) starts.old starts.new F.Slot.tells O.Opened.left O.Opened.is_sure
+        O.Opened.given O.Opened.failures settings ended.sinks)
+        text.old.items text.new.items lines.old.items lines.new.items ended.status) }
     ensures unread { IfErr result (IsNotBegun O.Opened.given O.Opened.failures plan.now
         (O.opened files.old) (O.opened files.new)) }
     ensures still { OnErr result ((F.made slots.new ≡ F.made slots.old) × (starts.new ≡ starts.old)
@@ -195,15 +188,12 @@ fn run<T: Threads + Wait + Sync, O: Opener, F: FileSlots>(
     lines: &mut Vec<u8>,
 ) -> Result<Ended<F::Slot>, AllocError>
     requires unspent { starts.old ≡ none_spent starts.old.allowed }
-    ensures done { IfOk result (λ ended. ended.status ≡ 0 → IsTaskDone (O.opened files.old)
+    ensures ends { IfOk result (λ ended. IsDoneOrRefused (IsTaskDone (O.opened files.old)
         (O.opened files.new) (F.made slots.old) (F.made slots.new) starts.old starts.new F.Slot.tells
-        task.now ended.sinks text.old.items text.new.items) }
-    ensures quiet { IfOk result (λ ended. ended.status ≡ 0 → lines.new.items ≡ lines.old.items) }
-    ensures kept { IfOk result (λ ended. ended.status ≢ 0 → text.new.items ≡ text.old.items) }
-    ensures refused { IfOk result (λ ended. ended.status ≢ 0 → EndsBy (IsNoTask (O.opened files.old)
-        (O.opened files.new) (F.made slots.old) (F.made slots.new) starts.old starts.new F.Slot.tells
-        O.Opened.left O.Opened.is_sure O.Opened.failures task.now (formulas_of_plan (plan_in task.now))
-        ended.sinks) lines.old.items lines.new.items ended.status) }
+        task.now ended.sinks) (IsNoTask (O.opened files.old) (O.opened files.new) (F.made slots.old)
+        (F.made slots.new) starts.old starts.new F.Slot.tells O.Opened.left O.Opened.is_sure
+        O.Opened.failures task.now (formulas_of_plan (plan_in task.now)) ended.sinks)
+        text.old.items text.new.items lines.old.items lines.new.items ended.status) }
     ensures still { OnErr result ((O.opened files.new ≡ O.opened files.old)
         × (F.made slots.new ≡ F.made slots.old) × (starts.new ≡ starts.old)
         × (text.new.items ≡ text.old.items) × (lines.new.items ≡ lines.old.items)) }

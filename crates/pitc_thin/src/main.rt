@@ -3,8 +3,8 @@
 //! It reads a plan and its zone files as `pitc compile` does, and writes one precedence file.
 #![tactic(auto)]
 
-ghost use Rattle.std.specs.Prelude.{◌≡◌, ◌≢◌, map, string_bytes, IfErr, IfOk, OnErr};
-ghost use Rattle.command_io.specs.FaultLine.{EndsBy};
+ghost use Rattle.std.specs.Prelude.{◌≡◌, map, string_bytes, IfErr, IfOk, OnErr};
+ghost use Rattle.command_io.specs.FaultLine.{IsDoneOrRefused};
 ghost use Rattle.command_io.specs.PlanFile.{IsNotBegun};
 ghost use Rattle.plan_parts.specs.PlanFormulas.{formulas_of_plan};
 ghost use Rattle.plan_parts.specs.formulas.Formula.{IsRuled};
@@ -111,16 +111,13 @@ fn thin_from<T: Threads + Wait + Sync, O: Opener, S: Sink>(
     lines: &mut Vec<u8>,
 ) -> Result<u8, Refused>
     requires unspent { starts.old ≡ none_spent starts.old.allowed }
-    ensures done { IfOk result (λ status. status ≡ 0 → TellsThinnedFrom plan.now
+    ensures ends { IfOk result (IsDoneOrRefused (TellsThinnedFrom plan.now
         (map string_bytes zones.now) (O.opened files.old) (O.opened files.new) starts.old starts.new
-        (S.state sink.old) (S.state sink.new) O.Opened.given O.Opened.failures settings
-        text.old.items text.new.items) }
-    ensures quiet { IfOk result (λ status. status ≡ 0 → lines.new.items ≡ lines.old.items) }
-    ensures kept { IfOk result (λ status. status ≢ 0 → text.new.items ≡ text.old.items) }
-    ensures refused { IfOk result (λ status. status ≢ 0 → EndsBy (IsNotThinnedFrom plan.now
-        (map string_bytes zones.now) (O.opened files.old) (O.opened files.new) starts.old starts.new
-        (S.state sink.old) (S.state sink.new) O.Opened.left O.Opened.is_sure O.Opened.given
-        O.Opened.failures settings) lines.old.items lines.new.items status) }
+        (S.state sink.old) (S.state sink.new) O.Opened.given O.Opened.failures settings)
+        (IsNotThinnedFrom plan.now (map string_bytes zones.now) (O.opened files.old)
+        (O.opened files.new) starts.old starts.new (S.state sink.old) (S.state sink.new)
+        O.Opened.left O.Opened.is_sure O.Opened.given O.Opened.failures settings)
+        text.old.items text.new.items lines.old.items lines.new.items) }
     ensures unread { IfErr result (IsNotBegun O.Opened.given O.Opened.failures plan.now
         (O.opened files.old) (O.opened files.new)) }
     ensures still { OnErr result ((S.state sink.new ≡ S.state sink.old) × (starts.new ≡ starts.old)
@@ -147,15 +144,13 @@ fn run<T: Threads + Wait + Sync, O: Opener, S: Sink>(
     lines: &mut Vec<u8>,
 ) -> Result<u8, AllocError>
     requires unspent { starts.old ≡ none_spent starts.old.allowed }
-    ensures done { IfOk result (λ status. status ≡ 0 → TellsThinned plan.now
-        (map string_bytes zones.now) (O.opened files.old) (O.opened files.new) starts.old starts.new
-        (S.state sink.old) (S.state sink.new) settings text.old.items text.new.items) }
-    ensures quiet { IfOk result (λ status. status ≡ 0 → lines.new.items ≡ lines.old.items) }
-    ensures kept { IfOk result (λ status. status ≢ 0 → text.new.items ≡ text.old.items) }
-    ensures refused { IfOk result (λ status. status ≢ 0 → EndsBy (IsNotThinned plan.now
-        (map string_bytes zones.now) (O.opened files.old) (O.opened files.new) starts.old starts.new
-        (S.state sink.old) (S.state sink.new) O.Opened.left O.Opened.is_sure O.Opened.failures
-        (formulas_of_plan plan.now) settings) lines.old.items lines.new.items status) }
+    ensures ends { IfOk result (IsDoneOrRefused (TellsThinned plan.now (map string_bytes zones.now)
+        (O.opened files.old) (O.opened files.new) starts.old starts.new (S.state sink.old)
+        (S.state sink.new) settings) (IsNotThinned plan.now (map string_bytes zones.now)
+        (O.opened files.old) (O.opened files.new) starts.old starts.new (S.state sink.old)
+        (S.state sink.new) O.Opened.left O.Opened.is_sure O.Opened.failures
+        (formulas_of_plan plan.now) settings)
+        text.old.items text.new.items lines.old.items lines.new.items) }
     ensures still { OnErr result ((O.opened files.new ≡ O.opened files.old)
         × (S.state sink.new ≡ S.state sink.old) × (starts.new ≡ starts.old)
         × (text.new.items ≡ text.old.items) × (lines.new.items ≡ lines.old.items)) }

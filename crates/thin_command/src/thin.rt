@@ -1,7 +1,7 @@
 //! From the files of a plan and its zones to what is left of their precedences.
 
-ghost use Rattle.std.specs.Prelude.{◌≡◌, ◌≢◌, ◌++◌, [], ◌∷◌, map, string_bytes, IfErr, IfOk, OnErr, OnOk};
-ghost use Rattle.command_io.specs.FaultLine.{EndsBy};
+ghost use Rattle.std.specs.Prelude.{◌≡◌, ◌++◌, [], ◌∷◌, map, string_bytes, IfErr, IfOk, OnErr, OnOk};
+ghost use Rattle.command_io.specs.FaultLine.{IsDoneOrRefused};
 ghost use Rattle.plan_parts.specs.Destinations.{formulas_of};
 ghost use Rattle.run_threads.specs.Starts.{none_spent, AreSettled};
 ghost use Rattle.thin_command.specs.CountsText.{counts_words};
@@ -91,15 +91,13 @@ pub fn thin<R: Threads + Wait + Sync, O: Opener, S: Sink>(
     err: &mut Vec<u8>,
 ) -> u8
     requires unspent { starts.old ≡ none_spent starts.old.allowed }
-    ensures done { result ≡ 0 → TellsThinned plan.now (map string_bytes zones.now)
+    ensures ends { IsDoneOrRefused (TellsThinned plan.now (map string_bytes zones.now)
         (O.opened files.old) (O.opened files.new) starts.old starts.new (S.state sink.old)
-        (S.state sink.new) settings out.old.items out.new.items }
-    ensures quiet { result ≡ 0 → err.new.items ≡ err.old.items }
-    ensures kept { result ≢ 0 → out.new.items ≡ out.old.items }
-    ensures refused { result ≢ 0 → EndsBy (IsNotThinned plan.now (map string_bytes zones.now)
+        (S.state sink.new) settings) (IsNotThinned plan.now (map string_bytes zones.now)
         (O.opened files.old) (O.opened files.new) starts.old starts.new (S.state sink.old)
         (S.state sink.new) O.Opened.left O.Opened.is_sure O.Opened.failures
-        (formulas_of destinations.now) settings) err.old.items err.new.items result }
+        (formulas_of destinations.now) settings)
+        out.old.items out.new.items err.old.items err.new.items result }
     ensures settled { AreSettled starts.old starts.new }
 {
     match thin_into(

@@ -7,7 +7,13 @@ returns-in_err-plan-clause-unread g c =
     let p = err_from_is_err_and c.from_residual.result c.from_residual.ensures.1 in
     rw (p.1, p.2) (inl c.in_err-plan.ensures.refused)
 
-pub returns-clause-refused : goal.returns-clause-refused
-returns-clause-refused g c = λ bad.
-    let told = c.in_ok-run.ensures.refused bad in
-    (told.0, record { plan = _; between = _; read = c.in_ok-plan.ensures.plan; why = told.1 }, told.2)
+pub returns-clause-ends : goal.returns-clause-ends
+returns-clause-ends g c =
+    let ends = c.in_ok-run.ensures.ends in record {
+      done = λ zero. record { plan = _; between = _; read = c.in_ok-plan.ensures.plan; told = ends.done zero };
+      quiet = ends.quiet;
+      kept = ends.kept;
+      refused = λ bad.
+          let told = ends.refused bad in
+          (told.0, record { plan = _; between = _; read = c.in_ok-plan.ensures.plan; why = told.1 }, told.2);
+    }

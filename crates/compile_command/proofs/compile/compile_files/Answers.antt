@@ -1,9 +1,17 @@
 use Rattle.compile_command.proofs.compile.compile_files.Goals as goal
 
-pub returns-clause-told : goal.returns-clause-told
-returns-clause-told g c = λ bad.
-    let told = c.compile_at-ended.ensures.refused bad in (
-      told.0,
-      record { opened = _; made = _; starts = _; sinks = _; why = rw (c.new.ensures, c.new-2.ensures, c.new-3.ensures) at told.1 },
-      told.2,
-    )
+pub returns-clause-ends : goal.returns-clause-ends
+returns-clause-ends g c =
+    let ends = c.compile_at-ended.ensures.ends in record {
+      done = λ zero.
+          let told = ends.done zero in
+          record { opened = _; made = _; starts = _; sinks = _; told = rw (c.new.ensures, c.new-2.ensures, c.new-3.ensures) at told };
+      quiet = ends.quiet;
+      kept = ends.kept;
+      refused = λ bad.
+          let told = ends.refused bad in (
+            told.0,
+            record { opened = _; made = _; starts = _; sinks = _; why = rw (c.new.ensures, c.new-2.ensures, c.new-3.ensures) at told.1 },
+            told.2,
+          );
+    }
