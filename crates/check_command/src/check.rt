@@ -5,7 +5,7 @@ ghost use Rattle.check_command.specs.Checked.{FailsIn, IsCheckStatus, IsFoundIn,
 ghost use Rattle.check_command.specs.inner.CheckSteps.{CountsAll, CountsFile, CountsIfThere};
 ghost use Rattle.refusals.specs.declared.refusal.Refusal.TheVariants.{OutOfMemory};
 ghost use Rattle.plan_parts.specs.declared.ranges.TheConstants.{MAX_BLOCKS};
-ghost use Rattle.command_io.specs.FaultLine.{EndsBy};
+ghost use Rattle.command_io.specs.FaultLine.{IsDoneOrRefused};
 ghost use Rattle.command_io.specs.declared.refused.Refused.TheVariants.{Run};
 
 use crate::counting::count_on;
@@ -36,13 +36,12 @@ pub fn check<O: Opener>(
     out: &mut Vec<u8>,
     err: &mut Vec<u8>,
 ) -> u8
-    ensures done { result ≡ 0 → TellsFiles base.now O.Opened.left O.Opened.given O.Opened.failures
-        O.File.path (O.opened files.old) (O.opened files.new) out.old.items out.new.items }
-    ensures quiet { result ≡ 0 → err.new.items ≡ err.old.items }
-    ensures refused { result ≢ 0 → out.new.items ≡ out.old.items }
+    ensures ends { IsDoneOrRefused (TellsFiles base.now O.Opened.left O.Opened.given O.Opened.failures
+        O.File.path (O.opened files.old) (O.opened files.new))
+        (IsFoundIn base.now O.Opened.left O.Opened.given O.Opened.failures
+        O.File.path (O.opened files.old) (O.opened files.new))
+        out.old.items out.new.items err.old.items err.new.items result }
     ensures status { IsCheckStatus result }
-    ensures told { result ≢ 0 → EndsBy (IsFoundIn base.now O.Opened.left O.Opened.given O.Opened.failures
-        O.File.path (O.opened files.old) (O.opened files.new)) err.old.items err.new.items result }
     ensures memory { result ≡ 4 → err.new.items ≡ err.old.items }
 {
     match tell_counts(alloc, base, files, out) {
@@ -61,13 +60,11 @@ pub fn check_files<R: Files>(
 ) -> u8
 where
     R::File: Send,
-    ensures done { result ≡ 0 → TellsOpenedFiles base.now
-        (⟦<SystemFile<R::File> as AtPath>⟧.path) out.old.items out.new.items }
-    ensures quiet { result ≡ 0 → err.new.items ≡ err.old.items }
-    ensures refused { result ≢ 0 → out.new.items ≡ out.old.items }
+    ensures ends { IsDoneOrRefused
+        (TellsOpenedFiles base.now (⟦<SystemFile<R::File> as AtPath>⟧.path))
+        (IsFoundInOpenedFiles base.now (⟦<SystemFile<R::File> as AtPath>⟧.path))
+        out.old.items out.new.items err.old.items err.new.items result }
     ensures status { IsCheckStatus result }
-    ensures told { result ≢ 0 → EndsBy (IsFoundInOpenedFiles base.now
-        (⟦<SystemFile<R::File> as AtPath>⟧.path)) err.old.items err.new.items result }
     ensures memory { result ≡ 4 → err.new.items ≡ err.old.items }
 {
     check(alloc, &mut SystemFiles::new(rt), base, out, err)

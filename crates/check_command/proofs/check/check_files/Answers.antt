@@ -1,7 +1,10 @@
 use Rattle.check_command.proofs.check.check_files.Goals as goal
 
-pub returns-clause-done : goal.returns-clause-done
-returns-clause-done g c = λ zero. (_, rw c.new.ensures at (c.check.ensures.done zero))
-
-pub returns-clause-told : goal.returns-clause-told
-returns-clause-told g c = λ some. let told = c.check.ensures.told some in (told.0, (_, rw c.new.ensures at told.1), told.2)
+pub returns-clause-ends : goal.returns-clause-ends
+returns-clause-ends g c =
+    let ends = c.check.ensures.ends in record {
+      done = λ zero. (_, rw c.new.ensures at (ends.done zero));
+      quiet = ends.quiet;
+      kept = ends.kept;
+      refused = λ some. let told = ends.refused some in (told.0, (_, rw c.new.ensures at told.1), told.2);
+    }
