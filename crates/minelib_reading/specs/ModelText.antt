@@ -2,7 +2,7 @@
 use Rattle.std.specs.Prelude.{ℕ, ◌+◌, ◌==◌, ◌||◌, not, Bool, List, [], ◌∷◌, ◌++◌, length, drop, ℤ, codes, Option, Some, None, Result, Ok, Err, if◌then◌else◌}
 use Rattle.std.specs.List.{list_any, before_first, after_first}
 use Rattle.std.specs.Str.{bytes_eq}
-use Rattle.pit_units.specs.Steps.{◌>>=◌}
+use Rattle.pit_units.specs.Steps.{◌>>=◌, each_of}
 use Rattle.plan_parts.specs.PlanKept.{is_turned, stands_before}
 use Rattle.plan_parts.specs.declared.limit.Bound.{Bound}
 use Rattle.plan_parts.specs.declared.limit.Bound.TheVariants.{AtMost, AtLeast, Between}
@@ -21,7 +21,7 @@ use Rattle.minelib_reading.specs.declared.model.key.ModelKey.TheVariants as mode
 use Rattle.minelib_reading.specs.declared.model.key.Section.{Section}
 use Rattle.minelib_reading.specs.declared.model.key.Section.TheVariants.{Heading, Objective, Coefs, Limits}
 use Rattle.text_lines.specs.Reading.{read_lines}
-use Rattle.text_lines.specs.StatedFields.{below_in, decimal_in, each_in, field_at}
+use Rattle.text_lines.specs.StatedFields.{below_in, decimal_in, field_at}
 use Rattle.text_lines.specs.TextLines.{end_of, fields_of, lines_in}
 use Rattle.text_lines.specs.declared.text_fault.LineFault.{LineFault}
 use Rattle.text_lines.specs.declared.text_fault.TextKind.{TextKind}
@@ -55,7 +55,7 @@ unfoldable pub values_stated : ℕ → ℕ → ℕ → List (List ℕ) → Resul
 values_stated n destinations before fields =
     if not (length fields == destinations + 1) then Err Fields else do
       b ← below_in n (field_at fields 0)
-      values ← each_in decimal_in (drop 1 fields)
+      values ← each_of decimal_in (drop 1 fields)
       if not (b == before) then Err Order else Ok values
 
 -- `b d r v` of a coefficient; `b r v` in a CPIT, which has one destination

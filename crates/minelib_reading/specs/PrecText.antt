@@ -1,9 +1,9 @@
 -- What a line of a precedence file states, field by field, or the kind of its first fault; and the predecessors of a file.
 use Rattle.std.specs.Prelude.{ℕ, ◌==◌, ◌&&◌, ◌||◌, nat_lt, not, Bool, true, List, [], ◌∷◌, ◌++◌, length, drop, Result, Ok, Err, if◌then◌else◌}
 use Rattle.std.specs.List.{list_any}
-use Rattle.pit_units.specs.Steps.{◌>>=◌}
+use Rattle.pit_units.specs.Steps.{◌>>=◌, each_of}
 use Rattle.text_lines.specs.Reading.{read_lines}
-use Rattle.text_lines.specs.StatedFields.{below_in, each_in, field_at}
+use Rattle.text_lines.specs.StatedFields.{below_in, field_at}
 use Rattle.text_lines.specs.TextLines.{end_of, fields_of, lines_in}
 use Rattle.text_lines.specs.declared.text_fault.LineFault.{LineFault}
 use Rattle.text_lines.specs.declared.text_fault.TextKind.{TextKind}
@@ -24,7 +24,7 @@ preds_stated n own fields =
     if nat_lt (length fields) 2 then Err Fields else do
       id ← below_in n (field_at fields 0)
       k ← below_in n (field_at fields 1)
-      ids ← each_in (below_in n) (drop 2 fields)
+      ids ← each_of (below_in n) (drop 2 fields)
       if not (id == own) then Err Order else (
           if not (k == length ids) then Err Count else (
           if stands_in ids own || not (all_differ ids) then Err Twice else Ok ids))

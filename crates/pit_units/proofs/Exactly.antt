@@ -1,8 +1,9 @@
 -- Steps answer exactly what each of them does: one term for each line, in both directions.
-use Rattle.std.specs.Prelude.{◌≡◌, ◌≢◌, ℕ, ◌==◌, not, Bool, true, false, Option, Some, None, is_some, Result, Ok, Err, if◌then◌else◌}
+use Rattle.std.specs.Prelude.{◌≡◌, ◌≢◌, ℕ, ◌==◌, not, Bool, true, false, List, [], ◌∷◌, Option, Some, None, is_some, Result, Ok, Err, if◌then◌else◌}
+use Rattle.std.specs.List.{AllZip}
 use Rattle.std.proofs.Common.{refl, sym, ◌∙◌, ap, subst, eqb-true}
 use Rattle.std.proofs.lemmas.Bool.{eq-eqb, eqb-false, ne_eqb}
-use Rattle.pit_units.specs.Steps.{◌>>=◌}
+use Rattle.pit_units.specs.Steps.{◌>>=◌, each_of}
 
 -- an answer is one of these, and each of these is the answer
 pub record Exactly {A F : Type 0} (r : Result A F) (P : A → Type 0) : Type 0 where
@@ -39,19 +40,6 @@ tested {A} {F} {r} {P} {t} {T} fault to from all = record {
 }
   where
     told : (b : Bool) → t ≡ b → (y : A) → (if b then Err fault else r) ≡ Ok y → T × P y
-    told true is y e = absurd cc
-    told false is y e = (to is, all.told y e)
-
--- the same of a test within a step
-pub tested_then : {A B F : Type 0} {P : B → Type 0} {t : Bool} {T : Type 0} (r : Result A F) (next : A → Result B F) (fault : F)
-    → (t ≡ false → T) → (T → t ≡ false)
-    → Exactly (r >>= next) P → Exactly ((if t then Err fault else r) >>= next) (λ y. T × P y)
-tested_then {A} {B} {F} {P} {t} {T} r next fault to from all = record {
-  told = λ y e. told t refl y e;
-  back = λ y h. rw (from h.0) (all.back y h.1);
-}
-  where
-    told : (b : Bool) → t ≡ b → (y : B) → ((if b then Err fault else r) >>= next) ≡ Ok y → T × P y
     told true is y e = absurd cc
     told false is y e = (to is, all.told y e)
 
@@ -101,3 +89,30 @@ made {A} {B} {F} {r} {P} {Q} f all to from = record {
 -- the same, said otherwise
 pub as_ : {A F : Type 0} {r : Result A F} {P Q : A → Type 0} → Exactly r P → ((y : A) → P y → Q y) → ((y : A) → Q y → P y) → Exactly r Q
 as_ all to from = record { told = λ y e. to y (all.told y e); back = λ y h. all.back y (from y h) }
+
+-- a step for each of several
+pub each : {A B F : Type 0} {step : A → Result B F} {P : A → B → Type 0} → ((x : A) → Exactly (step x) (P x))
+    → (xs : List A) → Exactly (each_of step xs) (AllZip P xs)
+each {A} {B} {F} {step} {P} one [] = record { told = none; back = some }
+  where
+    none : (ys : List B) → ◌≡◌ {A = Result (List B) F} (Ok []) (Ok ys) → AllZip P [] ys
+    none [] e = tt
+    none (y ∷ ys) e = absurd cc
+
+    some : (ys : List B) → AllZip P [] ys → ◌≡◌ {A = Result (List B) F} (Ok []) (Ok ys)
+    some [] h = refl
+    some (y ∷ ys) h = absurd h
+each {A} {B} {F} {step} {P} one (x ∷ xs) = as_ (steps (each one xs)) to from
+  where
+    Steps : List B → Type 0
+    Steps all = (y : B) × P x y × ((ys : List B) × AllZip P xs ys × (all ≡ y ∷ ys))
+
+    steps : Exactly (each_of step xs) (AllZip P xs) → Exactly (each_of step (x ∷ xs)) Steps
+    steps all = then_ (one x) (λ y. then_ all (λ ys. done (y ∷ ys)))
+
+    to : (all : List B) → Steps all → AllZip P (x ∷ xs) all
+    to all (y, h, (ys, more, is)) = subst (AllZip P (x ∷ xs)) (sym is) (h, more)
+
+    from : (all : List B) → AllZip P (x ∷ xs) all → Steps all
+    from [] h = absurd h
+    from (y ∷ ys) h = (y, h.0, (ys, h.1, refl))

@@ -1,16 +1,15 @@
 -- What is read of a field is what it spells.
-use Rattle.std.specs.Prelude.{◌≡◌, ℕ, ◌*◌, ◌^◌, ◌≤◌, List, [], ◌∷◌, ℤ, pos, ◌-ℤ◌, Result, Ok, Err}
-use Rattle.std.specs.List.{AllZip}
-use Rattle.std.proofs.Common.{refl, sym, ap, subst, arith}
+use Rattle.std.specs.Prelude.{◌≡◌, ℕ, ◌*◌, ◌^◌, ◌≤◌, List, ℤ, pos, ◌-ℤ◌, Result, Ok, Err}
+use Rattle.std.proofs.Common.{ap, arith}
 use Rattle.pit_units.proofs.Standing.{read_stands, stands_read}
 use Rattle.pit_units.specs.Decimal.{decimal_of, decimal_within}
 use Rattle.pit_units.specs.StandsFor.{StandsFor}
 use Rattle.pit_units.specs.declared.fault.DecFault.{DecFault}
 use Rattle.pit_units.specs.declared.fault.DecFault.TheVariants as dec
-use Rattle.pit_units.proofs.Exactly.{Exactly, as_, done, same, then_}
+use Rattle.pit_units.proofs.Exactly.{Exactly, same}
 use Rattle.pit_units.proofs.SpelledFacts.{below_of_number, size_of_number, whole_of_number, within}
 use Rattle.pit_units.specs.SpelledNumbers.{SpellsBelow, SpellsNumber, SpellsSize, SpellsWhole}
-use Rattle.text_lines.specs.StatedFields.{below_in, decimal_in, each_in, number_in, number_said, size_in, whole_in}
+use Rattle.text_lines.specs.StatedFields.{below_in, decimal_in, number_in, number_said, size_in, whole_in}
 use Rattle.text_lines.specs.declared.text_fault.TextKind.{TextKind}
 
 number_ok : (d : Result ℤ DecFault) (m : ℤ) → number_said d ≡ Ok m → d ≡ Ok m
@@ -42,30 +41,3 @@ any field = record {
   told = λ m e. read_stands 6 field m (omega arith) (number_ok (decimal_of 6 field) m e);
   back = λ m h. ap number_said (stands_read 6 field m (omega arith) h);
 }
-
--- several fields by one rule
-pub each : {A : Type 0} {rule : List ℕ → Result A TextKind} {P : List ℕ → A → Type 0} → ((field : List ℕ) → Exactly (rule field) (P field))
-    → (fields : List (List ℕ)) → Exactly (each_in rule fields) (AllZip P fields)
-each {A} {rule} {P} one [] = record { told = none; back = some }
-  where
-    none : (xs : List A) → ◌≡◌ {A = Result (List A) TextKind} (Ok []) (Ok xs) → AllZip P [] xs
-    none [] e = tt
-    none (x ∷ xs) e = absurd cc
-
-    some : (xs : List A) → AllZip P [] xs → ◌≡◌ {A = Result (List A) TextKind} (Ok []) (Ok xs)
-    some [] h = refl
-    some (x ∷ xs) h = absurd h
-each {A} {rule} {P} one (field ∷ fields) = as_ (steps (each one fields)) to from
-  where
-    Steps : List A → Type 0
-    Steps all = (x : A) × P field x × ((xs : List A) × AllZip P fields xs × (all ≡ x ∷ xs))
-
-    steps : Exactly (each_in rule fields) (AllZip P fields) → Exactly (each_in rule (field ∷ fields)) Steps
-    steps all = then_ (one field) (λ x. then_ all (λ xs. done (x ∷ xs)))
-
-    to : (all : List A) → Steps all → AllZip P (field ∷ fields) all
-    to all (x, h, (xs, more, is)) = subst (AllZip P (field ∷ fields)) (sym is) (h, more)
-
-    from : (all : List A) → AllZip P (field ∷ fields) all → Steps all
-    from [] h = absurd h
-    from (x ∷ xs) h = (x, h.0, (xs, h.1, refl))

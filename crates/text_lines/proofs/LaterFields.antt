@@ -3,8 +3,8 @@ use Rattle.std.specs.Prelude.{◌≡◌, ℕ, suc, ◌==◌, not, Bool, true, fa
 use Rattle.std.proofs.Common.{refl, sym, ◌∙◌, ap, arith, append-nil, append_assoc}
 use Rattle.std.proofs.lemmas.Bool.{eqb-true, eq-eqb, ne_eqb}
 use Rattle.text_lines.specs.FieldValues.{all_by, first_by, kind_by}
-use Rattle.text_lines.specs.StatedFields.{each_in, field_at}
-use Rattle.pit_units.specs.Steps.{◌>>=◌}
+use Rattle.text_lines.specs.StatedFields.{field_at}
+use Rattle.pit_units.specs.Steps.{◌>>=◌, each_of}
 use Rattle.text_lines.specs.declared.text_fault.TextKind.{TextKind}
 use Rattle.text_lines.specs.declared.text_fault.TextKind.TheVariants.{Fields}
 
@@ -64,7 +64,7 @@ fault_later {B} k fields steps plain kind l e = by (length fields == k) (eqb-tru
 
 -- what all fields state, behind what was read before
 pub all_each : {A B : Type 0} (rule : List ℕ → Result A TextKind) (done : List A) (fields : List (List ℕ)) (next : List A → Result B TextKind)
-    → (all_by rule done fields >>= next) ≡ (each_in rule fields >>= λ xs. next (done ++ xs))
+    → (all_by rule done fields >>= next) ≡ (each_of rule fields >>= λ xs. next (done ++ xs))
 all_each rule done [] next = ap next (sym (append-nil done))
 all_each {A} {B} rule done (text ∷ rest) next = by (λ x. all_each rule (done ++ x ∷ []) rest next) (rule text)
   where
@@ -73,9 +73,9 @@ all_each {A} {B} rule done (text ∷ rest) next = by (λ x. all_each rule (done 
     tail x (Ok xs) = ap next (append_assoc done (x ∷ []) xs)
     tail x (Err kind) = refl
 
-    by : ((x : A) → (all_by rule (done ++ x ∷ []) rest >>= next) ≡ (each_in rule rest >>= λ xs. next ((done ++ x ∷ []) ++ xs)))
+    by : ((x : A) → (all_by rule (done ++ x ∷ []) rest >>= next) ≡ (each_of rule rest >>= λ xs. next ((done ++ x ∷ []) ++ xs)))
         → (r : Result A TextKind)
         → ((r >>= λ x. all_by rule (done ++ x ∷ []) rest) >>= next)
-        ≡ ((r >>= λ x. each_in rule rest >>= λ xs. Ok (x ∷ xs)) >>= λ xs. next (done ++ xs))
-    by deeper (Ok x) = deeper x ∙ tail x (each_in rule rest)
+        ≡ ((r >>= λ x. each_of rule rest >>= λ xs. Ok (x ∷ xs)) >>= λ xs. next (done ++ xs))
+    by deeper (Ok x) = deeper x ∙ tail x (each_of rule rest)
     by deeper (Err kind) = refl

@@ -1,5 +1,5 @@
 -- What a field of a line states, or which fault it has.
-use Rattle.std.specs.Prelude.{ℕ, ◌*◌, ◌/◌, ◌^◌, List, [], ◌∷◌, slice_index_or, ℤ, pos, ◌-ℤ◌, unsigned_abs, Result, Ok, Err}
+use Rattle.std.specs.Prelude.{ℕ, ◌*◌, ◌/◌, ◌^◌, List, [], slice_index_or, ℤ, pos, ◌-ℤ◌, unsigned_abs, Result, Ok, Err}
 use Rattle.pit_units.specs.Steps.{◌>>=◌}
 use Rattle.pit_units.specs.Decimal.{decimal_of, decimal_within}
 use Rattle.pit_units.specs.declared.fault.DecFault.{DecFault}
@@ -37,8 +37,3 @@ size_in decimals most field = number_in decimals (pos 0) (pos most) field >>= λ
 -- the millionths of any decimal
 unfoldable pub decimal_in : List ℕ → Result ℤ TextKind
 decimal_in field = number_said (decimal_of 6 field)
-
--- what each of several fields states by a rule, up to the first fault
-abbrev pub each_in : {A : Type 0} → (List ℕ → Result A TextKind) → List (List ℕ) → Result (List A) TextKind
-each_in rule [] = Ok []
-each_in rule (field ∷ fields) = rule field >>= λ x. each_in rule fields >>= λ xs. Ok (x ∷ xs)

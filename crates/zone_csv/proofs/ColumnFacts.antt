@@ -4,7 +4,7 @@ use Rattle.std.specs.List.{AllZip}
 use Rattle.std.specs.Prelude.{Result, if◌then◌else◌}
 use Rattle.records.specs.Cells.{trimmed, is_word}
 use Rattle.pit_units.specs.Steps.{◌>>=◌}
-use Rattle.pit_units.proofs.Exactly.{Exactly, as_, done, made, same, then_}
+use Rattle.pit_units.proofs.Exactly.{Exactly, each, made, same}
 use Rattle.zone_csv.proofs.RowFacts.{IsOfCell, IsOfRow, here_or_behind, row_of_cell, step_of_row}
 use Rattle.zone_csv.specs.Cell.{trimmed_at}
 use Rattle.zone_csv.specs.Columns.{all_columns, column_name}
@@ -93,32 +93,10 @@ module _ (header : List (List ℕ)) where
     back = λ place named. ap (one_place column) (named_place (column_name column) (no_name column) header place named);
   }
 
-  -- and so do columns, each at its place
-  each_named : (columns : List Column) → Exactly (each_place header columns) (AllZip IsNamed columns)
-  each_named [] = as_ (done []) (λ places is. subst (AllZip IsNamed []) (sym is) tt) none
-    where
-      none : (places : List ℕ) → AllZip IsNamed [] places → places ≡ []
-      none [] h = refl
-      none (place ∷ places) h = absurd h
-  each_named (column ∷ columns) = as_ (steps (each_named columns)) to from
-    where
-      Steps : List ℕ → Type 0
-      Steps all = (place : ℕ) × IsNamed column place × ((places : List ℕ) × AllZip IsNamed columns places × (all ≡ place ∷ places))
-
-      steps : Exactly (each_place header columns) (AllZip IsNamed columns) → Exactly (each_place header (column ∷ columns)) Steps
-      steps more = then_ (one_named column) (λ place. then_ more (λ places. done (place ∷ places)))
-
-      to : (all : List ℕ) → Steps all → AllZip IsNamed (column ∷ columns) all
-      to all (place, named, (places, more, is)) = subst (AllZip IsNamed (column ∷ columns)) (sym is) (named, more)
-
-      from : (all : List ℕ) → AllZip IsNamed (column ∷ columns) all → Steps all
-      from [] h = absurd h
-      from (place ∷ places) h = (place, h.0, (places, h.1, refl))
-
   pub header_named : Exactly (columns_of header) (NamesColumns header)
   unfolding columns_of
   header_named =
-      made (λ places. record { width = length header; places = places }) (each_named all_columns)
+      made (λ places. record { width = length header; places = places }) (each one_named all_columns)
       (λ places named. record { width = refl; places = named })
       (λ columns named. (columns.places, named.places, λ i. record { width = sym named.width i; places = columns.places }))
 

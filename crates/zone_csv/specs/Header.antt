@@ -1,6 +1,6 @@
 -- The header of a zone file: where its columns stand.
 use Rattle.std.specs.Prelude.{ℕ, ◌+◌, List, [], ◌∷◌, length, Result, Ok, Err, if◌then◌else◌}
-use Rattle.pit_units.specs.Steps.{◌>>=◌}
+use Rattle.pit_units.specs.Steps.{◌>>=◌, each_of}
 use Rattle.records.specs.Cells.{trimmed, is_word}
 use Rattle.zone_csv.specs.Cell.{a_fault}
 use Rattle.zone_csv.specs.Columns.{all_columns, column_name}
@@ -26,9 +26,7 @@ one_place column (place ∷ second ∷ more) = Err (a_fault 1 column TwiceColumn
 
 -- the places of these columns, or the first fault
 abbrev pub each_place : List (List ℕ) → List Column → Result (List ℕ) RowFault
-each_place header [] = Ok []
-each_place header (column ∷ columns) =
-    one_place column (places_in header column) >>= λ place. each_place header columns >>= λ places. Ok (place ∷ places)
+each_place header = each_of (λ column. one_place column (places_in header column))
 
 -- the columns that a header names, or the first of them that it lacks or has twice
 unfoldable pub columns_of : List (List ℕ) → Result Columns RowFault

@@ -2,7 +2,7 @@
 use Rattle.std.specs.Prelude.{Bool, Err, List, Ok, Result, if◌then◌else◌, nat_lt, not, ℕ, ℤ, ◌*◌, ◌/◌, ◌==◌, ◌||◌}
 use Rattle.std.proofs.Common.{[], ap, arith, false, length, refl, sym, true, ◌+◌, ◌∙◌, ◌∷◌, ◌≡◌}
 use Rattle.std.proofs.lemmas.Bool.{eq-eqb, eqb-true, le-ltb}
-use Rattle.pit_units.specs.Steps.{◌>>=◌}
+use Rattle.pit_units.specs.Steps.{◌>>=◌, each_of}
 use Rattle.pit_units.specs.declared.or_memory.OrMemory.{OrMemory}
 use Rattle.pit_units.specs.declared.or_memory.OrMemory.TheVariants.{Fault, OutOfMemory}
 use Rattle.plan_parts.specs.Block.{block_with}
@@ -11,7 +11,7 @@ use Rattle.plan_parts.specs.declared.ranges.TheConstants.{GRID_CELLS, MAX_BLOCKS
 use Rattle.mine_instance.specs.declared.coefs.coef.Coef.{Coef}
 use Rattle.text_lines.proofs.LaterFields.{Later, all_each, at_end, counted_later, fault_later, first_counted, later}
 use Rattle.text_lines.specs.FieldValues.{all_by, first_by, kind_by}
-use Rattle.text_lines.specs.StatedFields.{below_in, decimal_in, each_in, size_in}
+use Rattle.text_lines.specs.StatedFields.{below_in, decimal_in, size_in}
 use Rattle.text_lines.specs.declared.text_fault.TextKind.{TextKind}
 use Rattle.text_lines.specs.declared.text_fault.TextKind.TheVariants.{Count, Fields, Order, Twice}
 use Rattle.text_lines.specs.inner.Taken.{AdmitsCounted}
@@ -87,12 +87,12 @@ preds_by_count n own (id ∷ k ∷ others) =
     second id stated = all_by (below_in n) [] stated.1 >>= tests own id stated.0
 
     by_second : (id : ℕ) (r : Result ℕ TextKind)
-        → (r >>= λ k. each_in (below_in n) others >>= tests own id k) ≡ ((r >>= two_of) >>= second id)
+        → (r >>= λ k. each_of (below_in n) others >>= tests own id k) ≡ ((r >>= two_of) >>= second id)
     by_second id (Ok k) = sym (all_each (below_in n) [] others (tests own id k))
     by_second id (Err kind) = refl
 
     by : (r1 r2 : Result ℕ TextKind) → r2 ≡ below_in n k
-        → (r1 >>= λ id. r2 >>= λ k. each_in (below_in n) others >>= tests own id k)
+        → (r1 >>= λ id. r2 >>= λ k. each_of (below_in n) others >>= tests own id k)
         ≡ ((r1 >>= one) >>= λ id. first_by (below_in n) id.1 >>= second id.0)
     by (Ok id) r2 e = by_second id r2 ∙ ap (λ r. (r >>= two_of) >>= second id) e
     by (Err kind) r2 e = refl
@@ -132,7 +132,7 @@ values_counted n destinations before (field ∷ rest) count =
     behind : ℕ × List (List ℕ) → Result (List ℤ) TextKind
     behind b = all_by decimal_in [] b.1 >>= ordered b.0
 
-    first : (r : Result ℕ TextKind) → (r >>= λ b. each_in decimal_in rest >>= ordered b) ≡ ((r >>= pair) >>= behind)
+    first : (r : Result ℕ TextKind) → (r >>= λ b. each_of decimal_in rest >>= ordered b) ≡ ((r >>= pair) >>= behind)
     first (Ok b) = sym (all_each decimal_in [] rest (ordered b))
     first (Err kind) = refl
 

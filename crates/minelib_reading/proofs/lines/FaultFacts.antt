@@ -6,12 +6,13 @@ use Rattle.std.proofs.lemmas.Bool.Decides.{nat_tests}
 use Rattle.std.proofs.lemmas.List.{nil_from_length}
 use Rattle.pit_units.proofs.Fails.{Fails, fails_behind, fails_here, fails_then, other_fault}
 use Rattle.pit_units.specs.Decimal.{decimal_within}
-use Rattle.pit_units.specs.Steps.{◌>>=◌}
+use Rattle.pit_units.specs.Steps.{◌>>=◌, each_of}
 use Rattle.pit_units.specs.declared.fault.DecFault.{DecFault}
 use Rattle.pit_units.specs.declared.fault.DecFault.TheVariants as dec
 use Rattle.mine_instance.specs.Valid.{ArePredsOf}
-use Rattle.text_lines.proofs.FieldFacts.{below, each}
-use Rattle.text_lines.specs.StatedFields.{below_in, each_in, field_at, number_in, number_said}
+use Rattle.pit_units.proofs.Exactly.{each}
+use Rattle.text_lines.proofs.FieldFacts.{below}
+use Rattle.text_lines.specs.StatedFields.{below_in, field_at, number_in, number_said}
 use Rattle.text_lines.specs.declared.text_fault.TextKind.{TextKind}
 use Rattle.text_lines.specs.declared.text_fault.TextKind.TheVariants.{Count, Fields, Key, Missing, Number, Order, Range, TooFine, Twice}
 use Rattle.minelib_reading.proofs.lines.LineFacts.{all_below}
@@ -39,10 +40,10 @@ module _ (kind : TextKind) (no_number : Number ≢ kind) (no_fine : TooFine ≢ 
       by (Ok m) never e = absurd cc
       by (Err other) never e = never (ap Err (other_fault other kind e))
 
-  each_never : (limit : ℕ) (fields : List (List ℕ)) → each_in (below_in limit) fields ≢ Err kind
+  each_never : (limit : ℕ) (fields : List (List ℕ)) → each_of (below_in limit) fields ≢ Err kind
   each_never limit [] e = absurd cc
   each_never limit (field ∷ fields) e =
-      by (below_in limit field) (below_never limit field) (each_in (below_in limit) fields) (each_never limit fields) e
+      by (below_in limit field) (below_never limit field) (each_of (below_in limit) fields) (each_never limit fields) e
     where
       by : (r : Result ℕ TextKind) → r ≢ Err kind → (rest : Result (List ℕ) TextKind) → rest ≢ Err kind
           → (r >>= λ x. rest >>= λ xs. Ok (x ∷ xs)) ≡ Err kind → ⊥
@@ -54,7 +55,7 @@ module _ (kind : TextKind) (no_number : Number ≢ kind) (no_fine : TooFine ≢ 
   numbers_then : (n : ℕ) (fields : List (List ℕ)) {next : ℕ → ℕ → List ℕ → Result (List ℕ) TextKind} {Q : ℕ → ℕ → List ℕ → Type 0} → Fields ≢ kind
       → ((id k : ℕ) (ids : List ℕ) → Fails (next id k ids) kind (Q id k ids))
       → Fails (if nat_lt (length fields) 2 then Err Fields else (below_in n (field_at fields 0) >>= λ id. below_in n (field_at fields 1) >>= λ k.
-      each_in (below_in n) (drop 2 fields) >>= λ ids. next id k ids)) kind (NumbersThen n fields Q)
+      each_of (below_in n) (drop 2 fields) >>= λ ids. next id k ids)) kind (NumbersThen n fields Q)
   numbers_then n fields no_fields behind =
       fails_behind Fields no_fields (λ e. grind (arith, nat_tests, e)) (λ h. grind (arith, nat_tests, h)) (
       fails_then kind (below n (field_at fields 0)) (below_never n (field_at fields 0)) (λ id.

@@ -6,7 +6,7 @@ use Rattle.std.proofs.lemmas.Bool.Decides.{nat_tests}
 use Rattle.std.proofs.lemmas.List.Elements.{All-cons, All-nil}
 use Rattle.std.proofs.lemmas.Slice.Eq.{bytes_eq-Decides}
 use Rattle.std.specs.List.{AllZip}
-use Rattle.pit_units.proofs.Exactly.{Exactly, as_, counted, done, same, tested, then_}
+use Rattle.pit_units.proofs.Exactly.{Exactly, as_, counted, done, each, same, tested, then_}
 use Rattle.pit_units.proofs.Multiples.{stands_multiple}
 use Rattle.pit_units.specs.SpelledNumbers.{SpellsBelow, SpellsSize}
 use Rattle.pit_units.specs.StandsFor.{StandsFor}
@@ -18,7 +18,7 @@ use Rattle.plan_parts.specs.declared.limit.Bound.{Bound}
 use Rattle.plan_parts.specs.declared.limit.Bound.TheVariants.{AtLeast, AtMost, Between}
 use Rattle.plan_parts.specs.declared.limit.Limit.{Limit}
 use Rattle.mine_instance.specs.declared.coefs.coef.Coef.{Coef}
-use Rattle.text_lines.proofs.FieldFacts.{any, below, each, size}
+use Rattle.text_lines.proofs.FieldFacts.{any, below, size}
 use Rattle.text_lines.specs.StatedFields.{decimal_in, field_at}
 use Rattle.text_lines.specs.declared.text_fault.TextKind.TheVariants.{Count, Fields, Name, Order, Twice}
 use Rattle.minelib_lines.specs.declared.problem.Problem.{Problem}
