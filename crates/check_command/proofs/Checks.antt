@@ -3,7 +3,7 @@ use Rattle.std.proofs.Common.{◌≡◌, ◌⊎◌, ◌-◌, ◌++◌, ◌∷◌
 use Rattle.devices.specs.feeds.FeedSteps.{left_after}
 use Rattle.devices.specs.files.Opening.{Opening, Opened, Unopened}
 use Rattle.devices.specs.declared.feeds.slurp.TheConstants.{GREATEST_LIMIT}
-use Rattle.text_lines.specs.Fed.{FailsAsFed}
+use Rattle.devices.specs.feeds.ReadWhole.{FailsAsFed}
 use Rattle.text_lines.specs.declared.text_fault.TextFault.{TextFault}
 use Rattle.text_lines.specs.declared.text_fault.TextFile.{TextFile}
 use Rattle.check_command.specs.Checked.{AreReadBefore, FailsIn, IsCheckStatus, IsFoundIn, IsMissing, path_of}

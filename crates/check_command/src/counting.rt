@@ -1,12 +1,11 @@
 //! The counts of the texts of an instance, one file after the other.
 
-ghost use Rattle.std.specs.Prelude.{◌≡◌, ◌-◌, ◌≤◌, IfOk};
-ghost use Rattle.devices.specs.feeds.FeedSteps.{left_after};
+ghost use Rattle.std.specs.Prelude.{◌-◌, ◌≤◌, IfOk};
+ghost use Rattle.devices.specs.feeds.ReadWhole.{ReadsFeed};
 ghost use Rattle.devices.specs.declared.feeds.slurp.TheConstants.{GREATEST_LIMIT};
 ghost use Rattle.minelib_reading.specs.FedCounts.{IsFedAnswer};
 ghost use Rattle.check_command.specs.inner.CountSteps.{counted_in, counted_on};
 ghost use Rattle.plan_parts.specs.declared.ranges.TheConstants.{MAX_BLOCKS};
-ghost use Rattle.text_lines.specs.Fed.{ReadsFeed};
 
 use crate::counts::Counts;
 use devices::feeds::feed::Feed;
@@ -41,8 +40,6 @@ pub fn count_on<F: Feed>(
     // That the feed is used up then, when each fault comes, how much was read, and where the feed stands.
     ensures reads { ReadsFeed F.left F.is_sure F.given F.failures GREATEST_LIMIT
         feed.old feed.new result }
-    ensures stands { F.left feed.new
-        ≡ left_after (F.given feed.new - F.given feed.old) (F.left feed.old) }
 {
     match so_far {
         Ok(counts) => match count_in(alloc, file, counts, feed)? {
@@ -75,8 +72,6 @@ fn count_in<F: Feed>(
     // That the feed is used up then, when each fault comes, how much was read, and where the feed stands.
     ensures reads { ReadsFeed F.left F.is_sure F.given F.failures GREATEST_LIMIT
         feed.old feed.new result }
-    ensures stands { F.left feed.new
-        ≡ left_after (F.given feed.new - F.given feed.old) (F.left feed.old) }
 {
     let n = counts.blocks;
     match file {

@@ -10,7 +10,7 @@ use Rattle.refusals.specs.declared.refusal.Refusal.TheVariants.{OutOfMemory}
 use Rattle.command_io.specs.FaultLine.{Ends, EndsRefused, EndsWith}
 use Rattle.command_io.specs.PlanFile.{HasPlan, IsNoPlanFile}
 use Rattle.command_io.specs.PlanText.{IsNoPlan}
-use Rattle.command_io.specs.ReadWhole.{IsReadWhole}
+use Rattle.devices.specs.feeds.ReadWhole.{IsReadWhole}
 use Rattle.command_io.specs.Refused.{IsUnread, plan_refused, refused_text}
 use Rattle.command_io.specs.declared.refused.Refused.{Refused}
 use Rattle.command_io.specs.declared.refused.Refused.TheVariants.{NotUtf8, FeedFailed, TooLong, Text, Run}

@@ -3,7 +3,6 @@ pub mod FilePath
 pub mod Pieces
 pub mod PlanFile
 pub mod PlanText
-pub mod ReadWhole
 pub mod Refused
 pub mod Sections
 pub mod WriteWhole

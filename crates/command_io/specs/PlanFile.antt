@@ -5,7 +5,7 @@ use Rattle.pit_model.specs.Planned.{planned}
 use Rattle.plan_parts.specs.Plan.{PlanParts}
 use Rattle.refusals.specs.declared.refusal.Refusal.TheVariants.{OutOfMemory}
 use Rattle.command_io.specs.PlanText.{IsNoPlan}
-use Rattle.command_io.specs.ReadWhole.{IsReadWhole}
+use Rattle.devices.specs.feeds.ReadWhole.{IsReadWhole}
 use Rattle.command_io.specs.Refused.{IsUnread}
 use Rattle.command_io.specs.declared.refused.Refused.{Refused}
 use Rattle.command_io.specs.declared.refused.Refused.TheVariants.{FeedFailed, Run}

@@ -2,7 +2,7 @@
 
 ghost use Rattle.std.specs.Prelude.{◌≢◌, ◌≤◌, length, Err, IsTrue, IfOk, IfErr};
 ghost use Rattle.devices.specs.declared.feeds.slurp.TheConstants.{GREATEST_LIMIT};
-ghost use Rattle.command_io.specs.ReadWhole.{IsReadWhole};
+ghost use Rattle.devices.specs.feeds.ReadWhole.{IsReadWhole};
 ghost use Rattle.command_io.specs.Refused.{IsUnread};
 
 use crate::refused::Refused;

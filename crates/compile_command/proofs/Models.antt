@@ -5,7 +5,7 @@ use Rattle.plan_parts.specs.declared.plan.Plan.{Plan}
 use Rattle.compile_command.specs.Model.{HasTooManyFiles, IsNoModel}
 use Rattle.command_io.specs.Pieces.{plan_piece}
 use Rattle.command_io.specs.PlanText.{IsNoPlan}
-use Rattle.command_io.specs.ReadWhole.{IsReadWhole}
+use Rattle.devices.specs.feeds.ReadWhole.{IsReadWhole}
 use Rattle.command_io.specs.Refused.{IsUnread}
 use Rattle.command_io.specs.declared.refused.Refused.{Refused}
 use Rattle.command_io.specs.declared.refused.source.Source.TheVariants.{Input}

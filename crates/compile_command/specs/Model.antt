@@ -6,7 +6,7 @@ use Rattle.pit_model.specs.Planned.{planned}
 use Rattle.plan_parts.specs.declared.plan.Plan.{Plan}
 use Rattle.command_io.specs.Pieces.{PiecesView, plan_piece, zone_pieces}
 use Rattle.command_io.specs.PlanText.{IsNoPlan}
-use Rattle.command_io.specs.ReadWhole.{IsReadWhole}
+use Rattle.devices.specs.feeds.ReadWhole.{IsReadWhole}
 use Rattle.command_io.specs.Refused.{IsUnread}
 use Rattle.command_io.specs.declared.refused.Refused.{Refused}
 use Rattle.command_io.specs.declared.refused.Refused.TheVariants.{Run}

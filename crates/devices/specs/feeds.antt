@@ -3,3 +3,4 @@ pub mod FeedSteps
 pub mod FileFeedView
 pub mod MemFeedView
 pub mod ReadFeedView
+pub mod ReadWhole

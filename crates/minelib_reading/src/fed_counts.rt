@@ -1,11 +1,10 @@
 //! What the texts of feeds state, counted while the feeds give them.
 
-ghost use Rattle.std.specs.Prelude.{◌≡◌, ◌-◌, ◌≤◌, IfOk};
-ghost use Rattle.devices.specs.feeds.FeedSteps.{left_after};
+ghost use Rattle.std.specs.Prelude.{◌-◌, ◌≤◌, IfOk};
+ghost use Rattle.devices.specs.feeds.ReadWhole.{ReadsFeed};
 ghost use Rattle.devices.specs.declared.feeds.slurp.TheConstants.{GREATEST_LIMIT};
 ghost use Rattle.minelib_reading.specs.FedCounts.{IsFedAnswer, arcs_counted, blocks_counted, model_counted};
 ghost use Rattle.plan_parts.specs.declared.ranges.TheConstants.{MAX_BLOCKS};
-ghost use Rattle.text_lines.specs.Fed.{ReadsFeed};
 
 use crate::block_reader::BlockDraft;
 use crate::counted::{CountedBlocks, CountedItems};
@@ -37,8 +36,6 @@ pub fn count_blocks<F: Feed>(alloc: Global, feed: &mut F, limit: u64) -> FedResu
 
     // That the feed is used up then, when each fault comes, how much was read, and where the feed stands.
     ensures reads { ReadsFeed F.left F.is_sure F.given F.failures limit feed.old feed.new result }
-    ensures stands { F.left feed.new
-        ≡ left_after (F.given feed.new - F.given feed.old) (F.left feed.old) }
 {
     let mut draft = BlockDraft::new(CountedBlocks::new());
     match read_fed(alloc, &mut draft, feed, limit)? {
@@ -69,8 +66,6 @@ pub fn count_arcs<F: Feed>(
 
     // That the feed is used up then, when each fault comes, how much was read, and where the feed stands.
     ensures reads { ReadsFeed F.left F.is_sure F.given F.failures limit feed.old feed.new result }
-    ensures stands { F.left feed.new
-        ≡ left_after (F.given feed.new - F.given feed.old) (F.left feed.old) }
 {
     let mut draft = PrecDraft::new(alloc, CountedPreds::new(), blocks);
     match read_fed(alloc, &mut draft, feed, limit)? {
@@ -107,8 +102,6 @@ pub fn count_model<F: Feed>(
 
     // That the feed is used up then, when each fault comes, how much was read, and where the feed stands.
     ensures reads { ReadsFeed F.left F.is_sure F.given F.failures limit feed.old feed.new result }
-    ensures stands { F.left feed.new
-        ≡ left_after (F.given feed.new - F.given feed.old) (F.left feed.old) }
 {
     let mut draft = ModelDraft::new(alloc, problem, blocks, CountedItems::new());
     match read_fed(alloc, &mut draft, feed, limit)? {

@@ -1,19 +1,16 @@
 -- Items whose worths stand in one list, of each item as many.
-use Rattle.std.proofs.Common.{◌≡◌, ℕ, zero, suc, ◌+◌, ◌*◌, ◌<◌, ◌≤◌, ℤ, List, [], ◌∷◌, ◌++◌, length, take, drop, replicate, All, get_or, cond, nat_lt, Option, Some, None, refl, sym, ap, ◌∙◌, arith, zero-mul, pos, length-append, length-drop, length-take-le}
+use Rattle.std.proofs.Common.{◌≡◌, ℕ, zero, suc, ◌+◌, ◌*◌, ◌<◌, ◌≤◌, ℤ, List, [], ◌∷◌, ◌++◌, length, take, drop, get_or, cond, nat_lt, Option, Some, None, refl, sym, ap, ◌∙◌, arith, zero-mul, length-append, length-drop, length-take-le}
 use Rattle.std.specs.List.{slice_get}
 use Rattle.std.specs.Option.{option_map}
 use Rattle.std.proofs.Math.Nat.{mul-le-mul_right}
 use Rattle.std.proofs.lemmas.Bool.{cond-true, lt-ltb}
-use Rattle.std.proofs.lemmas.List.Elements.{All-nil, All-cons}
 use Rattle.std.proofs.lemmas.List.{drop-drop, drop-append-le, take_all, take-append-le}
 use Rattle.std.proofs.lemmas.Option.{slice_get_read}
 use Rattle.plan_parts.proofs.BlockFacts.{block_again}
 use Rattle.plan_parts.specs.Block.{block_with}
 use Rattle.plan_parts.specs.declared.block.Block.{Block}
 use Rattle.plan_parts.specs.declared.ranges.TheConstants.{MAX_ZONES}
-use Rattle.plan_parts.specs.formulas.WorthRange.{IsWorth}
 use Rattle.rows.specs.declared.item.Item.{Item}
-use Rattle.rows.specs.declared.item.Item.TheVariants as item
 use Rattle.rows.specs.declared.item.Valued.{Valued}
 use Rattle.rows.specs.Packed.{row_in}
 use Rattle.rows.specs.inner.EntryView.{EntryView}
@@ -36,13 +33,6 @@ pub own_long : (width : ℕ) (ws : List ℤ) (n i : ℕ) → length ws ≡ n * w
 own_long width ws n i whole within =
     let room = own_within i n width within in
     length-take-le width (drop (i * width) ws) (omega (arith, length-drop (i * width) ws))
-
--- zeros are worths, as an end mark has them
-pub zeros_are_worths : (width count : ℕ) → All IsWorth (take width (replicate count (pos 0)))
-zeros_are_worths zero count = All-nil IsWorth
-zeros_are_worths (suc width) zero = All-nil IsWorth
-zeros_are_worths (suc width) (suc count) =
-    All-cons IsWorth (pos 0) (take width (replicate count (pos 0))) (omega arith) (zeros_are_worths width count)
 
 pub entry_block : (own : List ℤ) (file number : ℕ) (block : Option Block)
     → option_map (λ (row : Valued). row.block) (row_in (item_of own file number block)) ≡ block

@@ -1,8 +1,11 @@
 -- A text that is read while a feed gives it: each step keeps what was read and what is to come.
-use Rattle.std.proofs.Common.{◌≡◌, ℕ, ◌+◌, ◌<◌, ◌≤◌, true, List, [], ◌++◌, length, take, drop, refl, sym, ap, ◌∙◌, arith, Result, Ok, Err, Option, Some, None, IfOk, IfSome}
+use Rattle.std.proofs.Common.{◌≡◌, ◌≢◌, ℕ, ◌+◌, ◌-◌, ◌<◌, ◌≤◌, Bool, IsTrue, true, List, [], ◌++◌, length, take, drop, refl, sym, ap, subst, ◌∙◌, arith, Result, Ok, Err, Option, Some, None, IfOk, IfSome}
 use Rattle.std.proofs.lemmas.List.{take_all, append_assoc, append-nil, length-append, length-take-le, length-drop, take-append-drop, nil_from_length}
 use Rattle.devices.specs.feeds.Feed.{put_back}
+use Rattle.devices.specs.feeds.FeedSteps.{left_after}
+use Rattle.devices.specs.feeds.ReadWhole.{FailsAsFed, ReadsFeed}
 use Rattle.devices.specs.declared.feeds.slurp.SlurpFault.{SlurpFault}
+use Rattle.devices.specs.declared.feeds.slurp.SlurpFault.TheVariants.{FeedFailed}
 use Rattle.devices.proofs.Giving.{put_back-append}
 use Rattle.pit_units.specs.declared.or_memory.OrMemory.{OrMemory}
 use Rattle.pit_units.specs.declared.or_memory.OrMemory.TheVariants.{Fault, OutOfMemory}
@@ -40,7 +43,8 @@ text_told (Some all) (Some rest) text gave none =
     let whole : all ≡ text ++ rest = cc in
     sym (whole ∙ ap (λ more. text ++ more) none ∙ append-nil text)
 
-long_told : (old new : Option (List ℕ)) (text : List ℕ) (limit : ℕ) → old ≡ put_back text new → limit < length text
+-- more bytes were given than are wanted
+pub long_told : (old new : Option (List ℕ)) (text : List ℕ) (limit : ℕ) → old ≡ put_back text new → limit < length text
     → IfSome old (λ bytes. limit < length bytes)
 long_told None new text limit gave long = tt
 long_told (Some all) None text limit gave long = absurd cc
@@ -53,6 +57,54 @@ short_told : (old new : Option (List ℕ)) (text : List ℕ) (limit : ℕ) → o
     → length text ≤ limit → IfSome old (λ bytes. length bytes ≤ limit)
 short_told None new text limit gave none short = tt
 short_told (Some all) new text limit gave none short = rw (sym (text_told (Some all) new text gave none)) short
+
+-- and of those that are left then there are too many
+long_behind : (old mid : Option (List ℕ)) (front : List ℕ) (limit more : ℕ) → old ≡ put_back front mid → length front + more ≡ limit
+    → IfSome mid (λ bytes. more < length bytes) → IfSome old (λ bytes. limit < length bytes)
+long_behind None mid front limit more gave all long = tt
+long_behind (Some whole) None front limit more gave all long = absurd cc
+long_behind (Some whole) (Some rest) front limit more gave all long =
+    let same : Some whole ≡ Some (front ++ rest) = gave in
+    let joined : whole ≡ front ++ rest = cc in
+    rw joined (rw (length-append front rest) (omega (arith, all, long)))
+
+-- a fault of what is left of a feed is one of the whole, of which it gave this front before
+pub fails_behind : (old mid : Option (List ℕ)) (front : List ℕ) (limit more given given_mid given_now failures failures_mid failures_now : ℕ)
+    (fault : SlurpFault) → old ≡ put_back front mid → length front + more ≡ limit → given_mid ≡ given + length front
+    → failures_mid ≡ failures → FailsAsFed mid more given_mid given_now failures_mid failures_now fault
+    → FailsAsFed old limit given given_now failures failures_now fault
+fails_behind old mid front limit more given given_mid given_now failures failures_mid failures_now fault gave all counts works fails = record {
+  failed = λ e. fails.failed e ∙ ap (λ n. n + 1) works;
+  failed_first = λ e. omega (arith, fails.failed_first e, all, counts);
+  long = λ e. long_behind old mid front limit more gave all (fails.long e);
+  long_counts = λ e. omega (arith, fails.long_counts e, all, counts);
+  long_works = λ e. fails.long_works e ∙ works;
+  memory_works = λ e. fails.memory_works e ∙ works;
+  memory_first = λ e. omega (arith, fails.memory_first e, all, counts);
+}
+
+-- a feed whose text is refused
+pub refused_text : {F A : Type 0} (left : F → Option (List ℕ)) (is_sure : F → Bool) (given failures : F → ℕ) (limit : ℕ) (old new : F)
+    (answer : Result A SlurpFault) (fault : SlurpFault) → answer ≡ Err fault
+    → FailsAsFed (left old) limit (given old) (given new) (failures old) (failures new) fault
+    → (IsTrue (is_sure old) → fault ≢ FeedFailed) → given old ≤ given new → given new ≤ given old + (limit + 1)
+    → left new ≡ left_after (given new - given old) (left old) → (IsTrue (is_sure old) → IsTrue (is_sure new))
+    → ReadsFeed left is_sure given failures limit old new answer
+refused_text {F} {A} left is_sure given failures limit old new answer fault is fails sure onward reads stands stays =
+    subst (ReadsFeed left is_sure given failures limit old new) (sym is) (record {
+      used_up = tt;
+      within = tt;
+      works = tt;
+      refused = fails;
+      sure = λ s e. sure s (same e);
+      onward = onward;
+      reads = reads;
+      stands = stands;
+      stays_sure = stays;
+    })
+  where
+    same : ◌≡◌ {A = Result A SlurpFault} (Err fault) (Err FeedFailed) → fault ≡ FeedFailed
+    same e = cc
 
 -- a text that went by
 pub passed : (limit gave : ℕ) (old new : Option (List ℕ)) → GaveAll (limit + 1) gave old new

@@ -10,7 +10,6 @@ use Rattle.pit_units.proofs.Exactly.{Exactly, same}
 use Rattle.pit_units.proofs.SpelledFacts.{below_of_number, size_of_number, whole_of_number, within}
 use Rattle.pit_units.specs.SpelledNumbers.{SpellsBelow, SpellsNumber, SpellsSize, SpellsWhole}
 use Rattle.text_lines.specs.StatedFields.{below_in, decimal_in, number_in, number_said, size_in, whole_in}
-use Rattle.text_lines.specs.declared.text_fault.TextKind.{TextKind}
 
 number_ok : (d : Result ℤ DecFault) (m : ℤ) → number_said d ≡ Ok m → d ≡ Ok m
 number_ok (Ok n) m e = ap Ok (same n m e)

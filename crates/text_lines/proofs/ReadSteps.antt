@@ -1,12 +1,10 @@
 -- What a step of reading shows where it found no fault.
-use Rattle.std.specs.Prelude.{◌≡◌, ℕ, List, [], ◌∷◌, Bool, true, false, Result, Ok, Err, if◌then◌else◌}
-use Rattle.std.proofs.Common.{refl, ◌∙◌, ap}
+use Rattle.std.specs.Prelude.{◌≡◌, Bool, true, false, Result, Ok, Err, if◌then◌else◌}
+use Rattle.std.proofs.Common.{refl}
 use Rattle.pit_units.specs.Steps.{◌>>=◌}
-use Rattle.text_lines.specs.Reading.{at_line, in_file, read_lines}
-use Rattle.text_lines.specs.TextLines.{Line}
+use Rattle.text_lines.specs.Reading.{in_file}
 use Rattle.text_lines.specs.declared.text_fault.LineFault.{LineFault}
 use Rattle.text_lines.specs.declared.text_fault.TextFile.{TextFile}
-use Rattle.text_lines.specs.declared.text_fault.TextKind.{TextKind}
 
 -- a step behind another one; the part is told what both found, since a `let` would write them out at each place
 pub bind_ok : {A B F : Type 0} (r : Result A F) (next : A → Result B F) (y : B) → (r >>= next) ≡ Ok y → (x : A) × (r ≡ Ok x)
@@ -37,11 +35,3 @@ err_same f g e = cc
 pub in_file_ok : {A : Type 0} (file : TextFile) (r : Result A LineFault) (x : A) → in_file file r ≡ Ok x → r ≡ Ok x
 in_file_ok file (Ok y) x e = cc
 in_file_ok file (Err fault) x e = absurd cc
-
--- lines that two rules admit alike
-pub lines_same : {S : Type 0} (one other : S → List ℕ → Result S TextKind) (s : S) (lines : List Line)
-    → ((s : S) (line : List ℕ) → one s line ≡ other s line) → read_lines one s lines ≡ read_lines other s lines
-lines_same one other s [] same = refl
-lines_same one other s (line ∷ lines) same =
-    ap (λ r. at_line line.number r >>= λ next. read_lines one next lines) (same s line.text)
-    ∙ (λ i. at_line line.number (other s line.text) >>= λ next. lines_same one other next lines same i)

@@ -1,7 +1,5 @@
 -- Reading the lines of a text while a feed gives it.
-use Rattle.std.specs.Prelude.{◌≡◌, ◌≢◌, ℕ, ◌+◌, ◌<◌, ◌≤◌, Bool, List, [], length, Option, IfErr, IfSome, IsTrue, OnOk, Result, Ok, Err}
-use Rattle.devices.specs.declared.feeds.slurp.SlurpFault.{SlurpFault}
-use Rattle.devices.specs.declared.feeds.slurp.SlurpFault.TheVariants.{FeedFailed, TooLong, OutOfMemory}
+use Rattle.std.specs.Prelude.{◌≡◌, ℕ, ◌≤◌, List, length, Option, IfSome, Result, Ok, Err}
 use Rattle.text_lines.specs.Reading.{read_lines}
 use Rattle.text_lines.specs.TextLines.{end_of, lines_in}
 use Rattle.text_lines.specs.declared.text_fault.LineFault.{LineFault}
@@ -24,23 +22,3 @@ pub record IsFedReading {S : Type 0} (admit : S → List ℕ → Result S TextKi
   pub text : List ℕ
   pub is_text : IsTextOf left limit gave text
   pub reads : IsReading admit before after answer text
-
--- when each fault of reading a feed's text comes, by what the feed has given and how often it failed, before and now
-pub record FailsAsFed (left : Option (List ℕ)) (limit given given_now failures failures_now : ℕ) (fault : SlurpFault) : Type 0 where
-  pub failed : fault ≡ FeedFailed → failures_now ≡ failures + 1
-  pub long : fault ≡ TooLong → IfSome left (λ bytes. limit < length bytes)
-  pub long_counts : fault ≡ TooLong → given_now ≡ given + (limit + 1)
-  pub memory_works : fault ≡ OutOfMemory → failures_now ≡ failures
-  pub memory_first : fault ≡ OutOfMemory → given_now ≤ given + limit
-
--- what becomes of a feed that is read to its end, where the call answers so: by what it had and has left, whether it was sure, what it gave,
--- and how many pulls it refused
-pub record ReadsFeed {F A : Type 0} (left : F → Option (List ℕ)) (is_sure : F → Bool) (given failures : F → ℕ) (limit : ℕ) (old new : F)
-    (answer : Result A SlurpFault) : Type 0 where
-  pub used_up : OnOk answer (IfSome (left new) (λ bytes. bytes ≡ []))
-  pub within : OnOk answer (given new ≤ given old + limit)
-  pub works : OnOk answer (failures new ≡ failures old)
-  pub refused : IfErr answer (FailsAsFed (left old) limit (given old) (given new) (failures old) (failures new))
-  pub sure : IsTrue (is_sure old) → answer ≢ Err FeedFailed
-  pub onward : given old ≤ given new
-  pub reads : given new ≤ given old + (limit + 1)

@@ -1,9 +1,9 @@
 //! Reading the lines of a text while a feed gives it.
 
-ghost use Rattle.std.specs.Prelude.{◌≡◌, ◌-◌, ◌≤◌, ℕ, List, length, IfOk, OnOk, IfSome};
-ghost use Rattle.devices.specs.feeds.FeedSteps.{left_after};
+ghost use Rattle.std.specs.Prelude.{◌-◌, ◌≤◌, ℕ, List, length, IfOk, OnOk, IfSome};
+ghost use Rattle.devices.specs.feeds.ReadWhole.{ReadsFeed};
 ghost use Rattle.devices.specs.declared.feeds.slurp.TheConstants.{GREATEST_LIMIT};
-ghost use Rattle.text_lines.specs.Fed.{IsFedReading, IsTextOf, ReadsFeed};
+ghost use Rattle.text_lines.specs.Fed.{IsFedReading, IsTextOf};
 
 use crate::line_by_line::Admit;
 use crate::text_fault::LineFault;
@@ -27,6 +27,7 @@ pub type FedResult<T, F = LineFault> = Result<Result<T, F>, SlurpFault>;
 /// - `FeedFailed`: the feed refused a pull of this call;
 /// - `TooLong`: the feed has more than `limit` bytes, whatever its lines say;
 /// - `OutOfMemory`: a growth was refused, for a line or in taking one.
+#[tactic(auto, using(crate::proofs::GivenFacts::stands_on))]
 pub fn read_fed<S: Admit, F: Feed>(
     alloc: Global,
     state: &mut S,
@@ -40,10 +41,8 @@ pub fn read_fed<S: Admit, F: Feed>(
         (IsFedReading S.admit_line (F.left feed.old) limit (F.given feed.new - F.given feed.old)
         state.old state.new) }
 
-    // That the feed is used up then, when each fault comes, and how much was read, whatever was answered.
+    // That the feed is used up then, when each fault comes, how much was read, and where it stands, whatever was answered.
     ensures reads { ReadsFeed F.left F.is_sure F.given F.failures limit feed.old feed.new result }
-    ensures stands { F.left feed.new
-        ≡ left_after (F.given feed.new - F.given feed.old) (F.left feed.old) }
 {
     let mut waiting = Waiting::new(alloc);
     let mut rest = limit as usize + 1;
@@ -60,7 +59,7 @@ pub fn read_fed<S: Admit, F: Feed>(
         match waiting.take_ended(state, before) {
             Ok(()) => {}
             Err(OrMemory::Fault(fault)) => {
-                waiting.pass(feed, rest)?;
+                waiting.pass(feed, rest - 1)?;
                 return Ok(Err(fault));
             }
             Err(OrMemory::OutOfMemory) => return Err(SlurpFault::OutOfMemory),
@@ -74,7 +73,7 @@ pub fn read_fed<S: Admit, F: Feed>(
 /// # Errors
 ///
 /// Those of `read_fed`, with `OutOfMemory` where the first bytes have no room.
-#[tactic(auto, using(crate::proofs::FedSteps::passed, crate::proofs::FedSteps::passed_text, crate::proofs::FedSteps::too_many))]
+#[tactic(auto, using(crate::proofs::FedSteps::passed, crate::proofs::FedSteps::passed_text))]
 pub fn pass_text<F: Feed>(alloc: Global, feed: &mut F, limit: u64) -> Result<(), SlurpFault>
     requires { limit ≤ GREATEST_LIMIT }
 
@@ -83,11 +82,9 @@ pub fn pass_text<F: Feed>(alloc: Global, feed: &mut F, limit: u64) -> Result<(),
         × IsTextOf (F.left feed.old) limit (F.given feed.new - F.given feed.old) text) }
     ensures short { OnOk result (IfSome (F.left feed.old) (λ bytes. length bytes ≤ limit)) }
 
-    // That the feed is used up then, when each fault comes, and how much was read, whatever was answered.
+    // That the feed is used up then, when each fault comes, how much was read, and where it stands, whatever was answered.
     ensures reads { ReadsFeed F.left F.is_sure F.given F.failures limit feed.old feed.new result }
-    ensures stands { F.left feed.new
-        ≡ left_after (F.given feed.new - F.given feed.old) (F.left feed.old) }
 {
     let mut waiting = Waiting::new(alloc);
-    waiting.pass(feed, limit as usize + 1)
+    waiting.pass(feed, limit as usize)
 }

@@ -1,12 +1,12 @@
 //! The bytes of a feed of which no line was taken yet.
 
-ghost use Rattle.std.specs.Prelude.{◌≡◌, ◌≢◌, ◌+◌, ◌-◌, ◌<◌, ◌≤◌, ◌^◌, Err, [], length, take, IfOk, IfErr, OnOk, OnErr, IfSome, IsErrOf, IsTrue, drop, true};
-ghost use Rattle.devices.specs.feeds.FeedSteps.{left_after};
+ghost use Rattle.std.specs.Prelude.{◌≡◌, ◌+◌, ◌-◌, ◌<◌, ◌≤◌, ◌^◌, length, take, IfOk, IfErr, OnOk, drop, true};
+ghost use Rattle.devices.specs.feeds.ReadWhole.{ReadsFeed};
 ghost use Rattle.devices.specs.declared.feeds.slurp.SlurpFault.TheVariants as SlurpFault;
 ghost use Rattle.devices.specs.declared.feeds.slurp.TheConstants.{GREATEST_LIMIT};
 ghost use Rattle.text_lines.specs.Reading.{Leaves, read_lines};
 ghost use Rattle.text_lines.specs.TextLines.{lines_of, numbered_lines};
-ghost use Rattle.text_lines.specs.inner.Waiting.{AreWholeLines, Gave, GaveAll, Held, IsLastReading, NoLineEnd, TakesEnded, front_end, front_lines, none_held, unmarked};
+ghost use Rattle.text_lines.specs.inner.Waiting.{AreWholeLines, GaveAll, Held, IsLastReading, IsPulledOnce, NoLineEnd, TakesEnded, front_end, front_lines, none_held, unmarked};
 
 use crate::cut_lines::without_mark;
 use crate::fed_lines::FedResult;
@@ -76,24 +76,9 @@ impl Waiting {
         ensures held { IfOk result
             (λ n. Held n self.old self.new (F.left feed.old) (F.left feed.new)) }
         ensures within { IfOk result (λ n. n ≤ most) }
-        ensures end { IfOk result (λ n. n ≡ 0 → IfSome (F.left feed.old) (λ bytes. bytes ≡ [])) }
-        ensures counts { IfOk result (λ n. F.given feed.new ≡ F.given feed.old + n) }
-        ensures works { OnOk result (F.failures feed.new ≡ F.failures feed.old) }
 
-        // On failure nothing was given; when each fault comes.
-        ensures refused_given { OnErr result (F.given feed.new ≡ F.given feed.old) }
-        ensures failed { IsErrOf result SlurpFault.FeedFailed
-            → F.failures feed.new ≡ F.failures feed.old + 1 }
-        ensures memory { IsErrOf result SlurpFault.OutOfMemory
-            → F.failures feed.new ≡ F.failures feed.old }
-        ensures not_long { result ≢ Err SlurpFault.TooLong }
-        ensures sure { IsTrue (F.is_sure feed.old) → result ≢ Err SlurpFault.FeedFailed }
-
-        // Where the feed stands, whatever is answered.
-        ensures onward { F.given feed.old ≤ F.given feed.new }
-        ensures stands { F.left feed.new
-            ≡ left_after (F.given feed.new - F.given feed.old) (F.left feed.old) }
-        ensures stays_sure { IsTrue (F.is_sure feed.old) → IsTrue (F.is_sure feed.new) }
+        // When each fault comes, and where the feed stands, whatever is answered.
+        ensures pulls { IsPulledOnce F.left F.is_sure F.given F.failures feed.old feed.new result }
     {
         make_room(&mut self.bytes, self.filled, GREATEST_LIMIT as usize + 1)?;
         let count = pull_behind(feed, self.bytes.as_mut_slice(), self.filled, most)?;
@@ -101,38 +86,19 @@ impl Waiting {
         Ok(count)
     }
 
-    /// Lets all bytes go by that the feed still gives, which are to be fewer than `most`.
-    pub fn pass<F: Feed>(&mut self, feed: &mut F, most: usize) -> Result<(), SlurpFault>
-        requires room { most ≤ GREATEST_LIMIT + 1 }
+    /// Lets all bytes go by that the feed still gives, which are to be at most `limit`.
+    #[tactic(auto, using(crate::proofs::GivenFacts::stands_on, crate::proofs::FedSteps::too_many))]
+    pub fn pass<F: Feed>(&mut self, feed: &mut F, limit: usize) -> Result<(), SlurpFault>
+        requires limit { limit ≤ GREATEST_LIMIT }
 
         // On success the feed gave all that it had.
-        ensures all { OnOk result (GaveAll most (F.given feed.new - F.given feed.old)
+        ensures all { OnOk result (GaveAll (limit + 1) (F.given feed.new - F.given feed.old)
             (F.left feed.old) (F.left feed.new)) }
-        ensures within { OnOk result (F.given feed.new < F.given feed.old + most) }
-        ensures works { OnOk result (F.failures feed.new ≡ F.failures feed.old) }
 
-        // When each fault comes.
-        ensures failed { IsErrOf result SlurpFault.FeedFailed
-            → F.failures feed.new ≡ F.failures feed.old + 1 }
-        ensures long { IsErrOf result SlurpFault.TooLong
-            → Gave most (F.left feed.old) (F.left feed.new) }
-        ensures long_counts { IsErrOf result SlurpFault.TooLong
-            → F.given feed.new ≡ F.given feed.old + most }
-        ensures memory { IsErrOf result SlurpFault.OutOfMemory
-            → F.failures feed.new ≡ F.failures feed.old }
-        ensures memory_first { IsErrOf result SlurpFault.OutOfMemory
-            → F.given feed.new < F.given feed.old + most }
-
-        // How much was read, and where the feed stands, whatever was answered.
-        ensures onward { F.given feed.old ≤ F.given feed.new }
-        ensures reads { F.given feed.new ≤ F.given feed.old + most }
-        ensures stands { F.left feed.new
-            ≡ left_after (F.given feed.new - F.given feed.old) (F.left feed.old) }
-
-        // A sure feed does not fail.
-        ensures sure { IsTrue (F.is_sure feed.old) → result ≢ Err SlurpFault.FeedFailed }
+        // When each fault comes, how much was read, and where the feed stands, whatever was answered.
+        ensures reads { ReadsFeed F.left F.is_sure F.given F.failures limit feed.old feed.new result }
     {
-        let mut rest = most;
+        let mut rest = limit + 1;
         while rest > 0 {
             self.filled = 0;
             let count = self.pull(feed, rest)?;

@@ -1,6 +1,6 @@
 -- What a sink over a file tells.
-use Rattle.std.specs.Prelude.{ℕ, List, [], Bool, true, false, Option}
-use Rattle.devices.specs.files.Told.{told_empty}
+use Rattle.std.specs.Prelude.{◌≡◌, ℕ, List, [], Bool, true, false, Option}
+use Rattle.devices.specs.files.Told.{told_empty, told_held}
 use Rattle.devices.specs.sinks.SinkState.{SinkState}
 
 pub record FileSinkView : Type 0 where
@@ -22,3 +22,8 @@ unbegun tells path = record { path = path; has_slot = true; begun = false; held 
 -- what it tells as a sink
 abbrev pub file_told : FileSinkView → SinkState
 file_told s = record { begun = s.begun; before = []; taken = s.held; failures = s.failures }
+
+-- its file is one that was made at this path and was empty, by what files tell of themselves, and this is what it holds
+abbrev pub HoldsNewFile : {F : Type 0} → (F → List ℕ) → (F → Option (List ℕ)) → Bool → List ℕ → Option (List ℕ) → Type 0
+HoldsNewFile {F} path_of contents tells path held =
+    (file : F) × (path_of file ≡ path) × (contents file ≡ told_empty tells) × (held ≡ told_held tells (contents file))

@@ -1,6 +1,6 @@
 -- What a sink tells, before and after a text was written to it.
-use Rattle.std.specs.Prelude.{◌≡◌, ◌+◌, ◌⊎◌, ℕ, List, Option, Bool, IsTrue}
-use Rattle.devices.specs.Device.{holding, IsFront}
+use Rattle.std.specs.Prelude.{◌≡◌, ◌+◌, ◌<◌, ◌≤◌, ◌⊎◌, ℕ, List, length, take, Option, Bool, Result, IsTrue, IfOk, OnOk, OnErr}
+use Rattle.devices.specs.Device.{added, holding, IsFront}
 
 pub record SinkState : Type 0 where
   -- whether it was begun
@@ -39,3 +39,13 @@ pub record IsCutOff (more : ℕ) (text : List ℕ) (old new : SinkState) : Type 
 pub record IsBegunAsBefore (old new : SinkState) : Type 0 where
   pub begun : new.begun ≡ old.begun
   pub before : new.before ≡ old.before
+
+-- it was asked to take bytes, and answered how many it took, or failed, took none and counted one refusal more
+pub record IsPut {E : Type 0} (bytes : List ℕ) (old new : SinkState) (answer : Result ℕ E) : Type 0 where
+  pub within : IfOk answer (λ n. n ≤ length bytes)
+  pub some : IfOk answer (λ n. 0 < length bytes → 0 < n)
+  pub takes : IfOk answer (λ n. new.taken ≡ added (take n bytes) old.taken)
+  pub works : OnOk answer (new.failures ≡ old.failures)
+  pub refused : OnErr answer (new.taken ≡ old.taken)
+  pub fails : OnErr answer (new.failures ≡ old.failures + 1)
+  pub still : IsBegunAsBefore old new

@@ -1,7 +1,7 @@
 //! A source of bytes.
 
-ghost use Rattle.std.specs.Prelude.{◌≡◌, ◌+◌, ◌<◌, ◌≤◌, ℕ, List, [], Bool, Option, length, take, IsTrue, IsOk, IfOk, OnOk, OnErr, IfSome};
-ghost use Rattle.devices.specs.feeds.Feed.{put_back};
+ghost use Rattle.std.specs.Prelude.{◌≡◌, ◌<◌, ◌≤◌, ℕ, List, [], Bool, Option, length, take, IfOk, IfSome};
+ghost use Rattle.devices.specs.feeds.Feed.{put_back, IsPulled};
 
 use std::io;
 use thiserror::Error;
@@ -51,15 +51,7 @@ pub trait Feed {
             (λ n. left self.old ≡ put_back (take n buffer.new) (left self.new)) }
         ensures end { IfOk result
             (λ n. n ≡ 0 → 0 < length buffer.old → IfSome (left self.old) (λ bytes. bytes ≡ [])) }
-        ensures counts { IfOk result (λ n. given self.new ≡ given self.old + n) }
-        ensures works { OnOk result (failures self.new ≡ failures self.old) }
 
-        // On failure nothing was given, and one refusal more is counted.
-        ensures refused_left { OnErr result (left self.new ≡ left self.old) }
-        ensures refused_given { OnErr result (given self.new ≡ given self.old) }
-        ensures fails { OnErr result (failures self.new ≡ failures self.old + 1) }
-
-        // A sure feed never fails.
-        ensures sure { IsTrue (is_sure self.old) → IsOk result }
-        ensures stays_sure { IsTrue (is_sure self.old) → IsTrue (is_sure self.new) };
+        // What it gave and refused is counted, and on failure nothing was given.
+        ensures pulls { IsPulled left is_sure given failures self.old self.new result };
 }

@@ -1,8 +1,9 @@
 //! A buffer that a feed fills.
 
-ghost use Rattle.std.specs.Prelude.{◌≡◌, ◌+◌, ◌<◌, ◌≤◌, ◌^◌, [], length, max, take, vec_len, IsTrue, IsOk, IfOk, OnOk, OnErr, IfSome};
+ghost use Rattle.std.specs.Prelude.{◌≡◌, ◌+◌, ◌<◌, ◌≤◌, ◌^◌, [], length, max, take, vec_len, IfOk, OnOk, IfSome};
 ghost use Rattle.devices.specs.declared.feeds.filling.TheConstants.{CHUNK};
 ghost use Rattle.devices.specs.feeds.FeedSteps.{GaveBehind};
+ghost use Rattle.devices.specs.feeds.Feed.{IsPulled};
 
 use crate::feeds::feed::{Feed, FeedFault};
 use std::alloc::AllocError;
@@ -49,17 +50,9 @@ pub fn pull_behind<F: Feed>(
     ensures front { take filled buffer.new ≡ take filled buffer.old }
     ensures end { IfOk result (λ count. count ≡ 0
         → IfSome (F.left feed.old) (λ bytes. bytes ≡ [])) }
-    ensures counts { IfOk result (λ count. F.given feed.new ≡ F.given feed.old + count) }
-    ensures works { OnOk result (F.failures feed.new ≡ F.failures feed.old) }
 
-    // On failure nothing was given, and one refusal more is counted.
-    ensures refused_left { OnErr result (F.left feed.new ≡ F.left feed.old) }
-    ensures refused_given { OnErr result (F.given feed.new ≡ F.given feed.old) }
-    ensures fails { OnErr result (F.failures feed.new ≡ F.failures feed.old + 1) }
-
-    // A sure feed never fails.
-    ensures sure { IsTrue (F.is_sure feed.old) → IsOk result }
-    ensures stays_sure { IsTrue (F.is_sure feed.old) → IsTrue (F.is_sure feed.new) }
+    // What the feed gave and refused is counted, and on failure nothing was given.
+    ensures pulls { IsPulled F.left F.is_sure F.given F.failures feed.old feed.new result }
 {
     let end = filled + most.min(buffer.len() - filled);
     feed.pull(&mut buffer[filled..end])

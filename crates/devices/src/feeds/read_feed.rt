@@ -2,7 +2,7 @@
 
 ghost use Rattle.std.specs.Io.KnownBytes.{ReadConsumes};
 ghost use Rattle.std.specs.Prelude.{◌≡◌, ◌+◌, ◌<◌, ◌≤◌, [], false, length, take, IfOk, IfSome, OnOk, OnErr};
-ghost use Rattle.devices.specs.feeds.Feed.{put_back};
+ghost use Rattle.devices.specs.feeds.Feed.{put_back, IsPulled};
 
 use crate::count::{Count, raised};
 use crate::feeds::feed::{Feed, FeedFault};
@@ -76,13 +76,10 @@ impl<R: Read> Feed for ReadFeed<R> {
             (λ n. self.old.left ≡ put_back (take n buffer.new) self.new.left) }
         ensures end { IfOk result
             (λ n. n ≡ 0 → 0 < length buffer.old → IfSome self.old.left (λ bytes. bytes ≡ [])) }
-        ensures counts { IfOk result (λ n. self.new.given ≡ self.old.given + n) }
-        ensures works { OnOk result (self.new.failures ≡ self.old.failures) }
 
-        // On failure nothing was given, and one refusal more is counted.
-        ensures refused_left { OnErr result (self.new.left ≡ self.old.left) }
-        ensures refused_given { OnErr result (self.new.given ≡ self.old.given) }
-        ensures fails { OnErr result (self.new.failures ≡ self.old.failures + 1) }
+        // What it gave and refused is counted, and on failure nothing was given.
+        ensures pulls { IsPulled (λ f. f.left) (λ _. false) (λ f. f.given) (λ f. f.failures)
+            self.old self.new result }
     {
         match read_some(&mut self.input, buffer) {
             Ok(count) => {

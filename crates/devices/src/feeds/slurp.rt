@@ -1,7 +1,7 @@
 //! A feed read whole.
 
-ghost use Rattle.std.specs.Prelude.{◌≡◌, ◌≢◌, ◌+◌, ◌-◌, ◌<◌, ◌≤◌, [], length, vec_len, IsTrue, IfOk, OnOk, IfSome, IsErrOf};
-ghost use Rattle.devices.specs.feeds.FeedSteps.{left_after};
+ghost use Rattle.std.specs.Prelude.{◌≡◌, ◌≤◌, vec_len, IfOk};
+ghost use Rattle.devices.specs.feeds.ReadWhole.{IsReadWhole, ReadsFeed};
 ghost use Rattle.devices.specs.declared.feeds.slurp.SlurpFault.TheVariants.{FeedFailed, OutOfMemory};
 
 use crate::feeds::feed::{Feed, FeedFault};
@@ -58,38 +58,13 @@ impl From<AllocError> for SlurpFault {
 pub fn slurp<F: Feed>(alloc: Global, feed: &mut F, limit: u64) -> Result<Vec<u8>, SlurpFault>
     requires { limit ≤ GREATEST_LIMIT }
 
-    // What an answer holds, and that the feed is used up then.
-    ensures whole { IfOk result (λ text. IfSome (F.left feed.old) (λ bytes. text.items ≡ bytes)) }
+    // What an answer holds.
+    ensures read { IfOk result (λ text. IsReadWhole (F.left feed.old) (F.given feed.old)
+        (F.given feed.new) (F.failures feed.old) (F.failures feed.new) text.items) }
     ensures short { IfOk result (λ text. vec_len text ≤ limit) }
-    ensures counts { IfOk result (λ text. F.given feed.new ≡ F.given feed.old + vec_len text) }
-    ensures used_up { OnOk result (IfSome (F.left feed.new) (λ bytes. bytes ≡ [])) }
-    ensures works { OnOk result (F.failures feed.new ≡ F.failures feed.old) }
 
-    // When each fault comes.
-    ensures failed { IsErrOf result SlurpFault.FeedFailed
-        → F.failures feed.new ≡ F.failures feed.old + 1 }
-    ensures failed_first { IsErrOf result SlurpFault.FeedFailed
-        → F.given feed.new ≤ F.given feed.old + limit }
-    ensures sure { IsTrue (F.is_sure feed.old) → result ≢ Err SlurpFault.FeedFailed }
-    ensures long { IsErrOf result SlurpFault.TooLong
-        → IfSome (F.left feed.old) (λ bytes. limit < length bytes) }
-    ensures long_counts { IsErrOf result SlurpFault.TooLong
-        → F.given feed.new ≡ F.given feed.old + (limit + 1) }
-    ensures long_stands { IsErrOf result SlurpFault.TooLong
-        → F.left feed.new ≡ left_after (limit + 1) (F.left feed.old) }
-    ensures long_works { IsErrOf result SlurpFault.TooLong
-        → F.failures feed.new ≡ F.failures feed.old }
-    ensures memory_works { IsErrOf result SlurpFault.OutOfMemory
-        → F.failures feed.new ≡ F.failures feed.old }
-    ensures memory_first { IsErrOf result SlurpFault.OutOfMemory
-        → F.given feed.new ≤ F.given feed.old + limit }
-
-    // How much was read, and where the feed stands, whatever was answered.
-    ensures onward { F.given feed.old ≤ F.given feed.new }
-    ensures reads { F.given feed.new ≤ F.given feed.old + (limit + 1) }
-    ensures stands { F.left feed.new
-        ≡ left_after (F.given feed.new - F.given feed.old) (F.left feed.old) }
-    ensures stays_sure { IsTrue (F.is_sure feed.old) → IsTrue (F.is_sure feed.new) }
+    // That the feed is used up then, when each fault comes, how much was read, and where the feed stands.
+    ensures reads { ReadsFeed F.left F.is_sure F.given F.failures limit feed.old feed.new result }
 {
     let most = limit as usize + 1;
     let mut text = Vec::new(alloc);

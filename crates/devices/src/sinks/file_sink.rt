@@ -1,11 +1,10 @@
 //! A file as a sink.
 
-ghost use Rattle.std.specs.Prelude.{◌≡◌, ◌+◌, ◌<◌, ◌≤◌, [], false, length, take, true, ◌++◌, ◌∷◌, is_some, IsErr, IsOk, IsTrue, IfOk, IfSome, OnOk, OnErr};
+ghost use Rattle.std.specs.Prelude.{◌≡◌, ◌+◌, [], false, true, ◌++◌, ◌∷◌, is_some, IsErr, IsOk, IsTrue, IfOk, IfSome, OnOk, OnErr};
 ghost use Rattle.std.specs.Io.KnownBytes.{WriteAppends};
-ghost use Rattle.devices.specs.Device.{added};
-ghost use Rattle.devices.specs.files.Told.{told_empty, told_held};
-ghost use Rattle.devices.specs.sinks.FileSinkView.{file_told as told, unbegun};
-ghost use Rattle.devices.specs.sinks.SinkState.{IsCutOff, IsWritten, IsBegunAsBefore};
+ghost use Rattle.devices.specs.files.Told.{told_held};
+ghost use Rattle.devices.specs.sinks.FileSinkView.{file_told as told, unbegun, HoldsNewFile};
+ghost use Rattle.devices.specs.sinks.SinkState.{IsCutOff, IsWritten, IsPut};
 
 use crate::count::{Count, raised};
 use crate::files::file_slot::{FileSlot, FileSlots};
@@ -110,9 +109,8 @@ impl<P: FileSlot> Sink for FileSink<P> {
         ensures once { OnOk result (self.old.has_slot ≡ true) }
         ensures sure { IsTrue P.is_sure → self.old.has_slot ≡ true → IsOk result }
         ensures used_up { self.new.has_slot ≡ false }
-        ensures file { OnOk result ((file : P.File) × (P.File.path file ≡ self.old.path)
-            × (P.File.contents file ≡ told_empty P.tells)
-            × (self.new.held ≡ told_held P.tells (P.File.contents file))) }
+        ensures file { OnOk result
+            (HoldsNewFile P.File.path P.File.contents P.tells self.old.path self.new.held) }
         ensures kept { OnErr result
             (self.new ≡ record self.old { has_slot = false; failures = self.old.failures + 1 }) }
     {
@@ -143,20 +141,9 @@ impl<P: FileSlot> Sink for FileSink<P> {
         ensures slot { self.new.has_slot ≡ self.old.has_slot }
         ensures unbegun { self.old.begun ≡ false → IsErr result }
 
-        // On success so many of the bytes are taken, and the file grows by them.
-        ensures within { IfOk result (λ n. n ≤ length bytes.now) }
-        ensures some { IfOk result (λ n. 0 < length bytes.now → 0 < n) }
+        // What it takes, and that the file grows by that.
+        ensures puts { IsPut bytes.now (told self.old) (told self.new) result }
         ensures bytes { WriteAppends self.old.held self.new.held result bytes.now }
-        ensures takes { IfOk result
-            (λ n. (told self.new).taken ≡ added (take n bytes.now) (told self.old).taken) }
-        ensures works { OnOk result ((told self.new).failures ≡ (told self.old).failures) }
-
-        // On failure none is taken, and one refusal more is counted.
-        ensures refused { OnErr result ((told self.new).taken ≡ (told self.old).taken) }
-        ensures fails { OnErr result ((told self.new).failures ≡ (told self.old).failures + 1) }
-
-        // Whatever is answered, it is begun where it was.
-        ensures still { IsBegunAsBefore (told self.old) (told self.new) }
     {
         let written = match &mut self.file {
             Some(file) => write_some(file, bytes),

@@ -1,8 +1,7 @@
 //! A device that takes bytes.
 
-ghost use Rattle.std.specs.Prelude.{◌≡◌, ◌+◌, ◌<◌, ◌≤◌, [], length, take, IfOk, OnOk, OnErr};
-ghost use Rattle.devices.specs.Device.{added};
-ghost use Rattle.devices.specs.sinks.SinkState.{SinkState, IsWritten, IsCutOff, IsBegunAsBefore};
+ghost use Rattle.std.specs.Prelude.{◌≡◌, [], OnOk, OnErr};
+ghost use Rattle.devices.specs.sinks.SinkState.{SinkState, IsWritten, IsCutOff, IsPut};
 
 use pit_units::OrMemory;
 use std::io;
@@ -58,12 +57,5 @@ pub trait Sink {
     ///
     /// The device failed. No byte was taken.
     fn put(&mut self, bytes: &[u8]) -> Result<usize, SinkFault>
-        ensures within { IfOk result (λ n. n ≤ length bytes.now) }
-        ensures some { IfOk result (λ n. 0 < length bytes.now → 0 < n) }
-        ensures takes { IfOk result
-            (λ n. (state self.new).taken ≡ added (take n bytes.now) (state self.old).taken) }
-        ensures works { OnOk result ((state self.new).failures ≡ (state self.old).failures) }
-        ensures refused { OnErr result ((state self.new).taken ≡ (state self.old).taken) }
-        ensures fails { OnErr result ((state self.new).failures ≡ (state self.old).failures + 1) }
-        ensures still { IsBegunAsBefore (state self.old) (state self.new) };
+        ensures puts { IsPut bytes.now (state self.old) (state self.new) result };
 }

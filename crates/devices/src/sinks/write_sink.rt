@@ -1,10 +1,9 @@
 //! An output as a sink.
 
 ghost use Rattle.std.specs.Io.KnownBytes.{WriteAppends};
-ghost use Rattle.std.specs.Prelude.{◌≡◌, ◌+◌, ◌<◌, ◌≤◌, [], length, take, IfOk, IsErr, OnOk, OnErr};
-ghost use Rattle.devices.specs.Device.{added};
+ghost use Rattle.std.specs.Prelude.{◌≡◌, [], IsErr, OnErr};
 ghost use Rattle.devices.specs.sinks.WriteSinkView.{told_as, write_told as told};
-ghost use Rattle.devices.specs.sinks.SinkState.{IsCutOff, IsBegunAsBefore};
+ghost use Rattle.devices.specs.sinks.SinkState.{IsCutOff, IsPut};
 
 use crate::count::{Count, raised};
 use crate::sinks::single_write::write_some;
@@ -72,20 +71,9 @@ impl<W: Write> Sink for WriteSink<W> {
 
     /// Writes what one write to the output takes. A write that a signal interrupts is tried again.
     fn put(&mut self, bytes: &[u8]) -> Result<usize, SinkFault>
-        // On success so many of the bytes are taken, and the output grows by them.
-        ensures within { IfOk result (λ n. n ≤ length bytes.now) }
-        ensures some { IfOk result (λ n. 0 < length bytes.now → 0 < n) }
+        // What it takes, and that the output grows by that.
+        ensures puts { IsPut bytes.now (told self.old) (told self.new) result }
         ensures bytes { WriteAppends self.old.held self.new.held result bytes.now }
-        ensures takes { IfOk result
-            (λ n. (told self.new).taken ≡ added (take n bytes.now) (told self.old).taken) }
-        ensures works { OnOk result ((told self.new).failures ≡ (told self.old).failures) }
-
-        // On failure none is taken, and one refusal more is counted.
-        ensures refused { OnErr result ((told self.new).taken ≡ (told self.old).taken) }
-        ensures fails { OnErr result ((told self.new).failures ≡ (told self.old).failures + 1) }
-
-        // Whatever is answered, it is begun where it was.
-        ensures still { IsBegunAsBefore (told self.old) (told self.new) }
     {
         let written = write_some(&mut self.output, bytes);
         if written.is_err() {

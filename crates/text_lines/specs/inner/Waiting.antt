@@ -1,8 +1,11 @@
 -- The lines of a text of which a feed gave a front.
-use Rattle.std.specs.Prelude.{◌≡◌, ◌≢◌, All, ℕ, ◌+◌, ◌<◌, ◌≤◌, Bool, true, false, List, [], ◌∷◌, ◌++◌, length, take, Option, IfSome, Result, Ok, Err}
+use Rattle.std.specs.Prelude.{◌≡◌, ◌≢◌, All, ℕ, ◌+◌, ◌-◌, ◌<◌, ◌≤◌, Bool, true, false, List, [], ◌∷◌, ◌++◌, length, take, Option, IfOk, IfSome, IsErrOf, IsTrue, OnErr, OnOk, Result, Ok, Err}
 use Rattle.pit_units.specs.declared.or_memory.OrMemory.{OrMemory}
 use Rattle.pit_units.specs.declared.or_memory.OrMemory.TheVariants.{Fault, OutOfMemory}
 use Rattle.devices.specs.feeds.Feed.{put_back}
+use Rattle.devices.specs.feeds.FeedSteps.{left_after}
+use Rattle.devices.specs.declared.feeds.slurp.SlurpFault.{SlurpFault}
+use Rattle.devices.specs.declared.feeds.slurp.SlurpFault.TheVariants as slurp
 use Rattle.text_lines.specs.Reading.{read_lines}
 use Rattle.text_lines.specs.TextLines.{Line, end_of, lines_in, lines_of, numbered_lines, without_mark}
 use Rattle.text_lines.specs.declared.text_fault.LineFault.{LineFault}
@@ -63,6 +66,24 @@ pub record Held (n : ℕ) (old new : WaitingView) (left_old left_new : Option (L
   pub begun : new.begun ≡ old.begun
   pub held : new.held ≡ old.held ++ bytes
   pub left : left_old ≡ put_back bytes left_new
+
+-- what becomes of a feed in one pull, unless memory for its bytes was refused before: by what it has left, whether it is sure, what it gave,
+-- and how many pulls it refused, before and now; and by the answer, which is how many bytes it gave
+pub record IsPulledOnce {F : Type 0} (left : F → Option (List ℕ)) (is_sure : F → Bool) (given failures : F → ℕ) (old new : F)
+    (answer : Result ℕ SlurpFault) : Type 0 where
+  pub end : IfOk answer (λ n. n ≡ 0 → IfSome (left old) (λ bytes. bytes ≡ []))
+  pub counts : IfOk answer (λ n. given new ≡ given old + n)
+  pub works : OnOk answer (failures new ≡ failures old)
+  -- when each fault comes; nothing was given then
+  pub refused_given : OnErr answer (given new ≡ given old)
+  pub failed : IsErrOf answer slurp.FeedFailed → failures new ≡ failures old + 1
+  pub memory : IsErrOf answer slurp.OutOfMemory → failures new ≡ failures old
+  pub not_long : answer ≢ Err slurp.TooLong
+  pub sure : IsTrue (is_sure old) → answer ≢ Err slurp.FeedFailed
+  -- whatever is answered
+  pub onward : given old ≤ given new
+  pub stands : left new ≡ left_after (given new - given old) (left old)
+  pub stays_sure : IsTrue (is_sure old) → IsTrue (is_sure new)
 
 -- a feed gave so many bytes, fewer than these, and has none left, as far as it tells
 pub record GaveAll (most gave : ℕ) (left_old left_new : Option (List ℕ)) : Type 0 where

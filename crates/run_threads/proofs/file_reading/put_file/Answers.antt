@@ -7,14 +7,14 @@ use Rattle.run_threads.proofs.file_reading.put_file.Goals as goal
 pub returns-in_err-text-clause-read : goal.returns-in_err-text-clause-read
 returns-in_err-text-clause-read g c =
     let p = err_from_is_err_and c.from_residual.result c.from_residual.ensures.1 in
-    let e = c.in_err-text.ensures in
+    let reads = c.in_err-text.ensures.reads in
     rw (p.1, p.2)
     (gives_none g.F.Feed.left g.F.Feed.is_sure g.F.Feed.failures c.args.plan.now.grid c.args.file c.args.feed.now c.slurp.new.feed
-    c.in_err-text.field-0.0 _ (λ is. e.failed (cc is)) (λ sure is. e.sure sure (cc is)) (λ is. e.long (cc is)))
+    c.in_err-text.field-0.0 _ reads.refused.failed (λ sure is. reads.sure sure (cc is)) reads.refused.long)
 
 pub returns-clause-read : goal.returns-clause-read
 returns-clause-read g c =
     let text = c.in_ok-text.text in
     let short : length text.items ≤ most_bytes = search rules in
     text_read g.F.Feed.left g.F.Feed.is_sure g.F.Feed.failures c.args.plan.now.grid c.args.file c.args.feed.now text.items
-    c.put_blocks.result _ c.in_ok-text.ensures.whole short c.put_blocks.ensures.put
+    c.put_blocks.result _ c.in_ok-text.ensures.read.whole short c.put_blocks.ensures.put

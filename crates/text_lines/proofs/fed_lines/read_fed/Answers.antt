@@ -1,5 +1,6 @@
-use Rattle.std.proofs.Common.{rules, ◌≡◌, ◌+◌, ◌-◌, ◌≤◌, ◌∙◌, arith}
-use Rattle.text_lines.proofs.FedSteps.{held_more, last_told, none_after, none_yet, read_faulty, took_more}
+use Rattle.std.proofs.Common.{rules, ◌≡◌, ◌≢◌, ◌+◌, ◌-◌, ◌≤◌, ◌∙◌, length, ap, refl, subst, arith, Err}
+use Rattle.text_lines.specs.inner.Waiting.{GaveAll}
+use Rattle.text_lines.proofs.FedSteps.{fails_behind, held_more, last_told, long_told, none_after, none_yet, read_faulty, refused_text, took_more}
 use Rattle.text_lines.proofs.GivenFacts.{stands_first, stands_on}
 use Rattle.text_lines.proofs.LineEnds.{front_held}
 use Rattle.text_lines.proofs.fed_lines.read_fed.Goals as goal
@@ -24,8 +25,8 @@ returns-then-count-eq0-clause-read g c =
     (c.args.limit + 1) _ _ _ c.loop-rest.invariant.so_far held (omega (arith, c.in_ok-count.ensures.within)) in
     last_told admit c.args.state.now c.loop-rest.state c.take_last.new.state c.pull.new.self (c.loop-rest.rest - n) c.args.limit _ _ _
     c.take_last.result so (omega (arith, zero, c.loop-rest-test.true))
-    (omega (arith, zero, c.loop-rest.invariant.counts, c.loop-rest.invariant.so_far.count, c.in_ok-count.ensures.counts))
-    (none_after _ _ held.bytes held.left (held.count ∙ zero) (c.in_ok-count.ensures.end zero)) c.take_last.ensures.read
+    (omega (arith, zero, c.loop-rest.invariant.counts, c.loop-rest.invariant.so_far.count, c.in_ok-count.ensures.pulls.counts))
+    (none_after _ _ held.bytes held.left (held.count ∙ zero) (c.in_ok-count.ensures.pulls.end zero)) c.take_last.ensures.read
 
 pub loop-rest-preserved : goal.loop-rest-preserved
 loop-rest-preserved g c =
@@ -39,11 +40,11 @@ loop-rest-preserved g c =
           (c.loop-rest.rest - n) (c.args.limit + 1) _ _ so c.in-Ok.ensures.takes;
       unended = c.in-Ok.ensures.held;
       stands = stands_on g.F.Feed.given g.F.Feed.left c.args.feed.now c.loop-rest.feed c.pull.new.feed
-          (omega (arith, inv.counts, inv.so_far.count)) c.pull.ensures.onward
-          inv.stands c.pull.ensures.stands;
-      counts = omega (arith, inv.counts, c.in_ok-count.ensures.counts, c.in_ok-count.ensures.within);
-      works = c.in_ok-count.ensures.works ∙ inv.works;
-      sure = λ s. c.pull.ensures.stays_sure (inv.sure s);
+          (omega (arith, inv.counts, inv.so_far.count)) c.pull.ensures.pulls.onward
+          inv.stands c.pull.ensures.pulls.stands;
+      counts = omega (arith, inv.counts, c.in_ok-count.ensures.pulls.counts, c.in_ok-count.ensures.within);
+      works = c.in_ok-count.ensures.pulls.works ∙ inv.works;
+      sure = λ s. c.pull.ensures.pulls.stays_sure (inv.sure s);
     }
 
 pub returns-in-Err-Fault-clause-read : goal.returns-in-Err-Fault-clause-read
@@ -52,56 +53,73 @@ returns-in-Err-Fault-clause-read g c =
     let n = c.in_ok-count.count in
     let so = held_more admit c.args.state.now c.loop-rest.state c.loop-rest.waiting c.pull.new.self c.loop-rest.rest (c.loop-rest.rest - n) n
     (c.args.limit + 1) _ _ _ c.loop-rest.invariant.so_far c.in_ok-count.ensures.held (omega (arith, c.in_ok-count.ensures.within)) in
+    let whole : c.loop-rest.rest - n - 1 + 1 ≡ c.loop-rest.rest - n = omega (arith, c.if-rest-eq0.false) in
     read_faulty admit c.args.state.now c.loop-rest.state c.take_ended.new.state c.pull.new.self (c.loop-rest.rest - n) c.args.limit _ _ _ _ _
-    c.in-Err-Fault.fault so (rw c.in-Err-Fault.field-0-is at c.in-Err-Fault.ensures.takes) c.in_ok-pass-in-Err-Fault.ensures.all
+    c.in-Err-Fault.fault so (rw c.in-Err-Fault.field-0-is at c.in-Err-Fault.ensures.takes)
+    (subst (λ most. GaveAll most (g.F.Feed.given c.pass.new.feed - g.F.Feed.given c.pull.new.feed) (g.F.Feed.left c.pull.new.feed)
+    (g.F.Feed.left c.pass.new.feed)) whole c.in_ok-pass-in-Err-Fault.ensures.all)
     (omega (
       arith,
       c.loop-rest.invariant.counts,
       c.loop-rest.invariant.so_far.count,
-      c.in_ok-count.ensures.counts,
+      c.in_ok-count.ensures.pulls.counts,
       c.in_ok-count.ensures.within,
-      c.pass.ensures.onward,
+      c.pass.ensures.reads.onward,
     ))
 
 pub take_ended-requires-clause-front : goal.take_ended-requires-clause-front
 take_ended-requires-clause-front g c =
     front_held _ _ c.loop-rest.waiting c.pull.new.self _ _ c.loop-rest.invariant.unended c.in_ok-count.ensures.held c.len-before.ensures
 
-pub returns-in_err-count-clause-stands : goal.returns-in_err-count-clause-stands
-returns-in_err-count-clause-stands g c =
+pub returns-then-rest-eq0-clause-reads : goal.returns-then-rest-eq0-clause-reads
+returns-then-rest-eq0-clause-reads g c =
     let inv = c.loop-rest.invariant in
-    stands_on g.F.Feed.given g.F.Feed.left c.args.feed.now c.loop-rest.feed c.pull.new.feed
-    (omega (arith, inv.counts, inv.so_far.count)) c.pull.ensures.onward inv.stands
-    c.pull.ensures.stands
+    let pulls = c.pull.ensures.pulls in
+    let counts = c.in_ok-count.ensures.pulls.counts in
+    let n = c.in_ok-count.count in
+    let so = held_more g.S.Admit.admit_line c.args.state.now c.loop-rest.state c.loop-rest.waiting c.pull.new.self c.loop-rest.rest
+    (c.loop-rest.rest - n) n (c.args.limit + 1) _ _ _ inv.so_far c.in_ok-count.ensures.held (omega (arith, c.in_ok-count.ensures.within)) in
+    let whole : length so.text ≡ c.args.limit + 1 = omega (arith, so.count, c.if-rest-eq0.true) in
+    let all : g.F.Feed.given c.pull.new.feed ≡ g.F.Feed.given c.args.feed.now + (c.args.limit + 1) =
+    omega (arith, inv.counts, counts, c.in_ok-count.ensures.within, c.if-rest-eq0.true) in
+    refused_text g.F.Feed.left g.F.Feed.is_sure g.F.Feed.given g.F.Feed.failures c.args.limit c.args.feed.now c.pull.new.feed _ _ refl
+    (record {
+      failed = λ e. absurd cc;
+      failed_first = λ e. absurd cc;
+      long = λ e. long_told _ _ so.text c.args.limit so.gave (omega (arith, whole));
+      long_counts = λ e. all;
+      long_works = λ e. c.in_ok-count.ensures.pulls.works ∙ inv.works;
+      memory_works = λ e. absurd cc;
+      memory_first = λ e. absurd cc;
+    })
+    (λ s e. absurd cc) (omega (arith, all)) (omega (arith, all))
+    (stands_on g.F.Feed.given g.F.Feed.left c.args.feed.now c.loop-rest.feed c.pull.new.feed
+    (omega (arith, inv.counts, inv.so_far.count)) pulls.onward inv.stands pulls.stands)
+    (λ s. pulls.stays_sure (inv.sure s))
 
-pub returns-then-rest-eq0-clause-stands : goal.returns-then-rest-eq0-clause-stands
-returns-then-rest-eq0-clause-stands g c =
+pub returns-in_err-pass-in-Err-Fault-clause-reads : goal.returns-in_err-pass-in-Err-Fault-clause-reads
+returns-in_err-pass-in-Err-Fault-clause-reads g c =
     let inv = c.loop-rest.invariant in
-    stands_on g.F.Feed.given g.F.Feed.left c.args.feed.now c.loop-rest.feed c.pull.new.feed
-    (omega (arith, inv.counts, inv.so_far.count)) c.pull.ensures.onward inv.stands
-    c.pull.ensures.stands
-
-pub returns-in-Err-OutOfMemory-clause-stands : goal.returns-in-Err-OutOfMemory-clause-stands
-returns-in-Err-OutOfMemory-clause-stands g c =
-    let inv = c.loop-rest.invariant in
-    stands_on g.F.Feed.given g.F.Feed.left c.args.feed.now c.loop-rest.feed c.pull.new.feed
-    (omega (arith, inv.counts, inv.so_far.count)) c.pull.ensures.onward inv.stands
-    c.pull.ensures.stands
-
-pub returns-in_err-pass-in-Err-Fault-clause-stands : goal.returns-in_err-pass-in-Err-Fault-clause-stands
-returns-in_err-pass-in-Err-Fault-clause-stands g c =
-    let inv = c.loop-rest.invariant in
+    let pulls = c.pull.ensures.pulls in
+    let passes = c.pass.ensures.reads in
+    let counts = c.in_ok-count.ensures.pulls.counts in
+    let n = c.in_ok-count.count in
+    let so = held_more g.S.Admit.admit_line c.args.state.now c.loop-rest.state c.loop-rest.waiting c.pull.new.self c.loop-rest.rest
+    (c.loop-rest.rest - n) n (c.args.limit + 1) _ _ _ inv.so_far c.in_ok-count.ensures.held (omega (arith, c.in_ok-count.ensures.within)) in
+    let some : c.loop-rest.rest - n ≢ 0 = c.if-rest-eq0.false in
+    let given : g.F.Feed.given c.pull.new.feed ≡ g.F.Feed.given c.args.feed.now + length so.text =
+    omega (arith, inv.counts, counts, c.in_ok-count.ensures.within, so.count) in
     let begun : g.F.Feed.given c.args.feed.now ≤ g.F.Feed.given c.loop-rest.feed = omega (arith, inv.counts, inv.so_far.count) in
-    let stood = stands_on g.F.Feed.given g.F.Feed.left c.args.feed.now c.loop-rest.feed c.pull.new.feed
-    begun c.pull.ensures.onward inv.stands c.pull.ensures.stands in
-    stands_on g.F.Feed.given g.F.Feed.left c.args.feed.now c.pull.new.feed c.pass.new.feed
-    (omega (arith, begun, c.pull.ensures.onward)) c.pass.ensures.onward stood c.pass.ensures.stands
-
-pub returns-in-Err-Fault-clause-stands : goal.returns-in-Err-Fault-clause-stands
-returns-in-Err-Fault-clause-stands g c =
-    let inv = c.loop-rest.invariant in
-    let begun : g.F.Feed.given c.args.feed.now ≤ g.F.Feed.given c.loop-rest.feed = omega (arith, inv.counts, inv.so_far.count) in
-    let stood = stands_on g.F.Feed.given g.F.Feed.left c.args.feed.now c.loop-rest.feed c.pull.new.feed
-    begun c.pull.ensures.onward inv.stands c.pull.ensures.stands in
-    stands_on g.F.Feed.given g.F.Feed.left c.args.feed.now c.pull.new.feed c.pass.new.feed
-    (omega (arith, begun, c.pull.ensures.onward)) c.pass.ensures.onward stood c.pass.ensures.stands
+    let was : c.pass.result ≡ Err c.in_err-pass-in-Err-Fault.field-0.0 = search rules in
+    let is : c.from_residual-in_err-pass-in-Err-Fault.result ≡ Err c.in_err-pass-in-Err-Fault.field-0.0 = search rules in
+    refused_text g.F.Feed.left g.F.Feed.is_sure g.F.Feed.given g.F.Feed.failures c.args.limit c.args.feed.now c.pass.new.feed _ _ is
+    (fails_behind (g.F.Feed.left c.args.feed.now) (g.F.Feed.left c.pull.new.feed) so.text c.args.limit (c.loop-rest.rest - n - 1)
+    _ _ _ _ _ _ _ so.gave (omega (arith, so.count, some)) given (c.in_ok-count.ensures.pulls.works ∙ inv.works)
+    c.in_err-pass-in-Err-Fault.ensures.reads.refused)
+    (λ s e. passes.sure (pulls.stays_sure (inv.sure s)) (was ∙ ap Err e))
+    (omega (arith, given, passes.onward)) (omega (arith, given, so.count, some, passes.reads))
+    (stands_on g.F.Feed.given g.F.Feed.left c.args.feed.now c.pull.new.feed c.pass.new.feed (omega (arith, begun, pulls.onward))
+    passes.onward
+    (stands_on g.F.Feed.given g.F.Feed.left c.args.feed.now c.loop-rest.feed c.pull.new.feed begun pulls.onward inv.stands pulls.stands)
+    passes.stands)
+    (λ s. passes.stays_sure (pulls.stays_sure (inv.sure s)))
