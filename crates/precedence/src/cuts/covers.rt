@@ -103,16 +103,7 @@ fn run_in_cone(cones: &BlockCones<'_>, block: u32, id: u32, row: &Cell<usize>) -
     let from = cones.places.codes[block as usize];
     let most = (cones.places.codes.len() - id as usize) as u32;
     let table = cones.tables.of(zone);
-    let rows = table.rows.as_slice();
-    run_in_rows(
-        cones.places,
-        rows,
-        table.past.as_slice(),
-        from,
-        id,
-        most,
-        row,
-    )
+    run_in_rows(cones.places, table, from, id, most, row)
 }
 
 /// How far the first row of a cone is away from its block at the least.

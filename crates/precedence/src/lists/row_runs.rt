@@ -6,7 +6,7 @@ ghost use Rattle.precedence.specs.Cone.{places_where};
 ghost use Rattle.precedence.specs.IdRuns.{ids_of};
 ghost use Rattle.precedence.specs.inner.Beside.{AreNoWider};
 ghost use Rattle.precedence.specs.inner.Rows.{is_in_rows, pasts, start_of, AreInOrder};
-ghost use Rattle.precedence.specs.inner.Lists.{run};
+ghost use Rattle.precedence.specs.inner.Lists.{run, IsRunOf};
 ghost use Rattle.precedence.specs.declared.places.code.TheConstants.{CODES};
 
 use crate::cones::cone_rows::{Row, Widths};
@@ -112,10 +112,7 @@ fn add_run_in_row(
 #[inline(always)]
 pub fn find_run(places: &Places, row: Row, hint: Hint, from: u64) -> Hint
     requires { from < CODES }
-    ensures first { result.first ≡ start_of (from + row.first) places.now.codes.items }
-    ensures past { result.past ≡ start_of (from + row.past) places.now.codes.items }
-    ensures in_order { result.first ≤ result.past }
-    ensures within { result.past ≤ length places.now.codes.items }
+    ensures { IsRunOf places.now.codes.items from row result }
 {
     let codes = places.codes.as_slice();
     let first = start_of(codes, hint.first as usize, from + row.first);

@@ -2,45 +2,42 @@
 
 ghost use Rattle.std.specs.Prelude.{◌≡◌, ℕ, ◌+◌, ◌-◌, ◌<◌, ◌≤◌, true, false, length, slice_index};
 ghost use Rattle.std.specs.List.Sorted.{IsStrictlyIncreasing};
-ghost use Rattle.precedence.specs.inner.Rows.{is_in_rows, pasts, start_of, AreInOrder};
+ghost use Rattle.precedence.specs.inner.Rows.{is_in_rows, start_of};
 ghost use Rattle.precedence.specs.declared.places.code.TheConstants.{CODES};
 
-use crate::cones::cone_rows::Row;
+use crate::cones::cone_table::ConeTable;
 use crate::places::Places;
 use crate::places::start_of::{is_last_below, start_of};
 use std::cell::Cell;
 
-/// How many identifiers from `pred` on, at most `most`, have codes in the row where the code of `pred` lies, seen from the code
-/// `from`; 0 where it lies in no row. `past` has the end of each row. The hint is a guess of the row.
+/// How many identifiers from `pred` on, at most `most`, have codes in the row of a table where the code of `pred` lies, seen from the
+/// code `from`; 0 where it lies in no row. The hint is a guess of the row.
 #[inline(always)]
 pub fn run_in_rows(
     places: &Places,
-    rows: &[Row],
-    past: &[u64],
+    table: &ConeTable,
     from: u64,
     pred: u32,
     most: u32,
     hint: &Cell<usize>,
 ) -> u32
-    requires in_order { AreInOrder rows.now }
-    requires past { past.now ≡ pasts rows.now }
     requires from { from < CODES }
     requires pred { pred < length places.now.codes.items }
     requires some { 0 < most }
     ensures most { result ≤ most }
     ensures within { pred + result ≤ length places.now.codes.items }
     ensures all { (k : ℕ) → k < result
-        → is_in_rows from rows.now (slice_index places.now.codes.items (pred + k)) ≡ true }
+        → is_in_rows from table.now.rows.items (slice_index places.now.codes.items (pred + k)) ≡ true }
     ensures none { result ≡ 0
-        → is_in_rows from rows.now (slice_index places.now.codes.items pred) ≡ false }
+        → is_in_rows from table.now.rows.items (slice_index places.now.codes.items pred) ≡ false }
 {
     let codes = places.codes.as_slice();
     let code = codes[pred as usize];
-    let number = row_of(past, from, code, hint);
-    if number >= rows.len() {
+    let number = row_of(table.past.as_slice(), from, code, hint);
+    if number >= table.rows.len() {
         return 0;
     }
-    let row = rows[number];
+    let row = table.rows[number];
     if code < from + row.first {
         return 0;
     }

@@ -4,6 +4,7 @@ ghost use Rattle.std.specs.Prelude.{◌≡◌, ◌+◌, ◌*◌, ◌<◌, ◌≤
 ghost use Rattle.std.specs.List.Sorted.{IsStrictlyIncreasing};
 ghost use Rattle.precedence.specs.inner.Alike.{FollowAlong};
 ghost use Rattle.precedence.specs.inner.Arcs.{count_in, GoesOn};
+ghost use Rattle.precedence.specs.inner.Lists.{IsRunOf};
 ghost use Rattle.precedence.specs.inner.Rows.{start_of};
 ghost use Rattle.precedence.specs.declared.places.code.TheConstants.{CODES};
 ghost use Rattle.plan_parts.specs.declared.ranges.TheConstants.{MAX_BLOCKS};
@@ -36,10 +37,7 @@ pub fn stretch_from(
     requires follow { FollowAlong own.now follow.now }
     requires small { All (λ c. c < CODES) own.now }
     requires k { k < length own.now }
-    requires first { run.first ≡ start_of (slice_index own.now k + row.first) places.now.codes.items }
-    requires past { run.past ≡ start_of (slice_index own.now k + row.past) places.now.codes.items }
-    requires in_order { run.first ≤ run.past }
-    requires in_codes { run.past ≤ length places.now.codes.items }
+    requires run { IsRunOf places.now.codes.items (slice_index own.now k) row run }
     ensures some { 0 < result.blocks }
     ensures within { k + result.blocks ≤ length own.now }
     ensures arcs { sum_by (count_in places.now.codes.items row) (take (k + result.blocks) own.now)

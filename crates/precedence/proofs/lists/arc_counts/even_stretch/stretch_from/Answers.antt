@@ -36,7 +36,7 @@ few_in c =
       c.moved-2.ensures,
       past,
       start_within (get_or own (c.args.k + n) 0 + c.args.row.past) codes,
-      c.requires.in_codes,
+      c.requires.run.in_codes,
       c.args.places.now.few,
     )
 
@@ -59,7 +59,7 @@ returns-clause-arcs c =
     let all = sum_even codes own row k n c.args.run.first c.args.run.past _ _ (evenly c) in
     let first = begins codes own row k n c.args.run.first c.args.run.past _ _ (evenly c) n (omega arith) in
     let past = ends codes own row k n c.args.run.first c.args.run.past _ _ (evenly c) n (omega arith) in
-    let here : c.from-here.result ≡ count_in codes row (get_or own k 0) = omega (arith, c.from-here.ensures, c.requires.first, c.requires.past) in
+    let here : c.from-here.result ≡ count_in codes row (get_or own k 0) = omega (arith, c.from-here.ensures, c.requires.run.first, c.requires.run.past) in
     let there : c.from-there.result ≡ count_in codes row (get_or own (k + n) 0) =
     omega (arith, c.from-there.ensures, c.saturating_sub.ensures, c.moved.ensures, c.moved-2.ensures, first, past) in
     let product = ap (λ m. (n + 1) * (c.from-here.result + m)) there ∙ ap (λ m. (n + 1) * (m + count_in codes row (get_or own (k + n) 0))) here in
