@@ -1,10 +1,12 @@
-//! How wide the rows of a cone are.
+//! How wide the rows of a cone are, and where they are past.
 
-ghost use Rattle.std.specs.Prelude.{◌≡◌, ◌<◌, ◌≤◌, ◌^◌};
+ghost use Rattle.std.specs.Prelude.{◌≡◌, ◌<◌, ◌≤◌, ◌^◌, IfOk};
 ghost use Rattle.precedence.specs.inner.Beside.{middle, AreNoWider};
+ghost use Rattle.precedence.specs.inner.Rows.{pasts};
 
 use crate::cones::cone_rows::{Row, Widths};
 use crate::places::code::ROW;
+use std::alloc::{AllocError, Global};
 
 /// The widths of these rows, or of parts of rows.
 pub fn widths_of(rows: &[Row]) -> Widths
@@ -32,6 +34,13 @@ pub fn widest_of(rows: &[Row]) -> usize {
         }
     }
     widest
+}
+
+/// Where each of these rows is past. Fails only where memory is refused.
+pub fn pasts_of(alloc: Global, rows: &[Row]) -> Result<Vec<u64>, AllocError>
+    ensures { IfOk result (λ past. past.items ≡ pasts rows.now) }
+{
+    rows.iter().map(|row| row.past).collect(alloc)
 }
 
 fn middle_of(past: u64) -> u64

@@ -2,15 +2,14 @@
 
 ghost use Rattle.std.specs.Prelude.{◌≡◌, ◌<◌, IfOk, IfSome, OnOk, Some, All, length, slice_get, slice_index, slice_index_or};
 ghost use Rattle.plan_parts.specs.PlanKept.{IsCone, IsGrid};
-ghost use Rattle.precedence.specs.inner.Rows.{pasts};
 ghost use Rattle.precedence.specs.inner.ZoneTables.{HasTableAt, HasTables, IsTold};
 ghost use Rattle.precedence.specs.declared.cones.cone_table.ConeTable.{ConeTable};
 
 use crate::cones::bounds::extent_for;
-use crate::cones::cone_rows::{Extent, Row};
+use crate::cones::cone_rows::Extent;
 use crate::cones::cone_table::ConeTable;
 use crate::cones::row_making::cone_rows;
-use crate::cones::widths::{widest_of, widths_of};
+use crate::cones::widths::{pasts_of, widest_of, widths_of};
 use plan_parts::cone::Cone;
 use plan_parts::grid::Grid;
 use std::alloc::{AllocError, Global};
@@ -117,7 +116,7 @@ fn table_of(
     ensures told { IfOk result (IsTold grid cones.now extents.now) }
 {
     let rows = cone_rows(alloc, grid, cone, extent_for(cones, extents, cone))?;
-    let past = past_of(alloc, rows.as_slice())?;
+    let past = pasts_of(alloc, rows.as_slice())?;
     let widths = widths_of(rows.as_slice());
     let widest = widest_of(rows.as_slice());
     Ok(ConeTable {
@@ -128,10 +127,4 @@ fn table_of(
         widest,
         start,
     })
-}
-
-fn past_of(alloc: Global, rows: &[Row]) -> Result<Vec<u64>, AllocError>
-    ensures { IfOk result (λ past. past.items ≡ pasts rows.now) }
-{
-    rows.iter().map(|row| row.past).collect(alloc)
 }

@@ -12,7 +12,7 @@ ghost use Rattle.plan_parts.specs.declared.ranges.TheConstants.{MAX_BLOCKS};
 use crate::cones::cone_rows::Widths;
 use crate::cuts::state_rows::StateRows;
 use crate::lists::beside::{Behind, ByChunk, PassBlocks};
-use crate::lists::row_runs::{Hint, next_row};
+use crate::lists::row_runs::{Hint, hint_at, keep_hint, next_row};
 use crate::places::Places;
 use crate::places::start_of::start_of;
 use std::cell::Cell;
@@ -127,24 +127,17 @@ fn first_from(codes: &[u64], hints: &[Cell<Hint>], i: usize, id: usize, target: 
     if target <= codes[id] {
         return id;
     }
-    let first = start_of(codes, hint_at(hints, i).max(id), target);
-    keep_hint(hints, i, first as u32);
+    let near = hint_at(hints, i, 0);
+    let first = start_of(codes, (near.first as usize).max(id), target);
+    keep_hint(
+        hints,
+        i,
+        Hint {
+            first: first as u32,
+            past: first as u32,
+        },
+    );
     first
-}
-
-#[inline(always)]
-fn hint_at(hints: &[Cell<Hint>], i: usize) -> usize {
-    match hints.get(i) {
-        Some(hint) => hint.get().first as usize,
-        None => 0,
-    }
-}
-
-#[inline(always)]
-fn keep_hint(hints: &[Cell<Hint>], i: usize, first: u32) {
-    if let Some(hint) = hints.get(i) {
-        hint.set(Hint { first, past: first });
-    }
 }
 
 // Whether there is a code at a place, and it is below `past`.

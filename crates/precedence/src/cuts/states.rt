@@ -1,18 +1,17 @@
 //! Going from one state of a walk to the next, which is made where it is lacking.
 
 ghost use Rattle.std.specs.Prelude.{◌≡◌, ◌+◌, ◌<◌, ◌^◌, [], None, IfOk, IfSome, length};
-ghost use Rattle.precedence.specs.inner.Rows.{pasts, AreInOrder};
+ghost use Rattle.precedence.specs.inner.Rows.{AreInOrder};
 ghost use Rattle.precedence.specs.inner.States.{AreStates, IsNext};
 
 use crate::cones::cone_rows::Row;
 use crate::cones::cone_table::ConeTable;
-use crate::cones::widths::widths_of;
+use crate::cones::widths::{pasts_of, widths_of};
 use crate::cuts::rest::rest_behind;
 use crate::cuts::state::{Edge, State, States};
 use crate::cuts::state_rows::rows_at;
-use crate::lists::row_runs::{Hint, NOTHING_KNOWN};
+use crate::lists::row_runs::no_hints;
 use std::alloc::{AllocError, Global};
-use std::cell::Cell;
 
 // So many rows are kept in all states, some 8 MB of them.
 const MOST_ROWS: usize = 200_000;
@@ -77,20 +76,6 @@ fn state_of(alloc: Global, rest: Vec<Row>) -> Result<State, AllocError>
         widths,
         hints,
     })
-}
-
-fn pasts_of(alloc: Global, rows: &[Row]) -> Result<Vec<u64>, AllocError>
-    ensures { IfOk result (λ past. past.items ≡ pasts rows.now) }
-{
-    rows.iter().map(|row| row.past).collect(alloc)
-}
-
-fn no_hints(alloc: Global, count: usize) -> Result<Vec<Cell<Hint>>, AllocError> {
-    let mut hints = Vec::with_capacity(alloc, count)?;
-    for _ in 0..count {
-        hints.push(Cell::new(NOTHING_KNOWN))?;
-    }
-    Ok(hints)
 }
 
 /// The state that follows where the first block is found at a distance, and its cone has a table. Where it was not made before it is made,

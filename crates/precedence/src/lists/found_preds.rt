@@ -23,7 +23,7 @@ use crate::lists::ids_as_runs::add_ids_of_runs;
 use crate::lists::moving::moved_in_rows;
 use crate::lists::pred_lists::PredLists;
 use crate::lists::predecessors::Preds;
-use crate::lists::row_runs::{Hint, NOTHING_KNOWN, add_runs_in_rows};
+use crate::lists::row_runs::{Hint, NOTHING_KNOWN, add_runs_in_rows, no_hints};
 use crate::numbering::Numbering;
 use crate::places::{Places, places_of};
 use plan_parts::block::Block;
@@ -248,14 +248,6 @@ fn zones_of(alloc: Global, blocks: &[Block]) -> Result<Vec<u8>, AllocError>
     ensures { IfOk result (λ zones. zones.items ≡ map (λ b. b.zone) blocks.now) }
 {
     blocks.iter().map(|block| block.zone).collect(alloc)
-}
-
-fn no_hints(alloc: Global, count: usize) -> Result<Vec<Cell<Hint>>, AllocError> {
-    let mut hints = Vec::with_capacity(alloc, count)?;
-    for _ in 0..count {
-        hints.push(Cell::new(NOTHING_KNOWN))?;
-    }
-    Ok(hints)
 }
 
 // Appends the runs of the blocks in the rows of a zone's cone, seen from the code `from`.

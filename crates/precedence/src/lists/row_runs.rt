@@ -14,7 +14,7 @@ use crate::lists::beside::{BEFORE_ALL, PassBlocks};
 use crate::lists::id_run::IdRun;
 use crate::places::Places;
 use crate::places::start_of::start_of;
-use std::alloc::AllocError;
+use std::alloc::{AllocError, Global};
 use std::cell::Cell;
 
 /// The identifiers that a row's run began and ended at, for the block that was looked at last.
@@ -26,6 +26,15 @@ pub struct Hint {
 
 /// What is known before the first block.
 pub const NOTHING_KNOWN: Hint = Hint { first: 0, past: 0 };
+
+/// So many hints with nothing known. Fails only where memory is refused.
+pub fn no_hints(alloc: Global, count: usize) -> Result<Vec<Cell<Hint>>, AllocError> {
+    let mut hints = Vec::with_capacity(alloc, count)?;
+    for _ in 0..count {
+        hints.push(Cell::new(NOTHING_KNOWN))?;
+    }
+    Ok(hints)
+}
 
 /// Appends the runs of the identifiers whose codes lie in the rows, seen from the code `from`, in rising order. `past` has the end of
 /// each row, and the rows are no wider than `widths`. The hints, one for each row, are guesses, such as where the rows' runs were found
