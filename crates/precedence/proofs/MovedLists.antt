@@ -185,8 +185,3 @@ module _ (f : Inside) (keeps : KeepsFound f) (lists : List (List ℕ)) (is : fou
               ∙ sym (list_of f keeps lists is id zone from within zone_is from_is d c
               (lying_within from rows codes d (in_own d hd)) (lying_within from rows codes c (in_own c hc)));
         }
-
-  -- what stands in the list is an identifier
-  pub in_codes : (c : ℕ) → is_in (get_or lists id []) c ≡ true → c < length codes
-  in_codes c h =
-      lying_within from rows codes c (sym (ap (λ list. is_in list c) (list_is f keeps lists is id zone from within zone_is from_is)) ∙ h)

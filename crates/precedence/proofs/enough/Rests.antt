@@ -1,65 +1,49 @@
 -- What is left of rows behind a block.
-use Rattle.std.proofs.Common.{◌≡◌, ℕ, suc, ◌+◌, ◌-◌, ◌<◌, ◌≤◌, ◌==◌, ◌&&◌, ◌||◌, Bool, true, false, not, List, [], ◌∷◌, length, drop, get_or, nat_lt, nat_le, refl, sym, ap, subst, ◌∙◌, arith, ⊎_elim}
+use Rattle.std.proofs.Common.{◌≡◌, ℕ, ◌+◌, ◌-◌, ◌<◌, ◌≤◌, ◌==◌, ◌&&◌, ◌||◌, Bool, true, false, not, List, [], ◌∷◌, length, get_or, nat_lt, nat_le, refl, sym, ap, ◌∙◌, arith, ⊎_elim}
 use Rattle.std.proofs.Math.Bool.{and-false, or-false}
-use Rattle.std.proofs.Math.Seq.{drop-cons}
 use Rattle.std.proofs.lemmas.Bool.{cases_Bool, cases_lt, eqb-false, lt-ltb, le-ltb, le-leb, lt-leb}
-use Rattle.std.proofs.lemmas.List.{drop_all, length-map}
+use Rattle.std.proofs.lemmas.List.{drop_all}
 use Rattle.precedence.specs.inner.Rest.{is_free, IsRest, IsRestBehind}
-use Rattle.precedence.specs.inner.Rows.{is_in_row, is_in_rows, pasts, start_of, LieApart}
+use Rattle.precedence.specs.inner.Rows.{is_in_rows, pasts, start_of, LieApart}
 use Rattle.precedence.specs.declared.cones.cone_rows.Row.{Row}
-use Rattle.precedence.proofs.runs.RowOfCode.{before_past, in_some_row}
-use Rattle.precedence.proofs.runs.RunsOfRows.{apart_at, before_rows, pasts_rise, skip}
+use Rattle.precedence.proofs.runs.RowOfCode.{before_past, in_none, in_this_row, long, row_is}
+use Rattle.precedence.proofs.runs.RunsOfRows.{before_rows, pasts_rise, skip}
 use Rattle.precedence.proofs.runs.Starts.{no_less, start_within}
 
 -- ---- what lies from a place of a row on
 
 module _ (from gap pos c high i : ℕ) (rows : List Row) (apart : LieApart 0 rows high) (behind : gap < pos) (le : from + pos ≤ c)
     (is : i ≡ start_of (pos - gap + 1) (pasts rows)) where
-  long : length (pasts rows) ≡ length rows
-  long = length-map rows (λ (row : Row). row.past)
-
   number : start_of ((from + pos) - (from + gap) + 1) (pasts rows) ≡ i
   number =
       let same : (from + pos) - (from + gap) + 1 ≡ pos - gap + 1 = omega arith in
       ap (λ n. start_of n (pasts rows)) same ∙ sym is
 
-  skipped : is_in_rows (from + gap) rows c ≡ is_in_rows (from + gap) (drop i rows) c
-  skipped =
-      skip (from + gap) c i rows (omega (arith, is, start_within (pos - gap + 1) (pasts rows), long))
-      (λ k lt. let before = before_past (from + gap) (from + pos) high rows apart k (omega (arith, number, lt)) in omega (arith, before, le))
-
   after : nat_lt (from + gap) c ≡ true
   after = lt-ltb _ _ (omega (arith, behind, le))
 
+  -- where the next row has not begun
+  free_of : (i < length rows → (d : Row) → c < from + gap + (get_or rows i d).first) → is_free (from + gap) rows c ≡ true
+  free_of before =
+      let none : is_in_rows (from + gap) rows c ≡ false =
+      in_none (from + gap) c high i rows apart (omega (arith, is, start_within (pos - gap + 1) (pasts rows), long rows))
+      (λ k lt. let gone = before_past (from + gap) (from + pos) high rows apart k (omega (arith, number, lt)) in omega (arith, gone, le)) before in
+      λ j. after j && not (none j)
+
   -- behind all rows
   pub free_behind : length rows ≤ i → is_free (from + gap) rows c ≡ true
-  free_behind past =
-      let none : is_in_rows (from + gap) rows c ≡ false = skipped ∙ ap (λ rs. is_in_rows (from + gap) rs c) (drop_all i rows past) in
-      λ j. after j && not (none j)
+  free_behind past = free_of (λ lt d. absurd (omega (arith, lt, past)))
 
   -- before the next row
   pub free_before : (row : Row) → i < length rows → row ≡ get_or rows i row → c < from + gap + row.first
       → is_free (from + gap) rows c ≡ true
-  free_before row lt at less =
-      let apart_row = apart_at 0 rows high i row apart lt in
-      let first = ap (λ (r : Row). r.first) at in
-      let past = ap (λ (r : Row). r.past) at in
-      let none : is_in_rows (from + gap) rows c ≡ false =
-      skipped
-      ∙ ap (λ rs. is_in_rows (from + gap) rs c) (drop-cons rows i row lt)
-      ∙ before_rows (from + gap) c (get_or rows i row).first (get_or rows i row ∷ drop (suc i) rows) high (omega arith, apart_row.0, apart_row.1)
-      (omega (arith, less, first)) in
-      λ j. after j && not (none j)
+  free_before row lt at less = free_of (λ more d. omega (arith, less, ap (λ (r : Row). r.first) (row_is rows i row lt at d)))
 
   -- in a row
   pub taken_in : (row : Row) → i < length rows → row ≡ get_or rows i row → row.first ≤ pos - gap → c < from + gap + row.past
       → is_free (from + gap) rows c ≡ false
   taken_in row lt at begun less =
-      let low : nat_le (from + gap + row.first) c ≡ true = le-leb _ _ (omega (arith, begun, behind, le)) in
-      let up : nat_lt c (from + gap + row.past) ≡ true = lt-ltb _ _ less in
-      let some : is_in_rows (from + gap) rows c ≡ true =
-      in_some_row (from + gap) c i rows row lt
-      (subst (λ (r : Row). is_in_row (from + gap) r c ≡ true) at (λ j. low j && up j)) in
+      let some = in_this_row (from + gap) c i rows row lt at (omega (arith, begun, behind, le)) less in
       λ j. after j && not (some j)
 
 -- ---- parts of a row, one after the other
@@ -135,7 +119,7 @@ before_end from c high rows apart is = ⊎_elim
     (λ lt. lt)
     (λ le.
     let n = length rows in
-    let all = length-map rows (λ (row : Row). row.past) in
+    let all = long rows in
     let out : is_in_rows from rows c ≡ false =
     skip from c n rows (omega arith) (λ k lt.
     let more = no_less (pasts rows) k (n - 1) (pasts_rise 0 rows high apart) (omega (arith, lt)) (omega (arith, lt, all)) in

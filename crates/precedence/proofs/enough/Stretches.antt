@@ -1,49 +1,16 @@
 -- Stretches of codes that lie in rows, and of those from which a code lies in rows.
-use Rattle.std.proofs.Common.{◌≡◌, ℕ, suc, ◌+◌, ◌-◌, ◌<◌, ◌≤◌, false, List, [], ◌∷◌, length, drop, get_or, min, sym, ap, ◌∙◌, arith, ⊎_elim}
-use Rattle.std.proofs.Math.Seq.{drop-cons}
-use Rattle.std.proofs.lemmas.Bool.{cases_lt}
-use Rattle.std.proofs.lemmas.List.{drop_all, get_or-map, get_or_default, length-map}
+use Rattle.std.proofs.Common.{◌≡◌, ℕ, ◌+◌, ◌-◌, ◌<◌, ◌≤◌, false, List, length, get_or, min, ap, ◌∙◌, arith}
 use Rattle.precedence.specs.inner.Rows.{is_in_rows, pasts, start_of, LieApart}
 use Rattle.precedence.specs.declared.cones.cone_rows.Row.{Row}
-use Rattle.precedence.proofs.runs.RowOfCode.{before_past, not_past}
-use Rattle.precedence.proofs.runs.RunsOfRows.{apart_at, before_rows, pasts_rise, skip}
+use Rattle.precedence.proofs.runs.RowOfCode.{before_past, in_none, long, not_past, past_is}
+use Rattle.precedence.proofs.runs.RunsOfRows.{apart_at, pasts_rise}
 use Rattle.precedence.proofs.runs.Starts.{no_less, start_before_in, start_within}
 
-pub long : (rows : List Row) → length (pasts rows) ≡ length rows
-long rows = length-map rows (λ (row : Row). row.past)
-
--- a code lies in none where the rows before one are past at it, and that has not begun
-pub in_none : (from c high i : ℕ) (rows : List Row) → LieApart 0 rows high → i ≤ length rows → ((k : ℕ) → k < i → from + get_or (pasts rows) k 0 ≤ c)
-    → (i < length rows → (d : Row) → c < from + (get_or rows i d).first) → is_in_rows from rows c ≡ false
-in_none from c high i rows apart inside past before =
-    skip from c i rows inside past
-    ∙ ⊎_elim
-    (λ lt. there rows lt)
-    (λ le. ap (λ rs. is_in_rows from rs c) (drop_all i rows le))
-    (cases_lt i (length rows))
-  where
-    there : (rs : List Row) → i < length rows → is_in_rows from (drop i rows) c ≡ false
-    there rs lt = first rows lt
-      where
-        first : (rs : List Row) → i < length rs → is_in_rows from (drop i rows) c ≡ false
-        first [] none = absurd (omega arith)
-        first (r ∷ rs) some =
-            let row = get_or rows i r in
-            let at = apart_at 0 rows high i r apart lt in
-            ap (λ rs. is_in_rows from rs c) (drop-cons rows i r lt)
-            ∙ before_rows from c row.first (row ∷ drop (suc i) rows) high (omega arith, at.0, at.1) (before lt r)
-
--- where a row begins, and is past
-pub row_is : (rows : List Row) (i : ℕ) (row : Row) → i < length rows → row ≡ get_or rows i row → (d : Row) → get_or rows i d ≡ row
-row_is rows i row lt at d = get_or_default rows i d row lt ∙ sym at
-
+-- a row has codes
 pub some_codes : (rows : List Row) (high i : ℕ) (row : Row) → LieApart 0 rows high → i < length rows → row ≡ get_or rows i row → row.first < row.past
 some_codes rows high i row apart lt at =
     let some = (apart_at 0 rows high i row apart lt).0 in
     omega (arith, some, ap (λ (r : Row). r.first) at, ap (λ (r : Row). r.past) at)
-
-pub past_is : (rows : List Row) (i : ℕ) (row : Row) → i < length rows → row ≡ get_or rows i row → get_or (pasts rows) i 0 ≡ row.past
-past_is rows i row lt at = get_or-map (λ (row : Row). row.past) rows i row 0 lt ∙ ap (λ (r : Row). r.past) (sym at)
 
 -- ---- seen from below
 
@@ -87,7 +54,7 @@ module _ (code to high i : ℕ) (rows : List Row) (apart : LieApart 0 rows high)
     pub last_past : row.past ≤ to - code
     last_past =
         let less = start_before_in (to - code + 1) (i - 1) (pasts rows) (omega (arith, is, some)) in
-        omega (arith, less, past_is rows (i - 1) row last_within at)
+        omega (arith, less, past_is rows (i - 1) row last_within, ap (λ (r : Row). r.past) at)
 
     pub last_codes : row.first < row.past
     last_codes = some_codes rows high (i - 1) row apart last_within at
@@ -96,4 +63,4 @@ module _ (code to high i : ℕ) (rows : List Row) (apart : LieApart 0 rows high)
     pub all_past : (k : ℕ) → k < i → get_or (pasts rows) k 0 ≤ row.past
     all_past k lt =
         let le = no_less (pasts rows) k (i - 1) (pasts_rise 0 rows high apart) (omega (arith, lt)) (omega (arith, last_within, long rows)) in
-        omega (arith, le, past_is rows (i - 1) row last_within at)
+        omega (arith, le, past_is rows (i - 1) row last_within, ap (λ (r : Row). r.past) at)

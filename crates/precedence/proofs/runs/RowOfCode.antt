@@ -1,5 +1,5 @@
 -- The row in which a code lies.
-use Rattle.std.proofs.Common.{◌≡◌, ℕ, zero, suc, ◌+◌, ◌-◌, ◌<◌, ◌≤◌, ◌&&◌, ◌||◌, true, false, List, [], ◌∷◌, length, drop, get_or, nat_lt, nat_le, ap, subst, ◌∙◌, arith, ⊎_elim}
+use Rattle.std.proofs.Common.{◌≡◌, ℕ, zero, suc, ◌+◌, ◌-◌, ◌<◌, ◌≤◌, ◌&&◌, ◌||◌, true, false, List, [], ◌∷◌, length, drop, get_or, nat_lt, nat_le, sym, ap, subst, ◌∙◌, arith, ⊎_elim}
 use Rattle.std.specs.List.Sorted.{IsStrictlyIncreasing}
 use Rattle.std.proofs.Math.Bool.{or-true}
 use Rattle.std.proofs.Math.Seq.{drop-cons}
@@ -10,21 +10,69 @@ use Rattle.precedence.specs.declared.cones.cone_rows.Row.{Row}
 use Rattle.precedence.proofs.runs.RunsOfRows.{apart_at, before_rows, pasts_rise, skip}
 use Rattle.precedence.proofs.runs.Starts.{from_start, no_less, start_before_in, start_within}
 
-pub in_some_row : (from c i : ℕ) (rows : List Row) (d : Row) → i < length rows → is_in_row from (get_or rows i d) c ≡ true → is_in_rows from rows c ≡ true
+in_some_row : (from c i : ℕ) (rows : List Row) (d : Row) → i < length rows → is_in_row from (get_or rows i d) c ≡ true → is_in_rows from rows c ≡ true
 in_some_row from c i [] d lt is = absurd (omega arith)
 in_some_row from c zero (row ∷ rows) d lt is = ap (λ b. b || is_in_rows from rows c) is
 in_some_row from c (suc i) (row ∷ rows) d lt is =
     ap (λ b. is_in_row from row c || b) (in_some_row from c i rows d (omega arith) is) ∙ or-true (is_in_row from row c)
 
+-- a code lies in a row
+pub in_this_row : (from c i : ℕ) (rows : List Row) (row : Row) → i < length rows → row ≡ get_or rows i row → from + row.first ≤ c → c < from + row.past
+    → is_in_rows from rows c ≡ true
+in_this_row from c i rows row lt at begun less =
+    let low : nat_le (from + row.first) c ≡ true = le-leb _ _ begun in
+    let up : nat_lt c (from + row.past) ≡ true = lt-ltb _ _ less in
+    in_some_row from c i rows row lt (subst (λ (r : Row). is_in_row from r c ≡ true) at (λ j. low j && up j))
+
+-- the codes from its own on are in the row, up to where that is past
+pub in_the_row : (from : ℕ) (codes : List ℕ) (rows : List Row) (i pred n : ℕ) (row : Row) → IsStrictlyIncreasing codes → i < length rows → row ≡ get_or rows i row
+    → from + row.first ≤ get_or codes pred 0 → pred + n ≤ start_of (from + row.past) codes
+    → (k : ℕ) → k < n → is_in_rows from rows (get_or codes (pred + k) 0) ≡ true
+in_the_row from codes rows i pred n row rising lt at begun few k less =
+    let there = start_within (from + row.past) codes in
+    in_this_row from (get_or codes (pred + k) 0) i rows row lt at
+    (omega (arith, begun, no_less codes pred (pred + k) rising (omega arith) (omega arith)))
+    (start_before_in (from + row.past) (pred + k) codes (omega arith))
+
+-- a row that is read
+pub row_is : (rows : List Row) (i : ℕ) (row : Row) → i < length rows → row ≡ get_or rows i row → (d : Row) → get_or rows i d ≡ row
+row_is rows i row lt at d = get_or_default rows i d row lt ∙ sym at
+
+-- where the rows are past
+pub long : (rows : List Row) → length (pasts rows) ≡ length rows
+long rows = length-map rows (λ (row : Row). row.past)
+
+pub past_is : (rows : List Row) (i : ℕ) (d : Row) → i < length rows → get_or (pasts rows) i 0 ≡ (get_or rows i d).past
+past_is rows i d lt = get_or-map (λ (row : Row). row.past) rows i d 0 lt
+
+pub past_some : (rows : List Row) (high i : ℕ) → LieApart 0 rows high → i < length rows → 0 < get_or (pasts rows) i 0
+past_some rows high i apart lt = first rows lt
+  where
+    first : (rs : List Row) → i < length rs → 0 < get_or (pasts rows) i 0
+    first [] none = absurd (omega arith)
+    first (r ∷ rs) some = omega (arith, (apart_at 0 rows high i r apart lt).0, past_is rows i r lt)
+
+-- a code lies in none where the rows before one are past at it, and that has not begun
+pub in_none : (from c high i : ℕ) (rows : List Row) → LieApart 0 rows high → i ≤ length rows → ((k : ℕ) → k < i → from + get_or (pasts rows) k 0 ≤ c)
+    → (i < length rows → (d : Row) → c < from + (get_or rows i d).first) → is_in_rows from rows c ≡ false
+in_none from c high i rows apart inside past before =
+    skip from c i rows inside past
+    ∙ ⊎_elim
+    (λ lt. first lt rows lt)
+    (λ le. ap (λ rs. is_in_rows from rs c) (drop_all i rows le))
+    (cases_lt i (length rows))
+  where
+    first : i < length rows → (rs : List Row) → i < length rs → is_in_rows from (drop i rows) c ≡ false
+    first lt [] none = absurd (omega arith)
+    first lt (r ∷ rs) some =
+        let row = get_or rows i r in
+        let at = apart_at 0 rows high i r apart lt in
+        ap (λ rs. is_in_rows from rs c) (drop-cons rows i r lt)
+        ∙ before_rows from c row.first (row ∷ drop (suc i) rows) high (omega arith, at.0, at.1) (before lt r)
+
 module _ (from code high : ℕ) (rows : List Row) (apart : LieApart 0 rows high) where
   abbrev number : ℕ
   number = start_of (code - from + 1) (pasts rows)
-
-  long : length (pasts rows) ≡ length rows
-  long = length-map rows (λ (row : Row). row.past)
-
-  past_is : (k : ℕ) (d : Row) → k < length rows → get_or (pasts rows) k 0 ≡ (get_or rows k d).past
-  past_is k d lt = get_or-map (λ (row : Row). row.past) rows k d 0 lt
 
   -- the row is not past at the code
   pub not_past : (i : ℕ) (row : Row) → i ≡ number → i < length rows → row ≡ get_or rows i row → from + row.first ≤ code
@@ -32,53 +80,13 @@ module _ (from code high : ℕ) (rows : List Row) (apart : LieApart 0 rows high)
   not_past i row is lt at begun =
       omega (
         arith,
-        from_start (code - from + 1) i (pasts rows) (pasts_rise 0 rows high apart) (omega arith) (omega (arith, long)),
-        past_is i row lt,
+        from_start (code - from + 1) i (pasts rows) (pasts_rise 0 rows high apart) (omega arith) (omega (arith, long rows)),
+        past_is rows i row lt,
         ap (λ (r : Row). r.past) at,
       )
 
   -- each row before it is
   pub before_past : (k : ℕ) → k < number → from + get_or (pasts rows) k 0 ≤ code
   before_past k lt =
-      let within : k < length rows = omega (arith, start_within (code - from + 1) (pasts rows), long) in
-      some k within (start_before_in (code - from + 1) k (pasts rows) lt)
-    where
-      some : (k : ℕ) → k < length rows → get_or (pasts rows) k 0 < code - from + 1 → from + get_or (pasts rows) k 0 ≤ code
-      some k within less = first rows within
-        where
-          first : (rs : List Row) → k < length rs → from + get_or (pasts rows) k 0 ≤ code
-          first [] lt = absurd (omega arith)
-          first (r ∷ rs) lt = omega (arith, past_is k r within, (apart_at 0 rows high k r apart within).0, less)
-
-  -- where it has not begun, or is not there, the code lies in none
-  pub in_no_row : (i : ℕ) → i ≡ number → (i < length rows → (d : Row) → d ≡ get_or rows i d → code < from + d.first)
-      → is_in_rows from rows code ≡ false
-  in_no_row i is before =
-      skip from code i rows (omega (arith, start_within (code - from + 1) (pasts rows), long)) (λ k lt. before_past k (omega arith))
-      ∙ ⊎_elim
-      (λ lt. there i lt before)
-      (λ past. ap (λ rs. is_in_rows from rs code) (drop_all i rows past))
-      (cases_lt i (length rows))
-    where
-      there : (i : ℕ) → i < length rows → (i < length rows → (d : Row) → d ≡ get_or rows i d → code < from + d.first) → is_in_rows from (drop i rows) code ≡ false
-      there i lt before = first rows lt
-        where
-          first : (rs : List Row) → i < length rs → is_in_rows from (drop i rows) code ≡ false
-          first [] none = absurd (omega arith)
-          first (r ∷ rs) some =
-              let row = get_or rows i r in
-              let at = apart_at 0 rows high i r apart lt in
-              ap (λ rs. is_in_rows from rs code) (drop-cons rows i r lt)
-              ∙ before_rows from code row.first (row ∷ drop (suc i) rows) high (omega arith, at.0, at.1)
-              (before lt row (get_or_default rows i r row lt))
-
-  -- the codes from its own on are in the row, up to where that is past
-  pub in_the_row : (codes : List ℕ) (i pred n : ℕ) (row : Row) → IsStrictlyIncreasing codes → i < length rows → row ≡ get_or rows i row
-      → from + row.first ≤ get_or codes pred 0 → pred + n ≤ start_of (from + row.past) codes
-      → (k : ℕ) → k < n → is_in_rows from rows (get_or codes (pred + k) 0) ≡ true
-  in_the_row codes i pred n row rising lt at begun few k less =
-      let there = start_within (from + row.past) codes in
-      let low : nat_le (from + row.first) (get_or codes (pred + k) 0) ≡ true = le-leb _ _ (omega (arith, begun, no_less codes pred (pred + k) rising (omega arith) (omega arith))) in
-      let up : nat_lt (get_or codes (pred + k) 0) (from + row.past) ≡ true = lt-ltb _ _ (start_before_in (from + row.past) (pred + k) codes (omega arith)) in
-      in_some_row from (get_or codes (pred + k) 0) i rows row lt
-      (subst (λ (r : Row). is_in_row from r (get_or codes (pred + k) 0) ≡ true) at (λ j. low j && up j))
+      let within : k < length rows = omega (arith, start_within (code - from + 1) (pasts rows), long rows) in
+      omega (arith, past_some rows high k apart within, start_before_in (code - from + 1) k (pasts rows) lt)

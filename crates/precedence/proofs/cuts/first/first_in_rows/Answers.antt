@@ -1,10 +1,10 @@
 use Rattle.std.proofs.Common.{◌≡◌, ◌<◌, ◌≤◌, ◌^◌, length, get_or, sym, ap, ◌∙◌, arith, ⊎_elim}
 use Rattle.std.proofs.lemmas.Bool.{cases_lt}
-use Rattle.std.proofs.lemmas.List.{get_or-map, length-map}
 use Rattle.precedence.specs.inner.Rows.{pasts}
 use Rattle.precedence.specs.declared.cones.cone_rows.Row.{Row}
-use Rattle.precedence.proofs.enough.Firsts.{in_this_row, none_before, none_behind, past_later}
+use Rattle.precedence.proofs.enough.Firsts.{none_before, none_behind, past_later}
 use Rattle.precedence.proofs.runs.Beside.{in_no_rows}
+use Rattle.precedence.proofs.runs.RowOfCode.{in_this_row, long, past_is}
 use Rattle.precedence.proofs.runs.RunsOfRows.{pasts_rise}
 use Rattle.precedence.proofs.runs.Starts.{no_less}
 use Rattle.precedence.proofs.cuts.first.first_in_rows.Goals as goal
@@ -21,7 +21,7 @@ pub loop-i-init : goal.loop-i-init
 loop-i-init c =
     let rows = c.args.left.now.rows.now in
     record {
-      within = omega (arith, c.row_reached-i.ensures.within, ap length c.args.left.now.all_past, length-map rows (λ (row : Row). row.past));
+      within = omega (arith, c.row_reached-i.ensures.within, ap length c.args.left.now.all_past, long rows);
       low = omega arith;
       few = omega (arith, c.requires.reached);
       past = rw (c.args.left.now.all_past, c.as_slice-codes.ensures.value) at c.row_reached-i.ensures.past;
@@ -45,7 +45,7 @@ loop-i-preserved c =
     let empty = rw c.as_slice-codes.ensures.value at c.is_below.ensures.none c.if-is_below.false in
     let few : id ≤ length codes = rw c.as_slice-codes.ensures.value at c.first_from-id.ensures.within inv.few in
     record {
-      within = omega (arith, c.next_row-i.ensures.within, ap length c.args.left.now.all_past, length-map rows (λ (row : Row). row.past));
+      within = omega (arith, c.next_row-i.ensures.within, ap length c.args.left.now.all_past, long rows);
       low = omega (arith, inv.low, c.first_from-id.ensures.later, behind.ensures.later);
       few = behind.ensures.within;
       past = λ k lt within.
@@ -58,7 +58,7 @@ loop-i-preserved c =
           (λ no_later.
           let same : i ≡ k = omega (arith, from_i, no_later) in
           let past_is : get_or (pasts rows) k 0 ≡ row.past =
-          ap (λ n. get_or (pasts rows) n 0) (sym same) ∙ get_or-map (λ (row : Row). row.past) rows i row 0 (omega (arith, c.loop-i-test.true)) ∙ ap (λ (r : Row). r.past) (sym c.index-rows-i.is) in
+          ap (λ n. get_or (pasts rows) n 0) (sym same) ∙ past_is rows i row (omega (arith, c.loop-i-test.true)) ∙ ap (λ (r : Row). r.past) (sym c.index-rows-i.is) in
           omega (arith, past_is, here, empty (omega (arith, within, behind.ensures.later))))
           (cases_lt i k))
           (cases_lt k i);

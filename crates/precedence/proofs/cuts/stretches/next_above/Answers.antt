@@ -2,8 +2,8 @@ use Rattle.std.proofs.Common.{◌+◌, ◌-◌, ◌<◌, length, ap, ◌∙◌, 
 use Rattle.std.proofs.lemmas.Bool.{cases_lt}
 use Rattle.precedence.specs.inner.Rows.{start_of}
 use Rattle.precedence.specs.declared.cones.cone_rows.Row.{Row}
-use Rattle.precedence.proofs.enough.Firsts.{in_this_row}
-use Rattle.precedence.proofs.enough.Stretches.{none_above, row_is, some_codes, up_to}
+use Rattle.precedence.proofs.enough.Stretches.{none_above, some_codes, up_to}
+use Rattle.precedence.proofs.runs.RowOfCode.{in_this_row, row_is}
 use Rattle.precedence.proofs.runs.RunsOfRows.{pasts_rise}
 use Rattle.precedence.proofs.cuts.stretches.next_above.Goals as goal
 

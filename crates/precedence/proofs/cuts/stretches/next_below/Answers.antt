@@ -1,7 +1,7 @@
 use Rattle.std.proofs.Common.{◌+◌, ◌-◌, ◌<◌, length, ap, arith}
 use Rattle.precedence.specs.declared.cones.cone_rows.Row.{Row}
-use Rattle.precedence.proofs.enough.Firsts.{in_this_row}
 use Rattle.precedence.proofs.enough.Stretches.{all_past, down_from, last_codes, last_past, none_below, number_is}
+use Rattle.precedence.proofs.runs.RowOfCode.{in_this_row}
 use Rattle.precedence.proofs.runs.RunsOfRows.{pasts_rise}
 use Rattle.precedence.proofs.cuts.stretches.next_below.Goals as goal
 

@@ -1,7 +1,7 @@
 use Rattle.std.proofs.Common.{◌≤◌, length, get_or, ap, arith, append_assoc, append-nil}
-use Rattle.std.proofs.lemmas.List.{drop_all, length-map}
-use Rattle.precedence.specs.declared.cones.cone_rows.Row.{Row}
+use Rattle.std.proofs.lemmas.List.{drop_all}
 use Rattle.precedence.proofs.runs.Beside.{in_no_rows}
+use Rattle.precedence.proofs.runs.RowOfCode.{long}
 use Rattle.precedence.proofs.runs.RunsOfRows.{adds_run, no_rows, pasts_rise}
 use Rattle.precedence.proofs.lists.row_runs.add_runs_in_rows.Goals as goal
 
@@ -13,7 +13,7 @@ pub loop-i-preserved : goal.loop-i-preserved
 loop-i-preserved g c =
     let rows = c.args.rows.now in
     let inside : c.next_row-i.result ≤ length rows =
-    omega (arith, c.next_row-i.ensures.within, ap length c.requires.past, length-map rows (λ (row : Row). row.past)) in
+    omega (arith, c.next_row-i.ensures.within, ap length c.requires.past, long rows) in
     let codes = c.args.places.now.codes.items in
     let widths = c.args.widths.now in
     let behind = c.id_behind-behind in

@@ -1,23 +1,18 @@
-use Rattle.std.proofs.Common.{◌≡◌, ◌<◌, length, get_or, sym, ap, arith, ⊎_elim}
+use Rattle.std.proofs.Common.{◌≡◌, ◌<◌, length, sym, ap, arith, ⊎_elim}
 use Rattle.std.proofs.lemmas.Bool.{cases_lt}
 use Rattle.std.proofs.lemmas.List.{get_or_default}
 use Rattle.precedence.specs.inner.Alike.{Follows}
 use Rattle.precedence.specs.inner.ZoneTables.{rows_of_table, zone_rows}
 use Rattle.precedence.proofs.AllLists.{found_length}
-use Rattle.precedence.proofs.MovedLists.{in_codes, is_moved}
+use Rattle.precedence.proofs.MovedLists.{is_moved}
+use Rattle.precedence.proofs.enough.Between.{in_codes}
 use Rattle.precedence.proofs.runs.Alike.{codes_along}
 use Rattle.precedence.proofs.lists.found_preds.FoundPredsEnoughPreds.moved.Goals as goal
 
 pub returns-then-self-clause-small : goal.returns-then-self-clause-small
 returns-then-self-clause-small c = λ id listed.
-    let f = c.self.inside in
-    let block = c.args.block in
-    let zone = get_or f.zones.items block 0 in
-    let from = get_or f.places.codes.items block 0 in
-    let lt : block < length f.zones.items = omega (arith, c.requires.block, found_length f c.self.invariant, ap length c.self.view_is) in
-    let there = in_codes f c.self.invariant c.args.self.now c.self.view_is block zone from 0 c.requires.block
-    (get_or_default f.zones.items block 0 zone lt) (get_or_default f.places.codes.items block 0 from (omega (arith, lt, c.self.invariant.each))) id listed in
-    omega (arith, there, f.places.few)
+    let there = in_codes c.self.inside c.self.invariant c.args.self.now c.self.view_is c.args.block c.requires.block id listed in
+    omega (arith, there, c.self.inside.places.few)
 
 pub moved_in_rows-moved-requires-clause-alike : goal.moved_in_rows-moved-requires-clause-alike
 moved_in_rows-moved-requires-clause-alike c =
@@ -60,8 +55,5 @@ returns-clause-within c =
 
 pub returns-clause-small : goal.returns-clause-small
 returns-clause-small c = λ id listed.
-    let f = c.self.inside in
-    let block = c.args.block in
-    let there = in_codes f c.self.invariant c.args.self.now c.self.view_is block c.index.result.now c.index-2.result.now 0 c.requires.block
-    c.index.ensures c.index-2.ensures id listed in
-    omega (arith, there, f.places.few, c.moved_in_rows-moved.ensures.most, c.saturating_sub.ensures, c.from.ensures)
+    let there = in_codes c.self.inside c.self.invariant c.args.self.now c.self.view_is c.args.block c.requires.block id listed in
+    omega (arith, there, c.self.inside.places.few, c.moved_in_rows-moved.ensures.most, c.saturating_sub.ensures, c.from.ensures)
