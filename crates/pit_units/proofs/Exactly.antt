@@ -1,8 +1,8 @@
 -- Steps answer exactly what each of them does: one term for each line, in both directions.
-use Rattle.std.specs.Prelude.{◌≡◌, ◌≢◌, ℕ, ◌==◌, not, Bool, true, false, List, [], ◌∷◌, Option, Some, None, is_some, Result, Ok, Err, if◌then◌else◌}
+use Rattle.std.specs.Prelude.{◌≡◌, ℕ, ◌==◌, not, Bool, true, false, List, [], ◌∷◌, Result, Ok, Err, if◌then◌else◌}
 use Rattle.std.specs.List.{AllZip}
 use Rattle.std.proofs.Common.{refl, sym, ◌∙◌, ap, subst, eqb-true}
-use Rattle.std.proofs.lemmas.Bool.{eq-eqb, eqb-false, ne_eqb}
+use Rattle.std.proofs.lemmas.Bool.{eq-eqb, not-false}
 use Rattle.pit_units.specs.Steps.{◌>>=◌, each_of}
 
 -- an answer is one of these, and each of these is the answer
@@ -15,9 +15,6 @@ same x y e = cc
 
 pub done : {A F : Type 0} (x : A) → Exactly {A = A} {F = F} (Ok x) (λ y. y ≡ x)
 done x = record { told = λ y e. sym (same x y e); back = λ y e. ap Ok (sym e) }
-
-pub never : {A F : Type 0} (fault : F) → Exactly {A = A} {F = F} (Err fault) (λ y. ⊥)
-never fault = record { told = λ y e. absurd cc; back = λ y h. absurd h }
 
 -- one step, and what is behind it
 pub then_ : {A B F : Type 0} {r : Result A F} {next : A → Result B F} {P : A → Type 0} {Q : A → B → Type 0} → Exactly r P
@@ -52,27 +49,10 @@ holds {A} {F} {r} {P} {t} fault all = record { told = λ y e. told t refl y e; b
     told true is y e = (is, all.told y e)
     told false is y e = absurd cc
 
--- as many cells; and no more of something than there is room for
+-- as many cells
 pub counted : {A F : Type 0} {r : Result A F} {P : A → Type 0} (fault : F) (n m : ℕ) → Exactly r P
     → Exactly (if not (n == m) then Err fault else r) (λ y. (n ≡ m) × P y)
-counted fault n m all = tested fault (λ e. eqb-true n m (not_false (n == m) e)) (λ e. rw (eq-eqb n m e) refl) all
-  where
-    not_false : (t : Bool) → not t ≡ false → t ≡ true
-    not_false true e = refl
-    not_false false e = absurd cc
-
-pub differs : {A F : Type 0} {r : Result A F} {P : A → Type 0} (fault : F) (n m : ℕ) → Exactly r P
-    → Exactly (if n == m then Err fault else r) (λ y. (n ≢ m) × P y)
-differs fault n m all = tested fault (λ e. eqb-false n m e) (λ e. ne_eqb n m e) all
-
--- what stands once stands not yet
-pub new : {A S F : Type 0} {r : Result A F} {P : A → Type 0} (fault : F) (o : Option S) → Exactly r P
-    → Exactly (if is_some o then Err fault else r) (λ y. (o ≡ None) × P y)
-new {A} {S} fault o all = tested fault (none o) (λ e. ap is_some e) all
-  where
-    none : (o : Option S) → is_some o ≡ false → o ≡ None
-    none None e = refl
-    none (Some x) e = absurd cc
+counted fault n m all = tested fault (λ e. eqb-true n m (not-false (n == m) e)) (λ e. rw (eq-eqb n m e) refl) all
 
 -- what is made of an answer
 pub made : {A B F : Type 0} {r : Result A F} {P : A → Type 0} {Q : B → Type 0} (f : A → B) → Exactly r P → ((x : A) → P x → Q (f x))

@@ -38,3 +38,7 @@ pub record IsCalled (is_begun : Bool) (held : List ℕ) (failed : ℕ) (old new 
   pub failing : new.failing ≡ old.failing
   pub calls : new.calls ≡ min (old.calls + 1) old.failing
   pub failures : new.failures ≡ failed
+
+-- the call failed: the sink is as it was, with one failure more
+abbrev pub HasFailed : (old new : MemSinkView) → Type 0
+HasFailed old new = IsCalled old.begun old.bytes (old.failures + 1) old new

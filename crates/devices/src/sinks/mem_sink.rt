@@ -1,7 +1,7 @@
 //! A sink of bytes in memory.
 
 ghost use Rattle.std.specs.Prelude.{◌≡◌, ◌+◌, ◌<◌, ◌≤◌, ◌↔◌, ◌⊎◌, [], ◌++◌, take, length, min, Some, true, IsTrue, IsErr, IfOk, OnOk, OnErr};
-ghost use Rattle.devices.specs.sinks.MemSinkView.{IsFresh, IsCalled, FailsNext};
+ghost use Rattle.devices.specs.sinks.MemSinkView.{IsFresh, IsCalled, FailsNext, HasFailed};
 
 use crate::count::{Count, raised};
 use crate::sinks::sink::{Sink, SinkFault};
@@ -132,8 +132,7 @@ impl Sink for MemSink {
     fn begin(&mut self) -> Result<(), SinkFault>
         ensures fails { IsErr result ↔ FailsNext self.old }
         ensures begins { OnOk result (IsCalled true [] self.old.failures self.old self.new) }
-        ensures refused { OnErr result
-            (IsCalled self.old.begun self.old.bytes (self.old.failures + 1) self.old self.new) }
+        ensures refused { OnErr result (HasFailed self.old self.new) }
     {
         if self.fails() {
             return Err(self.refuse());
@@ -163,8 +162,7 @@ impl Sink for MemSink {
             self.old self.new) }
 
         // On failure no byte is taken, and one refusal more is counted.
-        ensures refused { OnErr result
-            (IsCalled self.old.begun self.old.bytes (self.old.failures + 1) self.old self.new) }
+        ensures refused { OnErr result (HasFailed self.old self.new) }
     {
         if self.fails() {
             return Err(self.refuse());
