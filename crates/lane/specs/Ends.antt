@@ -1,5 +1,6 @@
 -- What contracts see of the ends of a lane.
-use Rattle.std.specs.Prelude.{◌≡◌, ℕ, zero, suc, ◌+◌, List, [], ◌∷◌}
+use Rattle.std.specs.Prelude.{◌≡◌, ℕ, zero, suc, ◌+◌, List, [], ◌∷◌, length, vec_len}
+use Rattle.std.specs.Global.{Vec}
 use Rattle.atomic_table.specs.declared.badge.Badge.{Badge}
 use Rattle.atomic_table.specs.Seated.{TableId}
 use Rattle.crossbeam_channel.specs.declared.flavors.array.Key.{Key}
@@ -63,3 +64,20 @@ first_puts lane k n = ends_from (λ file. record { lane = lane; file = file; sen
 -- n take ends of the lane that took nothing yet, of the takers from number k on
 abbrev pub first_takes : Lane → ℕ → ℕ → List TakeEndView
 first_takes lane k n = ends_from (λ taker. record { lane = lane; taker = taker; took = [] }) k n
+
+-- a lane that was opened for so many files and valuers, and for so many messages: its closer, its put ends and its take ends
+pub record IsOpened (all_files valuers room : ℕ) (closer : CloserView) (put_ends : Vec PutEndView) (take_ends : Vec TakeEndView) : Type 0 where
+  -- the closer knows the lane's size
+  pub files : closer.files ≡ all_files
+  pub takers : closer.takers ≡ valuers
+  pub capacity : closer.lane.2 ≡ room
+  -- the put ends, one a file, in order
+  pub puts : ArePutsFrom closer.lane all_files 0 put_ends.items
+  pub first_puts : put_ends.items ≡ first_puts closer.lane 0 all_files
+  pub put_count : length put_ends.items ≡ all_files
+  pub put_len : vec_len put_ends ≡ all_files
+  -- the take ends, one a valuer, in order
+  pub takes : AreTakesFrom closer.lane valuers 0 take_ends.items
+  pub first_takes : take_ends.items ≡ first_takes closer.lane 0 valuers
+  pub take_count : length take_ends.items ≡ valuers
+  pub take_len : vec_len take_ends ≡ valuers

@@ -8,8 +8,8 @@ use crate::seated::SeatedSender;
 use std::marker::Model;
 use std::snapshot::Snapshot;
 
-/// That each valuer of a lane is sent the mark that ends it, as many as a lane that was given up sent Quits. Nothing else makes one, so a
-/// valuer that is joined behind it has its mark. Contracts see the lane.
+/// That a lane was stopped, and so each of its valuers is sent the mark that ends it; or that it was given up, and so as many are as it sent
+/// Quits. Nothing else makes one. Contracts see the lane.
 #[derive(Drop)]
 pub struct LaneEnded {
     seat: Snapshot<SeatedSender>,

@@ -1,9 +1,9 @@
 //! How a lane is opened: the first pass counts its files, takers and places, then has all parts, and gives each end its own.
 
-ghost use Rattle.std.specs.Prelude.{◌≡◌, ◌≤◌, [], ◌∷◌, IfOk, OnOk, length, vec_len};
+ghost use Rattle.std.specs.Prelude.{◌≡◌, ◌≤◌, [], ◌∷◌, IfOk, OnOk};
 ghost use Rattle.crossbeam_channel.specs.Ends.{receives_on};
 ghost use Rattle.lane.specs.declared.part.Part.TheVariants.{Count};
-ghost use Rattle.lane.specs.Ends.{ArePutsFrom, AreTakesFrom, first_puts, first_takes};
+ghost use Rattle.lane.specs.Ends.{IsOpened, first_puts, first_takes};
 ghost use Rattle.lane.specs.EndFields.{room_of};
 ghost use Rattle.lane.specs.inner.Kept.{IsChannelOf, takes_left};
 ghost use Rattle.lane.specs.Rule.{all_parts};
@@ -30,23 +30,7 @@ pub fn open(
     requires files { (1 ≤ files) × (files ≤ MAX_ZONES) }
     requires valuers { (1 ≤ valuers) × (valuers ≤ MAX_VALUERS) }
     requires capacity { (1 ≤ capacity) × (capacity ≤ MAX_CAPACITY) }
-
-    // The closer knows the lane's size.
-    ensures files { IfOk result (λ ends. ends.0.files ≡ files) }
-    ensures takers { IfOk result (λ ends. ends.0.takers ≡ valuers) }
-    ensures capacity { IfOk result (λ ends. ends.0.lane.2 ≡ capacity) }
-
-    // The put ends, one a file, in order.
-    ensures puts { IfOk result (λ ends. ArePutsFrom ends.0.lane files 0 ends.1.items) }
-    ensures first_puts { IfOk result (λ ends. ends.1.items ≡ first_puts ends.0.lane 0 files) }
-    ensures put_count { IfOk result (λ ends. length ends.1.items ≡ files) }
-    ensures put_len { IfOk result (λ ends. vec_len ends.1 ≡ files) }
-
-    // The take ends, one a valuer, in order.
-    ensures takes { IfOk result (λ ends. AreTakesFrom ends.0.lane valuers 0 ends.2.items) }
-    ensures first_takes { IfOk result (λ ends. ends.2.items ≡ first_takes ends.0.lane 0 valuers) }
-    ensures take_count { IfOk result (λ ends. length ends.2.items ≡ valuers) }
-    ensures take_len { IfOk result (λ ends. vec_len ends.2 ≡ valuers) }
+    ensures opened { IfOk result (λ ends. IsOpened files valuers capacity ends.0 ends.1 ends.2) }
 {
     let (sender, receiver, pass) = bounded_with::<Taken, Parts, Rule, Global>(alloc, capacity)?;
     let mut seat = SeatedSender::new(sender, pass);
