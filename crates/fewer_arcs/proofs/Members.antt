@@ -7,7 +7,7 @@ use Rattle.std.proofs.lemmas.List.Filters.{FiltersInPlace}
 use Rattle.std.proofs.lemmas.List.Folds.{list_any_at}
 use Rattle.precedence.specs.IdRuns.{is_in}
 use Rattle.precedence.specs.Behind.{is_behind}
-use Rattle.precedence.proofs.Members.{contains_true, same_rising, true_contains}
+use Rattle.precedence.proofs.Members.{contains_true, same_rising, tail_in, true_contains}
 use Rattle.fewer_arcs.specs.Left.{IsBehind}
 
 pub in_none : (c : ℕ) → Contains {X = ℕ} [] c → ⊥
@@ -15,9 +15,6 @@ in_none c has = let lt = has.1 in omega arith
 
 pub head_in : (x : ℕ) (xs : List ℕ) → Contains (x ∷ xs) x
 head_in x xs = (0, omega arith, refl)
-
-pub tail_in : (x : ℕ) (xs : List ℕ) (c : ℕ) → Contains xs c → Contains (x ∷ xs) c
-tail_in x xs c has = (suc has.0, (let lt = has.1 in omega arith), has.2)
 
 pub cons_cases : (x : ℕ) (xs : List ℕ) (c : ℕ) → Contains (x ∷ xs) c → (x ≡ c) ⊎ Contains xs c
 cons_cases x xs c has = at has.0 has.1 has.2

@@ -5,10 +5,10 @@ use Rattle.std.proofs.lemmas.List.{length-map}
 use Rattle.precedence.specs.Behind.{is_behind}
 use Rattle.precedence.specs.IdRuns.{is_in}
 use Rattle.precedence.specs.Moved.{IsMoved}
-use Rattle.precedence.proofs.Members.{contains_true, true_contains}
+use Rattle.precedence.proofs.Members.{contains_true, tail_in, true_contains}
 use Rattle.fewer_arcs.specs.Fewer.{left_of}
 use Rattle.fewer_arcs.specs.inner.Kept.{IsLeftBehind}
-use Rattle.fewer_arcs.proofs.Members.{head_in, tail_in}
+use Rattle.fewer_arcs.proofs.Members.{head_in}
 use Rattle.fewer_arcs.proofs.SomeLeft.{left_among}
 
 any_moved : (p q : ℕ → Bool) (t : ℕ) (xs : List ℕ) → ((x : ℕ) → Contains xs x → p (x + t) ≡ q x)
@@ -58,14 +58,6 @@ left_behind lists block more moved small countable = record {
   small = λ c some has. small c (contains_true (get_or lists block []) c
       (left_among lists (get_or lists block []) c (true_contains (left_of lists (get_or lists block [])) c has)));
   countable = λ t some le. let long = same_length lists block t (moved t some le) in omega (arith, long, countable);
-}
-
--- of no block
-pub none_behind : (lists : List (List ℕ)) (ids : List ℕ) (block : ℕ) → IsLeftBehind lists ids block 0
-none_behind lists ids block = record {
-  left = λ t some le. absurd (omega (arith, some, le));
-  small = λ c some has. absurd (omega (arith, some));
-  countable = λ t some le. absurd (omega (arith, some, le));
 }
 
 -- moved along by nothing

@@ -8,7 +8,7 @@ use Rattle.precedence.specs.Closed.{HasArc}
 use Rattle.precedence.specs.IdRuns.{is_in}
 use Rattle.precedence.proofs.enough.Walks.{first_below, first_in, in_right, or_cases, tail_rises}
 
-tail_in : (x : ℕ) (xs : List ℕ) (c : ℕ) → Contains xs c → Contains (x ∷ xs) c
+pub tail_in : (x : ℕ) (xs : List ℕ) (c : ℕ) → Contains xs c → Contains (x ∷ xs) c
 tail_in x xs c has = (suc has.0, (let lt = has.1 in omega arith), has.2)
 
 pub contains_true : (xs : List ℕ) (c : ℕ) → Contains xs c → is_in xs c ≡ true
