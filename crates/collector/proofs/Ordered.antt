@@ -1,10 +1,10 @@
 -- The rows where they were put, file after file, are those of a complete list of items.
 use Rattle.std.proofs.Common.{◌≡◌, ℕ, suc, zero, ◌-◌, ◌<◌, ◌≤◌, Bool, true, ◌&&◌, eqb, is_some, List, [], ◌∷◌, ◌++◌, length, map, replicate, take, Option, Some, None, refl, sym, ap, subst, ◌∙◌, ⊎_elim, arith}
-use Rattle.std.specs.List.{All, Contains, count_by, cons_option, filter_map, flat_map, slice_get}
+use Rattle.std.specs.List.{All, Contains, count_by, filter_map, flat_map, slice_get}
 use Rattle.std.specs.Option.{option_and_then}
-use Rattle.std.proofs.lemmas.Bool.{cases_Bool, cases_lt, cond-true, cond-false, eq-eqb, false≢true}
+use Rattle.std.proofs.lemmas.Bool.{cases_Bool, cases_lt, cond-true, cond-false, eq-eqb}
 use Rattle.std.proofs.lemmas.List.{length-map, length-replicate, take-append-le, take_all}
-use Rattle.std.proofs.lemmas.List.Elements.{Contains-append_left, Contains-append_right, filter_map-append, All-append, All-contains, All-nil, All-tail, recursion_from_All}
+use Rattle.std.proofs.lemmas.List.Elements.{Contains-append_left, Contains-append_right, filter_map-append, All-append, All-contains, All-nil, recursion_from_All}
 use Rattle.std.proofs.lemmas.Option.{get_or_from_slice_get, none-some, same_Some, slice_get_past, slice_get_within}
 use Rattle.collector.specs.Complete.{Fits, IsComplete}
 use Rattle.collector.specs.Found.{is_row_at, row_at, end_at}
@@ -17,28 +17,7 @@ use Rattle.rows.specs.declared.item.Item.{Item}
 use Rattle.rows.specs.declared.item.Item.TheVariants.{Row, End}
 use Rattle.rows.specs.declared.item.Valued.{Valued}
 use Rattle.rows.specs.SpotView.{SpotView}
-
--- what is found for each element of a list, where something is found for each
-abbrev IsFound : {A B : Type 0} → (A → Option B) → A → Type 0
-IsFound f x = is_some (f x) ≡ true
-
-more-found : {B : Type 0} (found : Option B) (rest : List B) → is_some found ≡ true →
-    (length (cons_option found rest) ≡ suc (length rest)) × (slice_get (cons_option found rest) zero ≡ found)
-    × ((i : ℕ) → slice_get (cons_option found rest) (suc i) ≡ slice_get rest i)
-more-found None rest is = absurd (false≢true is)
-more-found (Some y) rest is = (refl, refl, λ i. refl)
-
-length-found : {A B : Type 0} (f : A → Option B) (xs : List A) → All (IsFound f) xs → length (filter_map f xs) ≡ length xs
-length-found f [] all = refl
-length-found f (x ∷ xs) all =
-    (more-found (f x) (filter_map f xs) (all 0 x (omega arith))).0 ∙ ap suc (length-found f xs (All-tail (IsFound f) x xs all))
-
-found-at : {A B : Type 0} (f : A → Option B) (xs : List A) (i : ℕ) → All (IsFound f) xs
-    → slice_get (filter_map f xs) i ≡ option_and_then f (slice_get xs i)
-found-at f [] i all = refl
-found-at f (x ∷ xs) zero all = (more-found (f x) (filter_map f xs) (all 0 x (omega arith))).1
-found-at f (x ∷ xs) (suc i) all =
-    (more-found (f x) (filter_map f xs) (all 0 x (omega arith))).2 i ∙ found-at f xs i (All-tail (IsFound f) x xs all)
+use Rattle.rows.proofs.Found.{all_found, found_at}
 
 found-joined : {A B : Type 0} (f : A → Option B) (lists : List (List A)) →
     filter_map f (flat_map (λ l. l) lists) ≡ flat_map (λ l. l) (map (filter_map f) lists)
@@ -176,7 +155,7 @@ module _ (files : ℕ) (lists : List (List Item)) (places : List (List SpotView)
   place-of : (file place : ℕ) → file < files →
       slice_get (filter_map (row_on lists) (spots_in places file)) place ≡ row_at file place items
   place-of file place within =
-      found-at (row_on lists) (spots_in places file) place (rows-there file within)
+      found_at (row_on lists) (spots_in places file) place (rows-there file within)
       ∙ ⊎_elim (λ below. let at = at-place file place within below in ap (option_and_then (row_on lists)) at.1 ∙ at.2)
       (λ past. ap (option_and_then (row_on lists))
       (slice_get_past (spots_in places file) place (let same = as-many file within in omega arith))
@@ -195,7 +174,7 @@ module _ (files : ℕ) (lists : List (List Item)) (places : List (List SpotView)
           let at = list-at (filter_map (row_on lists)) places file of_file got in
           let within : file < files = omega (arith, at.0, many) in
           ends-with file within ∙ ap Some (sym (as-many file within)
-          ∙ sym (length-found (row_on lists) (spots_in places file) (rows-there file within)) ∙ ap length at.1);
+          ∙ sym (all_found (row_on lists) (spots_in places file) (rows-there file within)) ∙ ap length at.1);
       rows = λ file place of_file got.
           let at = list-at (filter_map (row_on lists)) places file of_file got in
           let within : file < files = omega (arith, at.0, many) in
