@@ -1,6 +1,6 @@
 //! The threads of a run within a scope, from the first start to the last join.
 
-ghost use Rattle.std.specs.Prelude.{◌≡◌, vec_len, IfErr, IfOk};
+ghost use Rattle.std.specs.Prelude.{◌≡◌, ◌+◌, vec_len, IfErr, IfOk};
 ghost use Rattle.run_threads.specs.Starts.{none_spent};
 ghost use Rattle.run_threads.specs.inner.Started.{StartsInScope};
 ghost use Rattle.run_threads.specs.HandingOver.{IsHandedOver};
@@ -46,8 +46,11 @@ pub fn hand_over_in<'s, E, T: Threads, R: Wait + Sync, F: Feed + Send + Drop + '
     ensures spends { StartsInScope ready.entry.lane.closer.takers (vec_len ready.entry.feeds)
         starter.entry result.starts result.handed }
 
-    // Where one was refused, the valuers are ended by a Quit each.
-    ensures quits { IfErr result.handed (λ gave_up. gave_up.quits.quits ≡ gave_up.valuers) }
+    // Where one was refused, each valuer that was started is sent a Quit into the run's lane, and is joined behind these.
+    ensures quits { IfErr result.handed
+        (λ gave_up. (gave_up.quits.lane ≡ ready.entry.lane.closer.lane)
+        × (gave_up.quits.quits + result.starts.readers ≡ result.starts.spent)) }
+    ensures joined { IfErr result.handed (λ gave_up. gave_up.valuers ≡ gave_up.quits.quits) }
 {
     let Ready {
         shared,

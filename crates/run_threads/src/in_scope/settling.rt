@@ -76,6 +76,7 @@ pub fn give_up<'s, E, T: Threads, R: Wait, F: Feed>(
     requires takers { vec_len valuers ≤ closer.takers }
     requires running { starter.old.joined + (vec_len readers + vec_len valuers)
         ≤ starter.old.spent }
+    ensures lane { result.quits.lane ≡ closer.lane }
     ensures quits { result.quits.quits ≡ vec_len valuers }
     ensures valuers { result.valuers ≡ vec_len valuers }
     ensures counted { starter.new
