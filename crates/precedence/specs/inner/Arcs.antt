@@ -2,10 +2,18 @@
 use Rattle.std.specs.Prelude.{◌≡◌, ℕ, ◌+◌, ◌-◌, ◌==◌, ◌≤◌, Bool, List, [], ◌∷◌, length, nat_lt, slice_index, if◌then◌else◌}
 use Rattle.precedence.specs.inner.Rows.{start_of}
 use Rattle.precedence.specs.declared.cones.cone_rows.Row.{Row}
+use Rattle.precedence.specs.declared.lists.row_runs.Hint.{Hint}
 
 -- how many codes lie in a row, as seen from a code
 abbrev pub count_in : List ℕ → Row → ℕ → ℕ
 count_in codes row from = start_of (from + row.past) codes - start_of (from + row.first) codes
+
+-- found are the identifier of the first of these codes, and the one past the last
+pub record IsRunOf (codes : List ℕ) (from : ℕ) (row : Row) (found : Hint) : Type 0 where
+  pub first : found.first ≡ start_of (from + row.first) codes
+  pub past : found.past ≡ start_of (from + row.past) codes
+  pub in_order : found.first ≤ found.past
+  pub in_codes : found.past ≤ length codes
 
 -- where codes from a target on begin is one further for each of so many steps of the target, or stays
 abbrev pub GoesOn : List ℕ → (target start steps : ℕ) (moves : Bool) → Type 0

@@ -1,5 +1,5 @@
 -- Identifiers found by the codes of all blocks, and the lists of all blocks by the rows of their zones' cones.
-use Rattle.std.specs.Prelude.{◌≡◌, ℕ, ◌+◌, ◌-◌, ◌≤◌, List, length}
+use Rattle.std.specs.Prelude.{ℕ, ◌+◌, ◌-◌, List}
 use Rattle.std.specs.List.{range_with_len}
 use Rattle.std.specs.Simd.Lanes.{zip2}
 use Rattle.precedence.specs.Cone.{places_where}
@@ -7,19 +7,11 @@ use Rattle.precedence.specs.inner.Rows.{is_in_rows, start_of}
 use Rattle.precedence.specs.inner.ZoneTables.{zone_rows}
 use Rattle.precedence.specs.declared.cones.cone_rows.Row.{Row}
 use Rattle.precedence.specs.declared.cones.cone_table.ConeTable.{ConeTable}
-use Rattle.precedence.specs.declared.lists.row_runs.Hint.{Hint}
 
 -- the identifiers whose codes lie in the row
 abbrev pub run : ℕ → Row → List ℕ → List ℕ
 run from row codes =
     range_with_len (start_of (from + row.first) codes) (start_of (from + row.past) codes - start_of (from + row.first) codes)
-
--- of these the first identifier was found, and the one past the last
-pub record IsRunOf (codes : List ℕ) (from : ℕ) (row : Row) (found : Hint) : Type 0 where
-  pub first : found.first ≡ start_of (from + row.first) codes
-  pub past : found.past ≡ start_of (from + row.past) codes
-  pub in_order : found.first ≤ found.past
-  pub in_codes : found.past ≤ length codes
 
 -- the identifiers whose codes lie in rows
 abbrev pub lying : ℕ → List Row → List ℕ → List ℕ

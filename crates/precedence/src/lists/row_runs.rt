@@ -4,9 +4,10 @@ ghost use Rattle.std.specs.Prelude.{◌≡◌, ℕ, ◌+◌, ◌-◌, ◌<◌, �
 ghost use Rattle.std.specs.List.Sorted.{IsStrictlyIncreasing};
 ghost use Rattle.precedence.specs.Cone.{places_where};
 ghost use Rattle.precedence.specs.IdRuns.{ids_of};
+ghost use Rattle.precedence.specs.inner.Arcs.{IsRunOf};
 ghost use Rattle.precedence.specs.inner.Beside.{AreNoWider};
 ghost use Rattle.precedence.specs.inner.Rows.{is_in_rows, pasts, start_of, AreInOrder};
-ghost use Rattle.precedence.specs.inner.Lists.{run, IsRunOf};
+ghost use Rattle.precedence.specs.inner.Lists.{run};
 ghost use Rattle.precedence.specs.declared.places.code.TheConstants.{CODES};
 
 use crate::cones::cone_rows::{Row, Widths};

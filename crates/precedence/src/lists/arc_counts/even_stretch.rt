@@ -3,8 +3,7 @@
 ghost use Rattle.std.specs.Prelude.{◌≡◌, ◌+◌, ◌*◌, ◌<◌, ◌≤◌, ◌^◌, All, if◌then◌else◌, length, slice_index, sum_by, take};
 ghost use Rattle.std.specs.List.Sorted.{IsStrictlyIncreasing};
 ghost use Rattle.precedence.specs.inner.Alike.{FollowAlong};
-ghost use Rattle.precedence.specs.inner.Arcs.{count_in, GoesOn};
-ghost use Rattle.precedence.specs.inner.Lists.{IsRunOf};
+ghost use Rattle.precedence.specs.inner.Arcs.{count_in, GoesOn, IsRunOf};
 ghost use Rattle.precedence.specs.inner.Rows.{start_of};
 ghost use Rattle.precedence.specs.declared.places.code.TheConstants.{CODES};
 ghost use Rattle.plan_parts.specs.declared.ranges.TheConstants.{MAX_BLOCKS};
