@@ -119,15 +119,13 @@ def listed(folder):
 
 
 def of_commands(installed, folder):
-    """What is wrong of the six commands with which docs/planners.md begins, run from an installed wheel."""
-    begin, six = page_recipes.recipes_of(os.path.join(shared.TOP, "docs/planners.md"))[:2]
-    if len(re.findall("(?m)^pit-tools ", six.commands)) != 6:
-        yield f"{six.place} has other commands than six"
+    """What is wrong of the commands with which docs/planners.md begins, run from an installed wheel."""
+    recipes = page_recipes.recipes_of(os.path.join(shared.TOP, "docs/planners.md"))[:2]
     top, cache, apart = (os.path.join(folder, name) for name in ("top", "cache", "apart"))
     shutil.copytree(os.path.join(installed, "share/pitc"), top)
     os.mkdir(apart)
     environment = {**os.environ, "PATH": f"{installed}/bin:{os.environ['PATH']}", "XDG_CACHE_HOME": cache}
-    for recipe, told in zip((begin, six), page_recipes.told_by((begin, six), top, apart, environment)):
+    for recipe, told in zip(recipes, page_recipes.told_by(recipes, top, apart, environment)):
         yield from (f"{recipe.place}: {what}" for what in page_recipes.differences(recipe, *told))
     if os.path.exists(os.path.join(cache, "pit-tools")):
         yield "it compiles the program of C++ that it brings"
