@@ -17,7 +17,7 @@ import csv
 import io
 import os
 from dataclasses import dataclass, field
-from itertools import chain
+from itertools import chain, takewhile
 from typing import (Any, BinaryIO, Callable, Iterable, Iterator, Optional, Sequence, Type, TypeVar,
                     Union)
 
@@ -302,6 +302,18 @@ def read_blocks(path: str) -> Blocks:
             raise BadInstance(f"{path}: {name} is not from 0 to {most:,} in each line")
     x, y, z, tonnes, grade, zone = columns
     return Blocks(x, y, z, tonnes, grade, zone)
+
+
+def remarks_of(path: str) -> list[str]:
+    """The comments with which a file of an instance begins, without their marks: at most 9, of at
+    most 200 bytes each.
+
+    Raises BadInstance if the file cannot be opened.
+    """
+    with _opened(path) as file:
+        lines = [file.readline(200) for _ in range(9)]
+    front = takewhile(lambda line: line.startswith(b"%"), lines)
+    return [line[1:].decode("utf-8", "replace").strip() for line in front]
 
 
 #: What the fields of a block are, and the greatest number of each.
@@ -674,16 +686,16 @@ def read_instance(base: str, texts: Sequence[str] = TEXTS,
 # Writing
 
 
-def write_blocks(blocks: Blocks, path: str) -> None:
-    """A block file."""
+def write_blocks(blocks: Blocks, path: str, remark: str = "") -> None:
+    """A block file, which begins with the remark if there is one."""
     columns = [(np.arange(len(blocks)), 0), (blocks.x, 0), (blocks.y, 0), (blocks.z, 0),
                (spelling.scaled(blocks.tonnes, 3), 3), (spelling.scaled(blocks.grade, 6), 6),
                (blocks.zone, 0)]
-    _write(path, "blocks", spelling.lines_of(columns))
+    _write(path, "blocks", spelling.lines_of(columns), remark)
 
 
-def write_precedence(precedence: sparse.csr_matrix, path: str) -> None:
-    """A precedence file: a line `id k p1 .. pk` for each row."""
+def write_precedence(precedence: sparse.csr_matrix, path: str, remark: str = "") -> None:
+    """A precedence file: a line `id k p1 .. pk` for each row, after the remark if there is one."""
     def pieces(rows: int = 1 << 16) -> Iterator[bytes]:
         starts = precedence.indptr
         for first in range(0, precedence.shape[0], rows):
@@ -698,17 +710,19 @@ def write_precedence(precedence: sparse.csr_matrix, path: str) -> None:
             ends = np.full(len(fields), 32, dtype=np.uint8)
             ends[heads + counts + 1] = 10
             yield from spelling.lines_of([(fields, 0)], ends)
-    _write(path, "prec", pieces())
+    _write(path, "prec", pieces(), remark)
 
 
-def write_upit(upit: UltimatePit, path: str, end: bytes = b"") -> None:
-    """A UPIT file; `end` stands behind its last line."""
+def write_upit(upit: UltimatePit, path: str, end: bytes = b"", remark: str = "") -> None:
+    """A UPIT file, which begins with the remark if there is one; `end` follows its last line."""
     head = f"NAME: {upit.name}\nTYPE: UPIT\nNBLOCKS: {len(upit.values)}\n{OBJECTIVE}:\n"
-    _write(path, "model", chain([head.encode()], _objective_lines(upit.values[:, None]), [end]))
+    _write(path, "model", chain([head.encode()], _objective_lines(upit.values[:, None]), [end]),
+           remark)
 
 
-def write_problem(problem: Problem, path: str, end: bytes = b"") -> None:
-    """A PCPSP or a CPIT file, by the problem's kind; `end` stands behind its last line."""
+def write_problem(problem: Problem, path: str, end: bytes = b"", remark: str = "") -> None:
+    """A PCPSP or a CPIT file, by the problem's kind, which begins with the remark if there is one;
+    `end` follows its last line."""
     is_pcpsp = problem.kind == "PCPSP"
     keys = {"NAME": problem.name, "TYPE": problem.kind, "NBLOCKS": len(problem.values),
             "NPERIODS": problem.periods, "NDESTINATIONS": problem.destinations,
@@ -722,7 +736,8 @@ def write_problem(problem: Problem, path: str, end: bytes = b"") -> None:
                      for limit in problem.limits)
     _write(path, "model",
            chain([head.encode()], _objective_lines(problem.values), [f"{COEFFICIENTS}:\n".encode()],
-                 _uses_lines(problem.uses, is_pcpsp), [f"{LIMITS}:\n{limits}".encode(), end]))
+                 _uses_lines(problem.uses, is_pcpsp), [f"{LIMITS}:\n{limits}".encode(), end]),
+           remark)
 
 
 def _objective_lines(values: np.ndarray) -> Iterator[bytes]:
@@ -734,28 +749,29 @@ def _uses_lines(uses: Uses, with_destination: bool) -> Iterator[bytes]:
     return spelling.lines_of_values(whole, [uses.amount], (3, 6))
 
 
-def _write(path: str, kind: str, pieces: Iterable[bytes]) -> None:
+def _write(path: str, kind: str, pieces: Iterable[bytes], remark: str) -> None:
     try:
         with outputs.opened(path, kind) as file:
-            for piece in pieces:
+            for piece in chain([f"% {remark}\n".encode()] if remark else [], pieces):
                 file.write(piece)
     except OSError as error:
         raise BadInstance(f"cannot write {path}: {error.strerror}") from None
 
 
-def write_instance(instance: Instance, base: str, end: bytes = b"") -> None:
-    """The parts of an instance that are there, to BASE.blocks and so on: the bytes of `pitc`. They
-    come together, or none does; `end` stands behind each model.
+def write_instance(instance: Instance, base: str, end: bytes = b"", remark: str = "") -> None:
+    """Writes the parts of an instance that are there to BASE.blocks and so on: the bytes of `pitc`.
+    They come together, or none does. Each file begins with the remark, one line, if there is one,
+    as a comment; `end` follows each model.
 
     Raises UserError where a number is infinite, NaN or too great for its decimals, and where a file
     cannot be written.
     """
     with outputs.together():
         if instance.blocks is not None:
-            write_blocks(instance.blocks, base + ".blocks")
+            write_blocks(instance.blocks, base + ".blocks", remark)
         if instance.precedence is not None:
-            write_precedence(instance.precedence, base + ".prec")
+            write_precedence(instance.precedence, base + ".prec", remark)
         if instance.upit is not None:
-            write_upit(instance.upit, base + ".upit", end)
+            write_upit(instance.upit, base + ".upit", end, remark)
         for problem in filter(None, (instance.pcpsp, instance.cpit)):
-            write_problem(problem, f"{base}.{problem.kind.lower()}", end)
+            write_problem(problem, f"{base}.{problem.kind.lower()}", end, remark)

@@ -398,6 +398,8 @@ def unlike_plan(facts: Facts) -> list[str]:
 
 
 def _files(facts: Facts) -> Iterator[str]:
+    for remark in facts.remarks:
+        yield f"the block file begins with a remark: {remark}"
     for line in unlike_plan(facts):
         yield f"{line}: are files of two runs, or of another plan, beside each other?"
     if not unlike_plan(facts) and not _limits_agree(facts):

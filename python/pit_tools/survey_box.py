@@ -33,6 +33,7 @@ def box(facts: Facts, inputs: Inputs) -> list[Entry]:
     """The rows of the box that have lines."""
     note = facts.note
     entries = [Entry("pit", list(_pit(facts))),
+               Entry("remark", facts.remarks),
                Entry("made",
                      [f"{datetime.now().astimezone():%Y-%m-%d %H:%M %Z}", *version().splitlines()]),
                Entry("plan", [f"{record}: {said}" for record, said in note.said]

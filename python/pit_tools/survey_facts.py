@@ -17,7 +17,8 @@ from pit_tools.closure import is_compiled, pit_by_cones
 from pit_tools.cones import Places, reach_along, size_in_millimetres
 from pit_tools.contacts import SIDES, Contacts, contacts_of, differ
 from pit_tools.errors import UserError
-from pit_tools.instance import Blocks, Outline, count_predecessors, read_blocks, read_outline
+from pit_tools.instance import (Blocks, Outline, count_predecessors, read_blocks, read_outline,
+                                remarks_of)
 from pit_tools.plan_file import Plan, read_plan
 from pit_tools.plan_note import PlanNote, read_note
 from pit_tools.slope_words import Judgement, judge
@@ -89,13 +90,15 @@ class Facts:
     """A plan, the blocks, the numbers of predecessors, and the values of an instance.
 
     `zone_paths` are the zone files in the order of `compile`, or none. `pit` is bool (n,) where the
-    pit is known. `note` is the plan's.
+    pit is known. `note` is the plan's. `remarks` are the comments with which the block file
+    begins.
     """
 
     def __init__(self, plan: Plan, blocks: Blocks, arcs: np.ndarray, outline: Outline,
                  zone_paths: Sequence[str] = (), pit: Optional[np.ndarray] = None,
-                 note: PlanNote = PlanNote()):
+                 note: PlanNote = PlanNote(), remarks: Sequence[str] = ()):
         self.plan, self.blocks, self.arcs, self.outline = plan, blocks, arcs, outline
+        self.remarks = list(remarks)
         self.note, self.measures = note, note.measures
         self.zone_files = [ZoneFile(os.path.basename(path), count_lines(path), sum_of(path))
                            for path in zone_paths]
@@ -400,4 +403,5 @@ def read_facts(plan_path: str, base: str, zone_paths: Sequence[str] = (),
     if pit_path:
         pit = np.zeros(len(blocks), dtype=bool)
         pit[read_pit(pit_path, len(blocks))] = True
-    return Facts(plan, blocks, arcs, outline, zone_paths, pit, read_note(plan_path))
+    return Facts(plan, blocks, arcs, outline, zone_paths, pit, read_note(plan_path),
+                 remarks_of(base + ".blocks"))

@@ -1,4 +1,5 @@
 """An instance as arrays, and back to the byte."""
+import subprocess
 from decimal import Decimal
 
 import numpy as np
@@ -50,6 +51,21 @@ def test_arrays_of_the_six_blocks(tmp_path):
     assert mine.cpit.use_matrix(0).toarray().ravel().tolist() == [2700, 2700, 2700, 0, 2650, 0]
     assert mine.cpit.limits[-1] == Limit(1, 0, "I", 0, 120000)
     assert mine.pcpsp.discounts().tolist() == pytest.approx([1, 1 / 1.08, 1 / 1.08**2])
+
+
+def test_a_remark_begins_each_file_and_changes_nothing_that_is_read(pitc, tmp_path):
+    base = mines.six_blocks(tmp_path)
+    write_instance(read_instance(base), str(tmp_path / "marked"), remark="of a trial")
+    write_instance(read_instance(str(tmp_path / "marked")), str(tmp_path / "plain"))
+    for text in instance.TEXTS:
+        whole = (tmp_path / f"plain.{text}").read_bytes()
+        assert whole == open(f"{base}.{text}", "rb").read(), text
+        assert (tmp_path / f"marked.{text}").read_bytes() == b"% of a trial\n" + whole
+    assert instance.remarks_of(str(tmp_path / "marked.blocks")) == ["of a trial"]
+    assert instance.remarks_of(base + ".blocks") == []
+    counts = [subprocess.run([pitc, "check", path], capture_output=True, text=True, check=True).stdout
+              for path in (base, str(tmp_path / "marked"))]
+    assert counts[0] == counts[1] != ""
 
 
 def test_files_that_check_accepts_are_read(tmp_path):
