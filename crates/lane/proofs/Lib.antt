@@ -8,3 +8,4 @@ pub mod Rules
 pub mod Ends
 pub mod Opens
 pub mod Joining
+pub mod Progress

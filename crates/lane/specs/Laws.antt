@@ -1,6 +1,6 @@
--- Laws of the lane: every run of the machine stays lawful, what leaves of a file is a prefix of what it sent, and each kind of step of
--- the code is one event of the machine.
-use Rattle.std.specs.Prelude.{◌≡◌, ℕ, ◌<◌, cond, nat_lt, List, [], ◌∷◌, ◌++◌, length, take, slice_set, Some}
+-- Laws of the lane: every run of the machine stays lawful, what leaves of a file is a prefix of what it sent, each kind of step of
+-- the code is one event of the machine, and the threads of a run never all wait.
+use Rattle.std.specs.Prelude.{◌≡◌, ℕ, ◌+◌, ◌<◌, ◌≤◌, ◌⊎◌, cond, nat_lt, List, [], ◌∷◌, ◌++◌, length, take, slice_set, Some}
 use Rattle.std.specs.List.{AllByRecursion, count_by}
 use mathlib.Core.Option.{some}
 use lib.ListN.{get_elem?}
@@ -13,6 +13,7 @@ use Rattle.lane.specs.Machine.{Size, State, opening, Event, PutRow, PutEnd, PutS
 use Rattle.lane.specs.Lawful.{over, IsPlaced, IsLawful}
 use Rattle.lane.specs.Whole.{IsWhole}
 use Rattle.lane.specs.Rule.{Role, role_of, IsLaneAt, IsLane, all_parts}
+use Rattle.lane.specs.Threads.{Threads, AreThreads, IsNext, CanContinue, AreSteps, HaveFinished, IsUnderway, steps_left, all_steps}
 use Rattle.lane.specs.Steps.{with_message, IsFree, MaySend, MayTake, taker_in, IsFull, full_view}
 
 -- from the opening state every sequence of allowed events leaves a lawful state
@@ -93,3 +94,18 @@ LookFindsNothing =
     (n : Size) (s : State) (items : List Taken) (views : List (List Part)) (pass files takers capacity : ℕ) (sent took : List (List Taken))
     → IsLaneAt n s items views → get_elem? views pass ≡ some (full_view files takers capacity sent took) → IsFull takers files sent took
     → (items ≡ []) × IsWhole (record { capacity = capacity; sent = sent; took = took })
+
+-- in every lawful state to which its threads can bring the lane, they have all finished, or some thread can continue
+abbrev pub SomeThreadCanContinue : Type 0
+SomeThreadCanContinue = (n : Size) (t : Threads) (s : State) → AreThreads n t → IsLawful n s → IsUnderway t s → HaveFinished t s ⊎ CanContinue n t s
+
+-- each step leaves one step fewer
+abbrev pub StepsRunOut : Type 0
+StepsRunOut = (n : Size) (t : Threads) (s : State) (e : Event) → IsNext t s e → Allowed n s e → steps_left t (after s e) + 1 ≡ steps_left t s
+
+-- however the steps of the threads interleave, from the opening state there are at most `all_steps`, and after any of them some thread can
+-- continue until all have finished
+abbrev pub RunsEnd : Type 0
+RunsEnd =
+    (n : Size) (t : Threads) (events : List Event) → AreThreads n t → AreSteps n t opening events
+    → (length events ≤ all_steps t) × (HaveFinished t (after_all opening events) ⊎ CanContinue n t (after_all opening events))

@@ -8,5 +8,6 @@ pub mod MessageKinds
 pub mod MessageOrders
 pub mod Rule
 pub mod Steps
+pub mod Threads
 pub mod Whole
 pub mod inner

@@ -4,7 +4,7 @@
 ghost use Rattle.std.specs.Prelude.{List};
 ghost use Rattle.lane.specs.declared.part.Part.{Part};
 ghost use Rattle.lane.specs.Rule.{IsLane};
-ghost use Rattle.lane.specs.Laws.{RunsStayLawful, LeftIsPrefixOfSent, TakenIsPrefixOfSent, SendIsAnEvent, ReceiveIsAnEvent, MakeIsTheOpening, SplitIsNoEvent, JoinIsNoEvent, LookFindsNothing};
+ghost use Rattle.lane.specs.Laws.{RunsStayLawful, LeftIsPrefixOfSent, TakenIsPrefixOfSent, SendIsAnEvent, ReceiveIsAnEvent, MakeIsTheOpening, SplitIsNoEvent, JoinIsNoEvent, LookFindsNothing, SomeThreadCanContinue, StepsRunOut, RunsEnd};
 
 use crate::message::Taken;
 use crate::rule::{Parts, Rule};
@@ -40,4 +40,17 @@ pub fn steps_are_events()
     ensures send { SendIsAnEvent }
     ensures receive { ReceiveIsAnEvent }
     ensures look { LookFindsNothing }
+{}
+
+/// The threads of a run never all wait for one another. A reader puts its rows and then its end mark; the closer, once
+/// every reader has ended, puts a mark for each valuer; a valuer takes until it has taken a mark.
+///
+/// - `states`: in every lawful state to which they can bring the lane, all have finished, or some thread can continue.
+/// - `steps`: each step leaves one step fewer.
+/// - `runs`: so from the opening state, however their steps interleave, they make a bounded number of steps, and some
+///   thread can continue until all have finished.
+pub fn the_lane_never_gets_stuck()
+    ensures states { SomeThreadCanContinue }
+    ensures steps { StepsRunOut }
+    ensures runs { RunsEnd }
 {}
