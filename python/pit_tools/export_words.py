@@ -67,12 +67,16 @@ class Words:
     from_top: bool = False
     from_north: bool = False
     parents: str = ""
+    regularise: str = ""
     corner: str = ""
     merge: bool = False
     drop_repeats: bool = False
     x_bearing: Optional[float] = None
     y_azimuth: Optional[float] = None
+    rotation: str = ""
     about: str = ""
+    own_axes: bool = False
+    package: str = ""
     holes: bool = False
     in_feet: bool = False
     below: Sequence[str] = ()
@@ -112,7 +116,12 @@ class Words:
     @property
     def is_merged(self) -> bool:
         """Whether several rows may be one block."""
-        return self.merge or bool(self.parents)
+        return self.merge or bool(self.block_size)
+
+    @property
+    def block_size(self) -> str:
+        """The size of the blocks into which rows are summed up, or none."""
+        return self.parents or self.regularise
 
     def formulas(self) -> dict[str, str]:
         """The texts of formulas, by what they are."""
@@ -147,6 +156,14 @@ class Words:
             raise UserError("give --x-bearing or --y-azimuth, not both")
         if not all(math.isfinite(angle or 0) for angle in (self.x_bearing, self.y_azimuth)):
             raise UserError("--x-bearing, --y-azimuth: give degrees, as 62.5")
+        if self.parents and self.regularise:
+            raise UserError("give --parents or --regularise, not both")
+        if self.rotation and (self.is_turned or not self.regularise):
+            raise UserError("--rotation goes with --regularise X,Y,Z, which spreads a model that "
+                            "dips over level blocks, and without --x-bearing and --y-azimuth")
+        if self.own_axes and not (self.is_turned or self.rotation) or self.own_axes and not self.x:
+            raise UserError("--own-axes goes with --x, --y and --z and with --x-bearing, "
+                            "--y-azimuth or --rotation")
         self._judge_masses()
         self._judge_signs()
 

@@ -103,6 +103,29 @@ def turn_told(turn: Turn) -> str:
     return f"+x at bearing {(90 - turn.angle) % 360:.6g}, +y at azimuth {-turn.angle % 360:.6g}"
 
 
+def rotation_of(text: str) -> np.ndarray:
+    """The directions of a model's own axes, as columns (3, 3), after turns as `z 40, x 20`: about
+    the model's own axes in this order, in degrees, clockwise seen from the positive end of each.
+    It raises UserError for a text that names none."""
+    found = np.eye(3)
+    for turn in text.split(","):
+        axis, _, degrees = turn.strip().lower().partition(" ")
+        try:
+            angle = math.radians(float(degrees))
+        except ValueError:
+            angle = math.nan
+        if axis not in ("x", "y", "z") or not math.isfinite(angle):
+            raise UserError("--rotation: give turns about axes, as 'z 40, x 20', and not "
+                            f"`{text}`")
+        along, across = math.cos(angle), math.sin(angle)
+        first, second = [(1, 2), (2, 0), (0, 1)]["xyz".index(axis)]
+        turned = np.eye(3)
+        turned[first, first] = turned[second, second] = along
+        turned[first, second], turned[second, first] = across, -across
+        found = found @ turned
+    return found
+
+
 def axis_of(values: np.ndarray, size: Optional[int], name: str,
             first: Optional[int] = None) -> Axis:
     """The places that coordinates lie on, of this size or of one that is found.

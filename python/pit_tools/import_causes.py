@@ -51,9 +51,7 @@ def causes(values: Sequence[np.ndarray], with_cells: Callable[[int], str]) -> It
         return
     dip = dip_of(values)
     if dip is not None:
-        yield (f"Neighbours lie {dip:.2f} degrees off the vertical, so the model dips, turned "
-               "about a level axis: benches of pitc are level. Have the package regularise it to "
-               "level blocks")
+        yield dip_told(dip)
         return
     levels = len(np.unique(values[2]))
     if levels > 0.2 * len(values[2]) and levels > 100:
@@ -62,6 +60,14 @@ def causes(values: Sequence[np.ndarray], with_cells: Callable[[int], str]) -> It
                "benches: have the package cut them into such")
         return
     yield from two_grids(values, with_cells)
+
+
+def dip_told(dip: float) -> str:
+    """A cause: the model dips by so many degrees."""
+    return (f"Neighbours lie {dip:.2f} degrees off the vertical, so the model dips, turned about a "
+            "level axis, and benches of pitc are level: give --rotation, its turns, as 'z 40, "
+            "x 20', with --regularise X,Y,Z, which spreads it over level blocks; or have the "
+            "package regularise it")
 
 
 def _marks_in(values: Sequence[np.ndarray]) -> Optional[tuple[int, int]]:

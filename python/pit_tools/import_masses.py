@@ -30,6 +30,8 @@ class Masses:
         self.cut, self.with_cells, self.unit_of = cut, with_cells, unit_of
         self.grade = self.column("grade")
         self.density: Optional[np.ndarray] = None
+        # the part of each row's block that is rock, where it is given
+        self.share: Optional[np.ndarray] = None
         self.fine = reading.fine["tonnes"]
 
     def column(self, key: str) -> np.ndarray:
@@ -43,13 +45,13 @@ class Masses:
         """Tonnes in parts, -1 where missing."""
         found = self.taken("tonnes")
         if found is not None:
-            return found if self.cut is None else _shared(found, self.cut)
+            return found if self.cut is None else self.cut.shared(found)
         density = self.density = self.column("density")
         if self.words.tonnes:
-            mass = density if self.cut is None else density / self.cut.many
+            mass = density if self.cut is None else density * self.cut.share
         else:
             mass = self.by_density(density)
-        share = self.shares("share")
+        share = self.share = self.shares("share")
         mass = mass if share is None else mass * share
         known = np.isfinite(mass) & (mass > 0)
         parts = np.rint(np.where(known, mass, 0) * 10 ** self.fine).astype(np.int64)
@@ -126,16 +128,11 @@ class Masses:
         """Tonnes of each row by the column that nobody named: by the density beside tonnes, or the
         tonnes beside a density; by the volume, where that is all."""
         weight, volume = self.taken("own_weight"), self.taken("own_volume")
-        many = 1 if self.cut is None else self.cut.many
+        share = 1 if self.cut is None else self.cut.share
         if weight is None:
-            return None if volume is None or self.density is None else self.density * volume / many
+            return None if volume is None or self.density is None else self.density * volume * share
         if self.words.tonnes:
             # Densities above 100 are kilograms a cubic metre.
             return (weight * (0.001 if np.nanmedian(weight) > 100 else 1) * self.volume
                     if np.isfinite(weight).any() else None)
-        return weight / many
-
-
-def _shared(tonnes: np.ndarray, cut: Parts) -> np.ndarray:
-    """Tonnes of the parts of rows that are cut: whole numbers that differ by one at the most."""
-    return np.where(tonnes < 0, -1, tonnes // cut.many + (cut.number < tonnes % cut.many))
+        return weight * share

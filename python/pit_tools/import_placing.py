@@ -10,15 +10,17 @@ import pandas as pd
 from pit_tools.decimals import plain, shortest
 from pit_tools.errors import UserError
 from pit_tools.export_words import Measure, columns_of
-from pit_tools.gridding import (Axis, Frame, Turn, axis_of, box_told, counts_of, indices, sizes_of,
-                                thousandths, turn_of, turn_told, turned_by)
-from pit_tools.import_causes import causes, judge_ends, judge_neighbours, likelier_order
+from pit_tools.gridding import (Axis, Frame, Turn, axis_of, box_told, counts_of, indices,
+                                rotation_of, sizes_of, thousandths, turn_of, turn_told, turned_by)
+from pit_tools.import_causes import (causes, dip_of, dip_told, judge_ends, judge_neighbours,
+                                     likelier_order)
 from pit_tools.import_doubts import Doubts
 from pit_tools.import_masses import Masses
 from pit_tools.import_reading import COORDINATES, Reading
 from pit_tools.import_repeats import Repeats, is_again
 from pit_tools.import_report import Report, figure
-from pit_tools.import_sizes import Parts, Sizes, judge_sizes, parts_of, sizes_told
+from pit_tools.import_sizes import (Parts, Sizes, judge_own_grid, judge_sizes, parts_of, scattered,
+                                    sizes_of_axes, sizes_told)
 from pit_tools.imported_blocks import Imported
 from pit_tools.plan_file import Grid
 from pit_tools.source import Source
@@ -92,14 +94,16 @@ class Placing:
     def rows_of(self, axes: Sequence[Axis], places: Sequence[np.ndarray]) -> pd.DataFrame:
         """A row for each part: its place, tonnes, grade, zone and number, and its tonnes by a
         column that nobody named."""
-        parts, count = self.parts, self.count
+        parts = self.parts
         if parts is not None:
             self.record, self.file = self.record[parts.row], self.file[parts.row]
-        cut = parts if parts is not None and len(parts.row) > count else None
+        cut = parts if parts is not None and parts.is_cut else None
         if cut is not None:
-            numbers = cut.number[cut.many > 1]
-            self.report.facts.append(f"{int((numbers == 0).sum()):,} rows take several places, and "
-                                     f"are cut into {len(numbers):,} parts of equal tonnes")
+            several = np.bincount(cut.row)
+            several = several[several > 1]
+            how = "by volume" if self.words.regularise else "of equal tonnes"
+            self.report.facts.append(f"{len(several):,} rows take several places, and are cut into "
+                                     f"{int(several.sum()):,} parts {how}")
         volume = self.volumes(axes, len(self.record))
         masses = Masses(self.words, self.reading, self.report, self.taken, volume, cut,
                         self.with_cells, self.unit_of)
@@ -111,17 +115,23 @@ class Placing:
                              "row": np.arange(len(tonnes))})
         if other is not None:
             rows["other"] = other
-        if (self.words.parents and self.sizes is not None and parts is not None
-                and self.spot is not None):
-            self.judge_volumes(rows, axes, self.sizes, parts, self.spot)
+        if self.spot is None and self.words.is_merged:
+            fraction = masses.share
+            if fraction is None and (self.words.volume or self.sizes is not None):
+                fraction = volume / self.volume_of(axes)
+            if fraction is not None:
+                rows["fraction"] = np.nan_to_num(fraction)
+        if self.words.block_size and self.sizes is not None:
+            self.judge_volumes(rows, axes, self.sizes)
         return rows
 
-    def judge_volumes(self, rows: pd.DataFrame, axes: Sequence[Axis], sizes: Sizes, parts: Parts,
-                      spot: np.ndarray) -> None:
+    def judge_volumes(self, rows: pd.DataFrame, axes: Sequence[Axis], sizes: Sizes) -> None:
         """Stops where rows of a place have more volume than it, but rows that stand twice."""
         sized = sizes.volumes(self.factors)
-        sized = sized[parts.row] / parts.many if len(parts.row) > self.count else sized
-        again = is_again(rows, spot)
+        if self.parts is not None:
+            sized = sized[self.parts.row] * self.parts.share
+        again = (np.zeros(len(rows), bool) if self.spot is None
+                 else is_again(rows, self.spot))
         codes, _ = pd.factorize(key_of(rows))
         sums = np.bincount(codes, np.where(again, 0, np.nan_to_num(sized)))
         whole = (axes[0].step * axes[1].step * axes[2]
@@ -146,17 +156,26 @@ class Placing:
         if words.is_listed or words.is_indexed:
             axes, places = self.listed() if words.is_listed else self.indexed()
             self.sizes = self.sizes_of_rows()
-            if self.sizes is not None:
+            if words.parents:
+                self.judge_parts(axes)
+            elif self.sizes is not None:
                 judge_sizes(self.sizes, axes, self.with_cells)
+            if words.regularise:
+                return self.parents([axis.centroid(place) for axis, place in zip(axes, places)],
+                                    axes)
             return axes, places
         values = [self.reading.column(key) for key in COORDINATES]
         judge_ends(values, self.with_cells)
         if words.is_turned:
             values[:2] = self.turned(values)
         self.sizes = self.sizes_of_rows()
-        if words.parents:
+        if words.rotation:
+            return self.level(values)
+        if words.parents or words.regularise and self.sizes is not None:
             return self.parents(values)
         axes = self.axes_of(values)
+        if words.regularise:
+            return self.parents(values, axes)
         self.judge_blocks(axes)
         if self.sizes is not None:
             judge_sizes(self.sizes, axes, self.with_cells)
@@ -176,20 +195,37 @@ class Placing:
             axes = [axis_of(values[axis], sizes[axis], "xyz"[axis], firsts[axis])
                     for axis in range(3)]
         except UserError as error:
-            if self.sizes is not None:
-                raise UserError(f"{error}. {self.sizes.names} has sizes along x of "
-                                f"{sizes_told(self.sizes.along[0])}: --parents X,Y,Z, with the "
-                                "size that blocks are to have, sums up smaller ones and cuts "
-                                "greater ones") from None
-            why = self.turn_hint(values) or ("" if words.size else "".join(
-                f". {cause}" for cause in causes(values, self.with_cells)))
-            raise UserError(f"{error}{why}") from None
+            raise UserError(f"{error}{self.cause(values)}") from None
         if (self.reading.unclear_point and not words.decimal
                 and min(axis.step for axis in axes) < 500):
             raise UserError(f"{box_told(axes)} m: has `{self.reading.unclear_point}` a decimal "
                             "point, or one between thousands? Say which by --decimal . or "
                             "--thousands .")
         return axes
+
+    def cause(self, values: Sequence[np.ndarray]) -> str:
+        """What may be behind coordinates that lie on no grid."""
+        why = self.turn_hint(values)
+        if why:
+            return why
+        if self.sizes is not None:
+            dip = dip_of(self.of_one_size(values))
+            return (f". {dip_told(dip)}" if dip is not None else
+                    f". {self.sizes.names} has sizes along x of {sizes_told(self.sizes.along[0])}: "
+                    "--parents X,Y,Z, with the size that blocks are to have, sums up smaller ones "
+                    "and cuts greater ones")
+        return "" if self.words.size else "".join(f". {cause}"
+                                                  for cause in causes(values, self.with_cells))
+
+    def of_one_size(self, values: Sequence[np.ndarray]) -> list[np.ndarray]:
+        """The coordinates of the rows of the size that most have, since neighbours of one size lie
+        along the axes."""
+        if self.sizes is None:
+            return list(values)
+        codes = pd.factorize(pd.MultiIndex.from_arrays(
+            [np.rint(size) for size in self.sizes.along]))[0]
+        usual = codes == np.bincount(np.maximum(codes, 0)).argmax()
+        return [value[usual] for value in values]
 
     def sizes_of_rows(self) -> Optional[Sizes]:
         """The sizes that rows have of their own: by columns that are named, or that the header
@@ -224,27 +260,79 @@ class Placing:
     def turned(self, values: list[np.ndarray]) -> list[np.ndarray]:
         """x and y along the model's own axes."""
         words = self.words
-        if words.about:
-            cells = words.about.split(",")
-            try:
-                about = (float(cells[0]), float(cells[1]))
-                if not np.isfinite(about).all():
-                    raise ValueError
-            except (ValueError, IndexError):
-                raise UserError("--about: give x and y of the point that stays, as 1000,2000, and "
-                                f"not `{words.about}`") from None
-        else:
-            about = (values[0][0] / 1000, values[1][0] / 1000)
+        x, y, _ = self.about(values)
+        about = (x, y)
         self.turn = turn_of(words.x_bearing, words.y_azimuth, about)
         self.report.facts.append(f"turned about {about[0]:g}, {about[1]:g}: the model's "
                                  f"{turn_told(self.turn)}; slopes of +x, -x, +y and -y are along "
                                  "its own axes")
+        if words.own_axes:
+            return values[:2]
         own = self.turn.own(values[0] / 1000, values[1] / 1000)
         return [np.rint(one * 1000).astype(np.int64) for one in own]
 
+    def about(self, values: Sequence[np.ndarray]) -> list[float]:
+        """The point that stays in a turn, in the export's unit; its z is 0 where none is given."""
+        if not self.words.about:
+            return [value[0] / 1000 for value in values]
+        try:
+            about = [float(cell) for cell in self.words.about.split(",")]
+            if not np.isfinite(about).all() or len(about) not in (2, 3):
+                raise ValueError
+        except ValueError:
+            raise UserError("--about: give x and y of the point that stays, as 1000,2000, and "
+                            f"not `{self.words.about}`") from None
+        if len(about) == 2 and self.words.rotation:
+            raise UserError("--about: of a model that dips give z too, as 1000,2000,300")
+        return [*about, 0.0][:3]
+
+    def level(self, values: Sequence[np.ndarray]) -> tuple[list[Axis], list[np.ndarray]]:
+        """The level blocks that the blocks of a model that dips take."""
+        words, sizes = self.words, self.sizes
+        rotation = rotation_of(words.rotation)
+        about = 1000 * np.array(self.about(values))
+        points = np.column_stack(values).astype(float) - about
+        own = points if words.own_axes else points @ rotation
+        if sizes is None:
+            axes = self.axes_of(list(np.rint(own + about).astype(np.int64).T))
+            sizes = self.sizes = sizes_of_axes(axes, len(own))
+        judge_own_grid(own, sizes, self.with_cells)
+        level = points if not words.own_axes else points @ rotation.T
+        centroids = list((level + about).T)
+        parents = sizes_of(words.regularise, "--regularise")
+        corners = self.corners(centroids, [np.full(1, np.nanmax(np.hypot.reduce(sizes.along)))] * 3,
+                               parents)
+        self.report.facts.append("a model that dips: its blocks are spread over level ones, "
+                                 f"turned by {words.rotation} about "
+                                 f"{', '.join(f'{value / 1000:g}' for value in about)}")
+        self.parts = scattered(centroids, sizes, rotation, corners, parents)
+        self.spot = pd.factorize(pd.MultiIndex.from_arrays(list(values)))[0][self.parts.row]
+        return self.parents_axes(corners, parents)
+
+    def corners(self, values: Sequence[np.ndarray], sizes: Sequence[np.ndarray],
+                parents: Sequence[int]) -> list[int]:
+        """The least corner of a block, by the word or by the rows; of level blocks for a model
+        that dips a round one."""
+        if self.words.corner:
+            return thousandths(self.words.corner, "--corner")
+        leasts = [int(np.rint(np.nanmin(value - size / 2))) for value, size in zip(values, sizes)]
+        return ([least // parent * parent for least, parent in zip(leasts, parents)]
+                if self.words.rotation else leasts)
+
+    def judge_parts(self, axes: Sequence[Axis]) -> None:
+        """Stops where rows of indices are no parts of the blocks that they name."""
+        words = self.words
+        if self.sizes is None and not words.volume:
+            raise UserError("--parents with indices needs the columns with the sizes of rows, by "
+                            "--sub-size, or their --volume; rows with tonnes alone are summed up "
+                            "by --merge")
+        if sizes_of(words.parents, "--parents") != [axis.step for axis in axes]:
+            raise UserError(f"--parents: `{words.parents}` and --size `{words.size}` differ, and "
+                            "indices are those of parents: give one size")
+
     def turn_hint(self, values: Sequence[np.ndarray]) -> str:
         """What the directions to neighbours say, where no grid fits."""
-        angle = turned_by(values[0], values[1], values[2])
+        angle = turned_by(*self.of_one_size(values))
         if angle is None:
             return ""
         if self.turn:
@@ -347,31 +435,44 @@ class Placing:
         self.report.facts.append(f"indices count from {start}")
         return axes, places
 
-    def parents(self, values: list[np.ndarray]) -> tuple[list[Axis], list[np.ndarray]]:
-        """The parents of sub-blocks, and the places of blocks that are greater."""
-        words, parents, sizes = self.words, sizes_of(self.words.parents, "--parents"), self.sizes
-        if words.corner:
-            corners = thousandths(words.corner, "--corner")
-        elif sizes is None:
+    def parents(self, values: list[np.ndarray],
+                axes: Sequence[Axis] = ()) -> tuple[list[Axis], list[np.ndarray]]:
+        """The parents of sub-blocks, and the places of blocks that are greater. Without sizes of
+        rows, `axes` are those of their own grid."""
+        words = self.words
+        what = "--parents" if words.parents else "--regularise"
+        parents = sizes_of(words.block_size, what)
+        if axes:
+            self.sizes = sizes_of_axes(axes, len(values[0]))
+        sizes = self.sizes
+        if sizes is None and not words.corner:
             raise UserError("--parents needs --corner, the least corner of a parent, or "
                             "--sub-size, the columns with the sizes of sub-blocks")
-        else:
-            corners = [int(np.rint(np.nanmin(value - size / 2)))
-                       for value, size in zip(values, sizes.along)]
-        if sizes is not None and not sizes.are_named:
+        corners = self.corners(values, sizes.along if sizes is not None else [np.zeros(1)] * 3,
+                               parents)
+        if sizes is not None and not sizes.are_named and not axes:
             self.report.facts.append(f"sizes of rows are those of {sizes.names}")
-        for parent in parents:
-            if parent % 2:
-                raise UserError(f"--parents: half of {shortest(parent, 3)} has more than 3 "
-                                "decimals")
-        self.parts = parts_of(values, sizes, corners, parents, self.with_cells, bool(words.corner))
+        try:
+            self.parts = parts_of(values, sizes, corners, parents, self.with_cells,
+                                  bool(words.corner), bool(words.regularise))
+        except UserError as error:
+            raise UserError(f"{error}{self.turn_hint(values)}") from None
         self.spot = (pd.factorize(pd.MultiIndex.from_arrays(values))[0][self.parts.row]
                      if len(values[0]) else None)
+        return self.parents_axes(corners, parents)
+
+    def parents_axes(self, corners: Sequence[int],
+                     parents: Sequence[int]) -> tuple[list[Axis], list[np.ndarray]]:
+        """The axes of the parents, and the places of all parts on these."""
         axes, places = [], []
-        for axis, place in enumerate(self.parts.places):
+        for corner, parent, place in zip(corners, parents,
+                                         self.parts.places if self.parts else []):
+            if parent % 2:
+                raise UserError(f"half of a block of {shortest(parent, 3)} has more than 3 "
+                                "decimals")
             least = int(place.min())
-            axes.append(Axis(corners[axis] + least * parents[axis] + parents[axis] // 2,
-                             parents[axis], int(place.max()) - least + 1, 0))
+            axes.append(Axis(corner + least * parent + parent // 2, parent,
+                             int(place.max()) - least + 1, 0))
             places.append(place - least)
         return axes, places
 
@@ -405,13 +506,13 @@ class Placing:
     def volumes(self, axes: Sequence[Axis], count: int) -> np.ndarray:
         """Cubic metres of each row's block."""
         foot = 0.3048 ** 3 if self.words.in_feet else 1.0
-        many = self.parts.many if self.parts is not None else 1
+        share = self.parts.share if self.parts is not None else 1.0
         volume = self.taken("volume")
         if volume is not None:
-            return volume / many
-        if self.sizes is not None and (self.words.parents or self.sizes.are_named):
+            return volume * share
+        if self.sizes is not None and (self.words.is_merged or self.sizes.are_named):
             sized = self.sizes.volumes(self.factors) * foot
-            return sized if self.parts is None else sized[self.parts.row] / many
+            return sized if self.parts is None else sized[self.parts.row] * share
         if self.words.parents and not self.words.tonnes:
             raise UserError("the tonnes of a sub-block need its own volume: give --volume or "
                             "--sub-size")
@@ -491,19 +592,22 @@ class Placing:
         again = np.zeros(len(rows), bool) if words.drop_repeats else is_again(rows, spot)
         by_density = (not words.tonnes and not words.volume
                       and not (self.sizes is not None and words.is_merged))
-        repeats = Repeats(rows, key, spot, again, self.reading.fine["tonnes"], self.volume_of(axes),
-                          self.report, self.with_cells, self.line)
-        repeats.judge(by_density, words.is_merged, bool(words.parents))
+        if "fraction" in rows:
+            self.judge_fractions(rows, key)
+        else:
+            Repeats(rows, key, spot, again, self.reading.fine["tonnes"], self.volume_of(axes),
+                    self.report, self.with_cells, self.line).judge(by_density, words.is_merged,
+                                                                   bool(words.block_size))
         if not words.is_merged:
             return rows
         merged = _merged(rows, key, self.reading.fine)
-        what = "sub-blocks are" if words.parents else "rows are"
+        what = "sub-blocks are" if words.block_size else "rows are"
         summed = np.bincount(pd.factorize(key)[0])
         several = summed > 1
         weights = merged["tonnes"].to_numpy() / 1000 / self.volume_of(axes)
         told = (f"; {int(several.sum()):,} are sums of 2 to {int(summed.max()):,}" if several.any()
                 else "")
-        if several.any() and not words.parents and len(weights) == len(summed):
+        if several.any() and not words.block_size and len(weights) == len(summed):
             told += (f", and weigh {figure(weights[several].min())} to "
                      f"{figure(weights[several].max())} t/m3")
         self.report.facts.append(f"{len(rows):,} {what} {len(merged):,} blocks: tonnes summed, "
@@ -514,6 +618,19 @@ class Placing:
         if merged.empty:
             raise UserError("no block has half a kilogram: " + self.no_tonnes_told())
         return merged
+
+    def judge_fractions(self, rows: pd.DataFrame, key: np.ndarray) -> None:
+        """Stops where rows of one place are more than its block, by their volumes or shares: they
+        are its parts where they are not, also where some are the same."""
+        codes, _ = pd.factorize(key)
+        sums = np.bincount(codes, rows["fraction"])
+        over = np.flatnonzero(sums > 1.02)
+        if len(over):
+            lines = [self.with_cells(int(at)) for at in
+                     rows["row"].to_numpy()[np.flatnonzero(codes == over[0])[:2]]]
+            raise UserError(f"rows of {len(over):,} blocks are more than the whole block, by their "
+                            f"volumes or shares, of one {figure(sums[over[0]])} times that: "
+                            f"{' and '.join(lines)}: do exports overlap, or is an export in twice?")
 
     def with_holes(self, rows: pd.DataFrame, air: pd.DataFrame) -> tuple[pd.DataFrame,
                                                                          pd.DataFrame]:

@@ -19,6 +19,7 @@ from pit_tools.import_placing import Placing
 from pit_tools.import_reading import Reading, read_export
 from pit_tools.import_report import Report
 from pit_tools.imported_blocks import Imported
+from pit_tools.packages import recognised, told_of, words_by_package
 
 __all__ = ["Imported", "Report", "Words", "import_export"]
 
@@ -28,12 +29,24 @@ def import_export(paths: Sequence[str], words: Words) -> Imported:
 
     It raises UserError for what cannot be right, with its cause and, where there is one, its line;
     what may be wrong is told by the report. Nothing is written."""
+    report = Report()
+    has_package = bool(words.package)
+    if has_package:
+        progress.step("reads the frame")
+        words, told = words_by_package(words, paths)
+        report.facts.append(told)
     words.judge()
     progress.step("reads rows")
-    reading, report = Reading(words), Report()
+    reading = Reading(words)
     sources = [source for path in paths for source in read_export(path, words, reading, report)]
     if not reading.counts["rows"]:
         raise UserError(f"{paths[0]}: there is no row below the "
                         "header" + (" that the filter lets through" if words.where else ""))
     progress.step("puts rows on the grid")
-    return Placing(reading, sources, report).imported()
+    name = "" if has_package else recognised(sources[0])
+    if name:
+        report.facts.append(told_of(name))
+    try:
+        return Placing(reading, sources, report).imported()
+    except UserError as error:
+        raise UserError(f"{error}; {told_of(name)}" if name else str(error)) from None

@@ -232,6 +232,14 @@ class Source:
                 "columns" if self.sheets_left else "")
         return f"{self.path}: {how}; {header}{units}{left}"
 
+    def lines_above(self) -> list[str]:
+        """The lines above the header, such as comments of the package."""
+        if self.sheet is not None or not self.has_header:
+            return []
+        with io.TextIOWrapper(opened(self.path), encoding=self.encoding, errors="replace",
+                              newline="") as text:
+            return [text.readline().strip() for _ in range(self.above)]
+
     def handle(self) -> io.TextIOWrapper:
         """The text from the header on, or from the first row."""
         text = io.TextIOWrapper(opened(self.path), encoding=self.encoding, errors="replace",

@@ -8,12 +8,13 @@ import pytest
 
 from exports import Export, Rows, exports
 from package_exports import later_exports
+from preset_exports import preset_exports
 from pit_tools.errors import UserError
 from pit_tools.export_words import Words
 from pit_tools.importing import Imported, import_export
 from pit_tools.zone_files import read_zone_file
 
-EXPORTS = [*exports(), *later_exports()]
+EXPORTS = [*exports(), *later_exports(), *preset_exports()]
 
 
 def imported_by(export: Export, folder, **changed) -> Imported:

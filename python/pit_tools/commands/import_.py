@@ -28,12 +28,22 @@ WRITES = "zone files and BASE.json"
 
 
 def add_arguments(parser: argparse.ArgumentParser) -> None:
+    from pit_tools.package_table import NAMES
+
     parser.epilog = UNITS
     add = parser.add_argument
+    add("--package", default="", choices=["", *NAMES], metavar="NAME",
+        help=f"the mining package that wrote the export, which says where blocks are: "
+        f"{', '.join(NAMES)}")
     add("exports", nargs="+", metavar="EXPORT",
         help="texts or workbooks; several are read one behind the other")
     add("--base", default="", metavar="BASE",
         help="the front of the names of what is written; without it nothing is written")
+    _add_places(parser)
+    _add_contents(parser)
+
+
+def _add_places(parser: argparse.ArgumentParser) -> None:
     places = parser.add_argument_group("where a block is")
     for axis in "xyz":
         places.add_argument(f"--{axis}", default="", metavar="FORMULA",
@@ -58,9 +68,18 @@ def add_arguments(parser: argparse.ArgumentParser) -> None:
     places.add_argument("--x-bearing", type=float, metavar="DEGREES",
                         help="of a turned model, where its +x points, clockwise from north")
     places.add_argument("--y-azimuth", type=float, metavar="DEGREES", help="or where its +y points")
+    places.add_argument("--rotation", default="", metavar="TURNS",
+                        help="of a model that dips, with --regularise: turns about its axes in "
+                        "their order, degrees clockwise seen from the end of each, as 'z 40, x 20'")
     places.add_argument("--about", default="", metavar="X,Y",
-                        help="the point that stays; else that of the first row")
+                        help="the point that stays, with Z of a model that dips; else that of the "
+                        "first row")
+    places.add_argument("--own-axes", action="store_true",
+                        help="coordinates are along the turned model's own axes already")
     places.add_argument("--in-feet", action="store_true", help="lengths are in feet, and stay so")
+
+
+def _add_contents(parser: argparse.ArgumentParser) -> None:
     contents = parser.add_argument_group("what it holds")
     contents.add_argument("--tonnes", default="", metavar="FORMULA", help="tonnes of the block")
     contents.add_argument("--density", default="", metavar="FORMULA",
@@ -92,6 +111,9 @@ def add_arguments(parser: argparse.ArgumentParser) -> None:
                       help="rows that stay, as 'CLASS <= 3 and ROCK != \"AIR\"'")
     rows.add_argument("--parents", default="", metavar="X,Y,Z",
                       help="the size of blocks: smaller ones are summed up, greater ones cut")
+    rows.add_argument("--regularise", default="", metavar="X,Y,Z",
+                      help="the same, and blocks that cross the border of one of these are cut "
+                      "there by volume, so ore is diluted by the tonnes of its neighbours")
     rows.add_argument("--corner", default="", metavar="X,Y,Z", help="the least corner of a parent")
     rows.add_argument("--sub-size", default="", metavar="X,Y,Z",
                       help="the columns with the sizes of rows' blocks, where they are not found")
