@@ -14,7 +14,7 @@ from typing import Iterable, Optional, Sequence
 import numpy as np
 import pandas as pd
 
-from pit_tools.decimals import parts_of
+from pit_tools.decimals import LONGEST, MOST_EXACT, is_decimal, is_held, parts_of
 from pit_tools.decimals import plain as plain_decimal
 from pit_tools.errors import UserError
 
@@ -27,7 +27,8 @@ MISSING = ("", "na", "n/a", "nan", "null", "nil", "none", "-", "--", "---", "*",
 BLANKS = " \u00a0\u2007\u2009\u202f"
 APOSTROPHES = "'’"
 
-PLAIN = re.compile(r"[-+]?(\d+\.?\d*|\.\d+)([eE][-+]?\d+)?")
+# An exponent that is too long for the fast reader, which takes it for another one.
+LONG_EXPONENT = re.compile(r"[eE][-+]?\d{4}")
 
 
 @dataclass
@@ -46,15 +47,17 @@ class Marks:
         """A cell as a plain decimal; an empty text where nothing is known; None for no number.
         `1.2%` is 0.012, or 1.2 as percent."""
         text = cell.strip()
+        if len(text) > LONGEST:
+            return None
         if text.endswith("%"):
             found = self.plain(text[:-1]) or None
             return found if as_percent or found is None else plain_decimal(Decimal(found) / 100)
         if text.casefold() in self.missing:
             return ""
         text = text.replace("−", "-").replace("–", "-")
-        if re.fullmatch(r"\(.*\)", text):
+        if text.startswith("(") and text.endswith(")"):
             text = "-" + text[1:-1].strip()
-        elif re.fullmatch(r"[^-]*\d-", text):
+        elif text.endswith("-") and text.count("-") == 1 and text[-2:-1].isdecimal():
             text = "-" + text[:-1]
         between = re.escape(self.thousands + BLANKS + APOSTROPHES)
         if re.search(f"[{between}]", text):
@@ -68,18 +71,20 @@ class Marks:
                 return None
             text = text.replace(",", ".")
         text = re.sub(r"(?<=[\d.])[dD](?=[-+]?\d)", "E", text)
-        return text if PLAIN.fullmatch(text) else None
+        return text if is_decimal(text) and is_held(text) else None
 
     def spelled(self, cells: pd.Series, as_percent: bool = False) -> Spelled:
         """Cells as plain decimals. Most are plain already, and are taken as they are; each odd
-        spelling is looked at once."""
+        spelling is looked at once, and each 0 and vast number, which may be another one."""
         texts, count = cells, len(cells)
         if self.decimal == ",":
             # A point is none of these numbers' marks, or stands between thousands.
             texts = cells.str.replace(",", ".",
                                       regex=False).where(~cells.str.contains(".", regex=False), "")
         floats = pd.to_numeric(texts, errors="coerce").to_numpy(float).copy()
-        odd = ~np.isfinite(floats)
+        odd = ~np.isfinite(floats) | (floats == 0) | (np.abs(floats) >= MOST_EXACT)
+        if LONG_EXPONENT.search("\n".join(texts)):
+            odd |= texts.str.contains(LONG_EXPONENT).to_numpy()
         missing, wrong, percent = np.zeros(count,
                                            bool), np.zeros(count, bool), np.zeros(count, bool)
         if odd.any():
@@ -122,7 +127,7 @@ def marks_of(columns: Iterable[pd.Series], *, decimal: str = "", thousands: str 
     It raises UserError where a mark may be read in two ways, or cells contradict one another."""
     columns = list(columns)
     known = frozenset([*MISSING, *(text.strip().casefold() for text in missing)])
-    numbers = tuple(float(text) for text in missing if PLAIN.fullmatch(text.strip()))
+    numbers = tuple(float(text) for text in missing if is_decimal(text.strip()))
     cells = [text for column in columns for text in _telling(column) if "." in text or "," in text]
     cells = [text for text in cells if text.casefold() not in known
              and re.fullmatch(rf"[-+(]?[\d.,{BLANKS}{APOSTROPHES}]+[-)]?", text)]

@@ -5,6 +5,7 @@ A decimal with `places` decimals is an int64 of so many parts: 2700.5 t with 3 p
 """
 from __future__ import annotations
 
+import math
 import re
 from decimal import ROUND_HALF_UP, Decimal, InvalidOperation
 from typing import Optional, Sequence, Union
@@ -21,8 +22,43 @@ ROOM = 1e-14
 # Numbers of parts beyond this, as of -1e30, are held as this: no file of pitc has them.
 MOST = 1e18
 
+# Characters of a number at the most: a double's longest decimal is shorter.
+LONGEST = 400
+
+# A decimal with a point. No two of its repetitions share a character, so it is matched in linear
+# time.
+PLAIN = re.compile(r"[-+]?(\d+(\.\d*)?|\.\d+)([eE][-+]?\d+)?", re.ASCII)
+
+# The integers up to which each one is a double, and the digits that a double always holds.
+MOST_EXACT, DIGITS = 2.0 ** 53, 15
+
+# Marks of other spellings of a number, and the letters before an exponent.
+_SPELLINGS = str.maketrans("dD", "eE", ".,'’")
+
 # Digits before the point, or zeros behind it, that a decimal of a plan may have: a limit has 13.
 MOST_DIGITS = 15
+
+
+def is_decimal(text: str) -> bool:
+    """Whether a text is a decimal with a point, with an exponent or without one."""
+    return len(text) <= LONGEST and PLAIN.fullmatch(text) is not None
+
+
+def is_number_like(text: str) -> bool:
+    """Whether a cell is a number in some spelling: with thousands, a percent sign, parentheses."""
+    bare = text.strip().strip("-+()%")
+    return len(bare) <= LONGEST and is_decimal("".join(bare.split()).translate(_SPELLINGS))
+
+
+def is_held(text: str) -> bool:
+    """Whether a decimal stays the same number as a double, but for what 15 digits do not show. It
+    does not where it becomes infinite, or 0 for no 0, or another integer."""
+    value = float(text)
+    digits = text.lower().partition("e")[0].strip("+-").replace(".", "").strip("0")
+    if not math.isfinite(value) or (digits and not value):
+        return False
+    return (len(digits) <= DIGITS or abs(value) < MOST_EXACT
+            or Decimal(text) == Decimal(value))
 
 
 def rounded(text: Union[str, Decimal, int], places: int) -> int:
@@ -89,11 +125,8 @@ def plain(value: Union[Decimal, int]) -> str:
 
 def decimal_of(text: str, what: str) -> Decimal:
     """A decimal of a plan or a word, exact. It raises UserError, which names what it was for."""
-    try:
-        value = Decimal(text.strip()) if text.isascii() else None
-    except InvalidOperation:
-        value = None
-    if value is None or not value.is_finite():
+    value = Decimal(text) if is_decimal(text := text.strip()) else None
+    if value is None:
         raise UserError(f"{what}: `{text[:60]}` is no number")
     if abs(value.adjusted()) > MOST_DIGITS:
         raise UserError(f"{what}: `{text[:60]}` is too great or too small a number")
@@ -102,4 +135,4 @@ def decimal_of(text: str, what: str) -> Decimal:
 
 def whole_of(text: str) -> Optional[int]:
     """A whole number from 0 on, of 18 digits at the most; None where the text is none."""
-    return int(text) if re.fullmatch("[0-9]{1,18}", text) else None
+    return int(text) if len(text) <= 18 and text.isascii() and text.isdecimal() else None

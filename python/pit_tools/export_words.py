@@ -358,7 +358,7 @@ def filter_of(text: str, names: Sequence[str]) -> Formula:
     try:
         formula = formula_of(text, names)
     except Lacking as lacking:
-        lacking.args = (f"{lacking} (in a filter a text stands between double quotes)",)
+        lacking.hint = " (in a filter a text stands between double quotes)"
         raise
     if not formula.is_condition:
         raise UserError(f"`{text}` compares nothing: a filter is as CLASS <= 3 and ROCK != \"AIR\"")

@@ -28,9 +28,19 @@ COMPARISONS = {ast.Lt: operator.lt, ast.LtE: operator.le, ast.Gt: operator.gt, a
                ast.Eq: operator.eq, ast.NotEq: operator.ne}
 
 
+# Characters of a text that is composed: the library's time grows with their square.
+MOST_COMPOSED = 200
+
+
+def composed(text: str) -> str:
+    """A text with each letter and its accents as one character. A text that is longer than any name
+    stays as it is."""
+    return unicodedata.normalize("NFC", text) if len(text) <= MOST_COMPOSED else text
+
+
 def code_name(text: str) -> str:
     """A text as codes are compared: without case and blanks, `10.0` as `10`."""
-    folded = " ".join(unicodedata.normalize("NFC", text).replace("\ufeff", "")
+    folded = " ".join(composed(text).replace("\ufeff", "")
                       .split()).strip("\"'").strip().casefold()
     return re.sub(r"^(-?\d+)\.0+$", r"\1", folded)
 

@@ -10,15 +10,15 @@ from __future__ import annotations
 import ast
 import difflib
 import re
-import unicodedata
 from dataclasses import dataclass
-from typing import Any, Callable, Optional, Sequence
+from typing import Any, Callable, Container, Optional, Sequence
 
 import numpy as np
 import pandas as pd
 
 from pit_tools.errors import UserError
-from pit_tools.formula_values import ARGUMENTS, COMPARISONS, OPERATORS, Rows, called
+from pit_tools.formula_values import (ARGUMENTS, COMPARISONS, OPERATORS, Rows, called,
+                                      composed)
 
 ALLOWED = (ast.Expression, ast.BinOp, ast.UnaryOp, ast.BoolOp, ast.Compare, ast.Name, ast.Load,
            ast.Constant, ast.Call, ast.IfExp, ast.List, ast.Tuple, ast.And, ast.Or, ast.Not,
@@ -28,6 +28,9 @@ ALLOWED = (ast.Expression, ast.BinOp, ast.UnaryOp, ast.BoolOp, ast.Compare, ast.
 # How much of a formula is told.
 MOST_SHOWN = 200
 
+# How long a formula may be, and the names that a name that is lacking is compared with.
+MOST_TEXT, LIKE = 10_000, 100
+
 # How deep parts of a formula may stand in one another, as each term of a sum in those before it.
 MOST_DEPTH = 200
 
@@ -36,11 +39,16 @@ class Lacking(UserError):
     """A formula has a name that is no column."""
 
     def __init__(self, name: str, names: Sequence[str]) -> None:
-        near = difflib.get_close_matches(name, [one for one in names if one], 1, 0.6)
-        like = f"; is it `{near[0]}`?" if near else ""
-        super().__init__(f"no column `{name}`{like}")
+        super().__init__(name, names)
+        self.name, self.names = name, names
         # how many formulas of a header found all their columns before this one: see source_of
-        self.hits = 0
+        self.hits, self.hint = 0, ""
+
+    def __str__(self) -> str:
+        near = difflib.get_close_matches(self.name[:LIKE], [one for one in self.names
+                                                            if 0 < len(one) <= LIKE], 1, 0.6)
+        like = f"; is it `{near[0]}`?" if near else ""
+        return f"no column `{self.name[:MOST_SHOWN]}`{like}{self.hint}"
 
 
 def column_name(at: int) -> str:
@@ -51,8 +59,7 @@ def column_name(at: int) -> str:
 def plain_name(text: str) -> str:
     """A column's name as it is compared: without case, quotes and blanks at its ends, line breaks
     as blanks."""
-    text = unicodedata.normalize("NFC", text).replace("\ufeff", "")
-    return " ".join(text.split()).strip("\"'").strip().casefold()
+    return " ".join(composed(text).replace("\ufeff", "").split()).strip("\"'").strip().casefold()
 
 
 def short_name(text: str) -> str:
@@ -157,11 +164,13 @@ def _terms(code: str) -> list[str]:
 def formula_of(text: str, names: Sequence[str]) -> Formula:
     """A formula over these columns. It raises Lacking for a name that is none of them, UserError
     for one of two columns and for a text that is no formula."""
+    if len(text) > MOST_TEXT:
+        raise UserError(f"`{text[:MOST_SHOWN]}..` has more than {MOST_TEXT:,} characters, and is "
+                        "no formula")
     places = places_of(names)
     columns: list[int] = []
-    by_length = sorted((name for name in places if not re.fullmatch(r"[\d.]+", name)), key=len,
-                       reverse=True)
-    code, at, folded = "", 0, unicodedata.normalize("NFC", text)
+    lengths = sorted({len(name) for name in places}, reverse=True)
+    code, at, folded = "", 0, composed(text)
     low = folded.casefold() if len(folded.casefold()) == len(folded) else folded
     while at < len(folded):
         quote = folded[at]
@@ -176,7 +185,7 @@ def formula_of(text: str, names: Sequence[str]) -> Formula:
                 code += folded[at:end + 1]
             at = end + 1
             continue
-        name = _name_at(low, at, by_length)
+        name = _name_at(low, at, places, lengths)
         if name:
             code += _column(name, places, columns)
             at += len(name)
@@ -186,16 +195,20 @@ def formula_of(text: str, names: Sequence[str]) -> Formula:
     return Formula(text, _checked(code, text, names), tuple(dict.fromkeys(columns)))
 
 
-def _name_at(text: str, at: int, names: Sequence[str]) -> Optional[str]:
+def _name_at(text: str, at: int, names: Container[str], lengths: Sequence[int]) -> Optional[str]:
     """The longest name that stands here, its ends being no part of a longer word."""
-    if at and re.match(r"\w", text[at - 1]) and re.match(r"\w", text[at]):
+    if at and _is_in_word(text[at - 1:at + 1]):
         return None
-    for name in names:
-        if text.startswith(name, at):
-            behind = text[at + len(name):at + len(name) + 1]
-            if not (re.match(r"\w", name[-1]) and re.match(r"\w", behind)):
-                return name
+    for end in (at + length for length in lengths if at + length <= len(text)):
+        name = text[at:end]
+        if name in names and name.strip("0123456789.") and not _is_in_word(text[end - 1:end + 1]):
+            return name
     return None
+
+
+def _is_in_word(two: str) -> bool:
+    """Whether two characters are both of a word."""
+    return len(two) == 2 and all(one.isalnum() or one == "_" for one in two)
 
 
 def _column(name: str, places: dict[str, list[int]], columns: list[int]) -> str:

@@ -10,12 +10,13 @@ import pandas as pd
 
 from pit_tools import progress
 from pit_tools.cells import Marks, Spelled, marks_of
+from pit_tools.decimals import LONGEST, is_decimal, is_number_like
 from pit_tools.errors import UserError
 from pit_tools.export_words import Columns, Measure, Table, Words, columns_of, unit_doubts
 from pit_tools.formula_values import code_name
 from pit_tools.formulas import Formula, column_name
 from pit_tools.import_report import Report
-from pit_tools.source import Source, is_number_like, sources_of
+from pit_tools.source import SHOWN, Source, sources_of
 from pit_tools.unnamed_columns import Unnamed
 from pit_tools.workbook import UNCOMPUTED
 
@@ -306,7 +307,7 @@ class Piece:
         text = self.table[column].iloc[at].strip()
         name = " ".join(self.source.names[column].split())
         raise UserError(f"{self.line(at, column)}: the column {name} has "
-                        f"`{text}`{_hint(text, self.marks)}")
+                        f"`{text[:SHOWN]}`{_hint(text, self.marks)}")
 
     def count_missing(self, column: int, missing: np.ndarray) -> None:
         """Counts the texts that stand for what is missing."""
@@ -496,6 +497,10 @@ def _hint(text: str, marks: Marks) -> str:
     if text == UNCOMPUTED:
         return (", a formula that no program has computed: open the workbook in a spreadsheet, and "
                 "save it")
+    if is_decimal(text):
+        return ", which is another number as a float of 64 bits: has it lost its point?"
+    if len(text) > LONGEST:
+        return f" and goes on, with {len(text):,} characters in all"
     if text.startswith("#"):
         return (f", an error of a spreadsheet: mend it there, or give --missing '{text}' where it "
                 "stands for what is not known")

@@ -10,7 +10,6 @@ import gzip
 import io
 import lzma
 import os
-import re
 import stat
 import struct
 import zipfile
@@ -22,6 +21,7 @@ from typing import IO, Any, BinaryIO, Callable, Iterator, Optional, Sequence, Te
 import numpy as np
 import pandas as pd
 
+from pit_tools.decimals import is_number_like, whole_of
 from pit_tools.errors import UserError
 from pit_tools.formulas import Lacking, plain_name
 from pit_tools.workbook import cell_name, sheets_of
@@ -41,21 +41,20 @@ HEAD = 1 << 20
 MOST_COLUMNS = 16_384
 
 # How many times its size an archive may unpack to, where that is more than so many bytes.
-MOST_TIMES, LEAST_UNPACKED = 200, 100_000_000
+MOST_TIMES, LEAST_UNPACKED = 200, 1 << 24
+
+# How much of a line is looked at to tell what may be wrong with it, and of a cell is told.
+LOOKED_AT, SHOWN = 1000, 60
 
 csv.field_size_limit(MOST_LINE)
 
 # Among how many lines the header is looked for.
 HEAD_LINES = 100
 
+# Separators as blanks.
+BLANKED = str.maketrans(",;|", "   ")
+
 SEPARATORS = {",": "commas", ";": "semicolons", "\t": "tabs", "|": "bars", " ": "blanks"}
-
-NUMBER = re.compile(r"\s*[-+(]?[\d.,'’\s]*\d[\d.,'’\s]*([eEdD][-+]?\d+)?[-)%]?\s*")
-
-
-def is_number_like(text: str) -> bool:
-    """Whether a cell is a number in some spelling."""
-    return bool(NUMBER.fullmatch(text))
 
 
 def refuse_pipe(path: str) -> None:
@@ -159,34 +158,42 @@ def _beyond_measure(path: str, what: str) -> UserError:
 
 def encoding_of(path: str) -> tuple[str, str]:
     """The encoding of a text, and what to tell of it: by its mark, by its zero bytes, or by trying
-    UTF-8 over all of it."""
+    UTF-8 over all of it. It raises UserError as `judge_text` does."""
     with opened(path) as file:
         front = file.read(4096)
-        if front.startswith(codecs.BOM_UTF8):
-            return "utf-8-sig", "UTF-8"
-        for mark, name in ((codecs.BOM_UTF16_LE, "utf-16"), (codecs.BOM_UTF16_BE, "utf-16")):
-            if front.startswith(mark):
-                return name, "UTF-16"
-        even, odd = front[::2].count(0), front[1::2].count(0)
-        if odd > len(front) // 3 and even < odd // 20 + 1:
-            return "utf-16-le", "UTF-16 without a mark"
-        if even > len(front) // 3 and odd < even // 20 + 1:
-            return "utf-16-be", "UTF-16 without a mark"
-        if front.startswith(b"\xd0\xcf\x11\xe0"):
-            raise UserError(f"{path}: it is a workbook of the old kind (.xls): save it as .xlsx or "
-                            "as CSV")
-        if front.count(0):
-            raise UserError(f"{path}: it has zero bytes, so it is no text: export it as CSV")
-        decoder = codecs.getincrementaldecoder("utf-8")()
-        try:
-            while front:
-                decoder.decode(front)
-                front = file.read(1 << 20)
-            decoder.decode(b"", final=True)
-        except UnicodeDecodeError:
-            return ("cp1252",
-                    "no UTF-8, and read as cp1252 (Western Windows); --encoding names another")
-    return "utf-8", "UTF-8"
+    even, odd = front[::2].count(0), front[1::2].count(0)
+    if front.startswith(b"\xd0\xcf\x11\xe0"):
+        raise UserError(f"{path}: it is a workbook of the old kind (.xls): save it as .xlsx or as "
+                        "CSV")
+    if front.startswith((codecs.BOM_UTF16_LE, codecs.BOM_UTF16_BE)):
+        name, told = "utf-16", "UTF-16"
+    elif odd > len(front) // 3 and even < odd // 20 + 1:
+        name, told = "utf-16-le", "UTF-16 without a mark"
+    elif even > len(front) // 3 and odd < even // 20 + 1:
+        name, told = "utf-16-be", "UTF-16 without a mark"
+    else:
+        name, told = "utf-8-sig" if front.startswith(codecs.BOM_UTF8) else "utf-8", "UTF-8"
+    try:
+        judge_text(path, name, "strict" if name == "utf-8" else "replace")
+    except UnicodeDecodeError:
+        name, told = ("cp1252", "no UTF-8, and read as cp1252 (Western Windows); --encoding names "
+                                "another")
+        judge_text(path, name, "replace")
+    return name, told
+
+
+def judge_text(path: str, encoding: str, errors: str = "strict") -> None:
+    """Goes through all of a text. It raises UserError for a zero byte, with its line, since readers
+    end a cell there, and UnicodeError where the text is not written in this encoding."""
+    lines = 1
+    with io.TextIOWrapper(opened(path), encoding=encoding, errors=errors, newline="") as text:
+        while piece := text.read(PIECE):
+            if (at := piece.find("\0")) >= 0:
+                lines += piece.count("\n", 0, at)
+                cell = piece[piece.rfind("\n", 0, at) + 1:at][-SHOWN:]
+                raise UserError(f"{path}: line {lines}: a zero byte stands behind `{cell}`, and no "
+                                "text has one: is the file damaged? Export it as CSV")
+            lines += piece.count("\n")
 
 
 @dataclass
@@ -213,8 +220,7 @@ class Source:
 
     def __post_init__(self) -> None:
         if len(self.names) > MOST_COLUMNS:
-            raise UserError(f"{self.path}: it has {len(self.names):,} columns, and a sheet has "
-                            f"{MOST_COLUMNS:,} at the most: export fewer")
+            raise UserError(f"{self.path}: {_too_wide(self.names)}")
 
     def told(self) -> str:
         """How the export is written, in words."""
@@ -339,11 +345,13 @@ class Source:
         """What a line with too few cells may be, by its text."""
         with self.handle() as text:
             line = next(islice(text, number - self.above - 1, None), "").strip()
-        shown = f"`{line[:60]}{'..' if line[60:] else ''}`"
-        if self.separator == " " and re.search(r"\d\.\d+[-.]?\d*\.\d", line):
+        shown = f"`{line[:SHOWN]}{'..' if line[SHOWN:] else ''}`"
+        words = line[:LOOKED_AT].translate(BLANKED).split()
+        if self.separator == " " and any(word.count(".") > 1 for word in words):
             return (f"{shown} has numbers without a blank between them: export it with a "
                     "separator, or wider columns")
-        if not re.search(r"\d[\d.,]*[\s,;|]+-?\d", line):
+        if not any(one.rstrip(".")[-1:].isdecimal() and other.lstrip("-")[:1].isdecimal()
+                   for one, other in zip(words, words[1:])):
             return (f"{shown} is a heading between rows, as of a bench, and no row: take such "
                     "lines out")
         return f"{shown}: is the file cut short, or are these rows of another kind?"
@@ -384,14 +392,22 @@ class Source:
         return 0
 
 
+def _too_wide(row: Sequence[str]) -> str:
+    return (f"it has {len(row):,} columns, and a sheet has {MOST_COLUMNS:,} at the most: export "
+            "fewer")
+
+
 def _has_width(piece: bytes, separator: str, width: int) -> bool:
-    """Whether whole lines without quotes all have so many cells; False says nothing."""
+    """Whether whole lines without quotes all have so many cells, or no character; False says
+    nothing."""
     if separator == " " or b'"' in piece:
         return False
     signs = np.frombuffer(piece if piece.endswith(b"\n") else piece + b"\n", np.uint8)
     ends = np.flatnonzero(signs == ord("\n"))
-    found = np.add.reduceat(signs == ord(separator), np.r_[0, ends[:-1] + 1])
-    return bool((found == width - 1).all())
+    starts = np.r_[0, ends[:-1] + 1]
+    found = np.add.reduceat(signs == ord(separator), starts)
+    is_blank = ends - starts == (signs[starts] == ord("\r"))
+    return bool(((found == width - 1) | is_blank).all())
 
 
 def widths_of(text: TextIO, separator: str) -> Iterator[tuple[int, int]]:
@@ -455,8 +471,7 @@ def gslib_of(path: str, head: str, encoding: str, told: str) -> Optional[Source]
     """A GSLIB file: a title, a number of columns, a name on each of so many lines, and then rows of
     so many numbers."""
     lines = head.splitlines()
-    count = re.match(r"\s*(\d{1,3})(\s|$)", lines[1]) if len(lines) > 3 else None
-    columns = int(count[1]) if count else 0
+    columns = (whole_of((lines[1].split() or [""])[0]) or 0) if len(lines) > 3 else 0
     if not 1 <= columns <= 200 or len(lines) < columns + 3:
         return None
     first = lines[columns + 2].split()
@@ -500,6 +515,8 @@ def text_of(path: str, resolve: Callable[[Sequence[str]], object], encoding: str
         for row, above, line in records_of(head, one):
             if not any(cell.strip() for cell in row):
                 continue
+            if len(row) > MOST_COLUMNS:
+                raise UserError(f"{path}: {_too_wide(row)}")
             try:
                 resolve(row)
                 return Source(path, encoding, told, one, row, above, True, line)
@@ -522,9 +539,7 @@ def _judged_encoding(path: str, given: str) -> str:
     the text is written in another one."""
     try:
         name = codecs.lookup(given).name
-        with io.TextIOWrapper(opened(path), encoding=name, newline="") as text:
-            while text.read(PIECE):
-                pass
+        judge_text(path, name)
     except LookupError:
         raise UserError(f"no encoding `{given}`: there are utf-8, cp1252, latin-1, utf-16 and "
                         "others") from None

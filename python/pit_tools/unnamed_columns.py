@@ -9,6 +9,8 @@ import re
 from dataclasses import dataclass, field
 from typing import TYPE_CHECKING, Optional, Sequence
 
+from pit_tools.formulas import short_name
+
 if TYPE_CHECKING:
     from pit_tools.export_words import Words
 
@@ -46,7 +48,7 @@ class Unnamed:
 
 def unnamed_in(names: Sequence[str], words: Words) -> Unnamed:
     """What a header has beside what these words read."""
-    plain = [re.sub(r"[\W_]|\(.*\)|\[.*\]", "", name.casefold()) for name in names]
+    plain = [re.sub(r"[\W_]", "", name.casefold()) for name in names]
     sizes = () if words.sub_size else sizes_in(names)
     whole = not (words.share or words.ore_share)
     weight = _only(plain, DENSITY if words.tonnes else MASS) if whole else None
@@ -59,8 +61,7 @@ def unnamed_in(names: Sequence[str], words: Words) -> Unnamed:
 def sizes_in(names: Sequence[str]) -> tuple[int, ...]:
     """The columns of sizes along x, y and z, as XINC, dim_x, `_x_size` or `x length`; none where
     one lacks or stands twice."""
-    plain = [re.sub(r"[\W_]", "", re.sub(r"\s*(\([^()]*\)|\[[^\[\]]*\])$", "",
-                                         name.strip().casefold())) for name in names]
+    plain = [re.sub(r"[\W_]", "", short_name(name)) for name in names]
     found = []
     for axis in AXES:
         named = [at for at, name in enumerate(plain)

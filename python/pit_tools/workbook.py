@@ -7,8 +7,10 @@ import math
 import re
 import zipfile
 from contextlib import contextmanager
+from dataclasses import dataclass
 from decimal import Decimal
-from typing import Any, Iterator
+from typing import Any, Iterator, TypeVar
+from xml.etree import ElementTree
 
 import pandas as pd
 
@@ -18,13 +20,11 @@ from pit_tools.errors import UserError
 # What stands for a formula that no program has computed yet.
 UNCOMPUTED = "#not computed"
 
-# A cell with a formula and no value behind it; one of a text may be empty.
-WITHOUT_VALUE = re.compile(rb'<c r="([A-Z]+)(\d+)"((?:(?! t="str")[^>])*)>\s*'
-                           rb'<f\b[^>]*(?:/>|>[^<]*</f>)\s*(?:<v\s*/>|<v></v>)?\s*</c>')
+# Quotes, escapes and brackets of a number format, whose percent signs mean nothing.
+LITERAL = re.compile(r'"[^"]*"|\\.|\[[^\[\]]*\]')
 
-
-# Places of a sheet at the most, those of its longest row in each row.
-MOST_PLACES = 200_000_000
+# Places of all sheets at the most: as many as their XML has bytes, or this.
+LEAST_PLACES = 1_000_000
 
 
 def sheets_of(path: str, sheet: str) -> Iterator[tuple[str, pd.DataFrame]]:
@@ -37,6 +37,9 @@ def sheets_of(path: str, sheet: str) -> Iterator[tuple[str, pd.DataFrame]]:
         with _telling(f"{path}: the workbook"):
             book = openpyxl.load_workbook(file, read_only=True, data_only=True)
             pages = list(book.worksheets)
+        with zipfile.ZipFile(path) as archive:
+            size = sum(part.file_size for part in archive.infolist())
+        places = Places(path, max(LEAST_PLACES, size))
         names = [page.title for page in pages]
         if sheet and sheet not in names:
             raise UserError(f"{path}: no sheet `{sheet}`: there are "
@@ -44,7 +47,7 @@ def sheets_of(path: str, sheet: str) -> Iterator[tuple[str, pd.DataFrame]]:
         for page in pages:
             if sheet in ("", page.title):
                 with _telling(f"{path}: the sheet `{page.title}`"):
-                    texts = _texts_of(page, path)
+                    texts = _texts_of(page, places)
                 yield page.title, texts
 
 
@@ -61,28 +64,69 @@ def _telling(what: str) -> Iterator[None]:
         raise UserError(f"{what} cannot be read: {told}") from None
 
 
-def _texts_of(page: Any, path: str) -> pd.DataFrame:
+@dataclass
+class Places:
+    """How many places the sheets of a workbook may still have: small files state vast sheets."""
+
+    path: str
+    left: int
+
+    def judge(self, title: str, rows: int, columns: int, count: int) -> None:
+        """Stops at a cell so far from the others that there are more places than are left."""
+        if count > self.left:
+            raise UserError(f"{self.path}: the sheet `{title}` reaches "
+                            f"{cell_name(rows, max(1, columns))}, and most of it is empty: clear "
+                            "the cells far from the others")
+
+
+def _texts_of(page: Any, places: Places) -> pd.DataFrame:
     """The cells of a sheet from A1 on, without empty ones at the ends of rows and of the sheet."""
     is_percent: dict[str, bool] = {}
     page.reset_dimensions()
-    rows = [[_text_of(cell, is_percent) for cell in row] for row in page.iter_rows()]
-    with zipfile.ZipFile(path) as archive:
-        # The library tells by nothing else which part of the archive a sheet is.
-        part = page._worksheet_path  # pylint: disable=protected-access
-        lacking = WITHOUT_VALUE.findall(archive.read(part.lstrip("/")))
-    for letters, number, _ in lacking:
-        rows[int(number) - 1][_column_number(letters.decode()) - 1] = UNCOMPUTED
-    for row in rows:
-        while row and not row[-1]:
-            row.pop()
-    while rows and not rows[-1]:
-        rows.pop()
-    widest = max(range(len(rows)), key=lambda at: len(rows[at]), default=0)
-    if rows and len(rows) * len(rows[widest]) > MOST_PLACES:
-        last = cell_name(widest + 1, len(rows[widest]))
-        raise UserError(f"{path}: the sheet `{page.title}` has {len(rows):,} rows and a cell in "
-                        f"{last}: clear what stands far from the others")
-    return pd.DataFrame(rows, dtype=object).fillna("")
+    rows: list[list[str]] = []
+    seen = widest = height = 0
+    for row in page.iter_rows():
+        texts = _shortened([_text_of(cell, is_percent) for cell in row])
+        rows.append(texts)
+        seen, widest = seen + len(row) + 1, max(widest, len(texts))
+        height = len(rows) if texts else height
+        places.judge(page.title, len(rows), len(row), max(seen, height * widest))
+    places.left -= seen
+    for at, column in _without_value(page, places.path):
+        rows[at] += [""] * (column + 1 - len(rows[at]))
+        rows[at][column] = UNCOMPUTED
+    return pd.DataFrame(_shortened(rows), dtype=object).fillna("")
+
+
+_Cells = TypeVar("_Cells", "list[str]", "list[list[str]]")
+
+
+def _shortened(cells: _Cells) -> _Cells:
+    """Cells or rows without the empty ones at their end."""
+    while cells and not cells[-1]:
+        cells.pop()
+    return cells
+
+
+def _without_value(page: Any, path: str) -> Iterator[tuple[int, int]]:
+    """The row and column, from 0, of each cell with a formula and no value; one of a text may be
+    empty."""
+    row = column = -1
+    # The library tells by nothing else which part of the archive a sheet is.
+    part = page._worksheet_path.lstrip("/")  # pylint: disable=protected-access
+    with zipfile.ZipFile(path) as archive, archive.open(part) as content:
+        for event, node in ElementTree.iterparse(content, ("start", "end")):
+            name = node.tag.rpartition("}")[2]
+            if (event, name) == ("start", "row"):
+                row, column = int(node.get("r", row + 2)) - 1, -1
+            elif (event, name) == ("end", "c"):
+                letters = node.get("r", "").rstrip("0123456789")
+                column = _column_number(letters) - 1 if letters else column + 1
+                parts = {one.tag.rpartition("}")[2]: one.text for one in node}
+                if "f" in parts and not parts.get("v") and node.get("t") != "str":
+                    yield row, column
+            if event == "end" and name in ("c", "row"):
+                node.clear()
 
 
 def _column_number(letters: str) -> int:
@@ -114,6 +158,6 @@ def _text_of(cell: Any, is_percent: dict[str, bool]) -> str:
         text = plain(Decimal(repr(value))) if is_whole else repr(value)
         shown = cell.number_format
         if shown not in is_percent:
-            is_percent[shown] = "%" in re.sub(r'"[^"]*"|\\.|\[[^\]]*\]', "", shown)
+            is_percent[shown] = "%" in LITERAL.sub("", shown)
         return plain(Decimal(text) * 100) + "%" if is_percent[shown] else text
     return value.isoformat() if isinstance(value, (datetime.date, datetime.time)) else str(value)

@@ -260,9 +260,9 @@ def test_a_damaged_workbook_is_read_or_told_in_a_line(here, capsys):
 
 
 def test_a_cell_far_from_all_others_is_told_and_an_empty_one_is_none(here, capsys, monkeypatch):
-    monkeypatch.setattr(workbook, "MOST_PLACES", 1000)
-    (here / "a.xlsx").write_bytes(book_of(EXPORT, ALL3=1.0))
-    assert "has 17 rows and a cell in ALL3: clear" in refused(["import", "a.xlsx", *WORDS], capsys)
+    monkeypatch.setattr(workbook, "LEAST_PLACES", 1000)
+    (here / "a.xlsx").write_bytes(book_of(EXPORT, XFD3=1.0))
+    assert "reaches XFD3, and most of it is empty: clear" in refused(["import", "a.xlsx", *WORDS], capsys)
     (here / "a.xlsx").write_bytes(book_of(EXPORT, ALL3="", A2000=""))
     assert main(["import", "a.xlsx", *WORDS]) == 0
 

@@ -29,10 +29,29 @@ def imported(folder, content, capsys, measures=(), name="export.csv"):
     return status, capsys.readouterr().err.replace(f"{folder}{os.sep}", "")
 
 
-@pytest.mark.parametrize("row, column", [("0,0,20,1e400,1", "T"), ("0,0,20,1000,1e400", "AU")])
-def test_a_number_that_is_too_great_stops_with_its_line(tmp_path, capsys, row, column):
-    status, told = imported(tmp_path, HEAD + ROWS + row + "\n", capsys)
-    assert status == 2 and f"line 18: the column {column} has `1e400`" in told
+@pytest.mark.parametrize("row, column", [("0,0,20,{},1", "T"), ("0,0,20,1000,{}", "AU")])
+@pytest.mark.parametrize("cell", ["1e400", "1e999999999999", "1e4294967297", "1e-4294967297",
+                                  "1e-400", "-1e4294967297", "9007199254740993",
+                                  "0.1e4294967298", "1" * 401])
+def test_a_number_that_no_float_holds_stops_with_its_line(tmp_path, capsys, row, column, cell):
+    status, told = imported(tmp_path, HEAD + ROWS + row.format(cell) + "\n", capsys)
+    assert status == 2 and f"line 18: the column {column} has `{cell[:60]}`" in told
+
+
+@pytest.mark.parametrize("cell", ["0e5", "0.0", "00027.50", "2.75E+001", "2.75e+0000001",
+                                  "27.500000000000000000000000001"])
+def test_a_number_of_many_digits_that_a_float_holds_is_read(tmp_path, capsys, cell):
+    assert imported(tmp_path, HEAD + ROWS + f"0,0,20,1000,{cell}\n", capsys)[0] == 0
+
+
+@pytest.mark.parametrize("rows", [1, 500, 200_000])
+@pytest.mark.parametrize("encoding", ["utf-8", "cp1252", "utf-16"])
+def test_a_zero_byte_stops_with_its_line_wherever_it_stands(tmp_path, capsys, rows, encoding):
+    text = HEAD + ROWS * rows + "0,0,20,1000,27\0\n" + ("0,0,30,1000,1é\n" if encoding == "cp1252"
+                                                         else "")
+    status, told = imported(tmp_path, text.encode(encoding), capsys)
+    assert status == 2
+    assert f"line {2 + 16 * rows}: a zero byte stands behind `0,0,20,1000,27`" in told
 
 
 @pytest.mark.parametrize("measures, what", [
