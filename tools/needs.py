@@ -3,6 +3,7 @@ import os
 import re
 import shutil
 import subprocess
+import tempfile
 from typing import Dict, Iterable, List, NamedTuple, Optional, Tuple
 
 import malloc
@@ -37,7 +38,7 @@ NEEDS = [
     Need(["zsh"], "zsh", "completions"),
     Need(["fish"], "fish", "completions"),
     Need(["groff"], "groff-base", "tools/man-page"),
-    Need(["man"], "man-db", "README: man pitc"),
+    Need(["man"], "man-db", "SECURITY.md: man pitc"),
     Need(["dpkg-deb"], "", "tools/archive: the Debian package"),
     Need(["time"], "time", "the peak memory of a run"),
     Need(["mypy"], "mypy", "tools/lint"),
@@ -46,9 +47,10 @@ NEEDS = [
 ]
 
 # Modules of Python that one interpreter has to have, all of them; Debian's packages begin with python3-. By ensurepip `python3 -m venv`
-# makes the environment in which tools/archive tries the wheel; by nbclient and ipykernel tools/recipes runs notebooks.
+# makes the environment in which tools/archive tries the wheel; by nbclient and ipykernel tools/recipes runs notebooks; by shtab
+# tools/pit-tools-pages makes completions.
 MODULES = ["pandas", "numpy", "scipy", "matplotlib", "openpyxl", "pytest", "distributed", "hypothesis", "ezdxf", "meshio", "tqdm", "nbclient", "ipykernel",
-           "ensurepip"]
+           "ensurepip", "shtab"]
 
 # What no package brings.
 DEVICES = ["/dev/full", "/proc/self/task", "/proc/self/io"]
@@ -87,6 +89,20 @@ def first_with_modules() -> Tuple[Optional[str], Dict[str, List[str]]]:
         if not lacking[python]:
             return python, lacking
     return None, lacking
+
+
+def pages_of_tool() -> Dict[str, bytes]:
+    """The man page and the completions of pit-tools, by the names of their files; none where no interpreter has all modules."""
+    python, _ = first_with_modules()
+    if python is None:
+        return {}
+    with tempfile.TemporaryDirectory() as folder:
+        subprocess.run([python, os.path.join(shared.TOP, "tools/pit-tools-pages"), folder], check=True)
+        found = {}
+        for name in os.listdir(folder):
+            with open(os.path.join(folder, name), "rb") as file:
+                found[name] = file.read()
+        return found
 
 
 def packages_of_modules() -> List[str]:

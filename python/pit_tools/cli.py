@@ -2,6 +2,7 @@
 from __future__ import annotations
 
 import argparse
+import difflib
 import errno
 import importlib
 import io
@@ -9,7 +10,7 @@ import os
 import re
 import sys
 import traceback
-from typing import Optional, Sequence
+from typing import Any, Optional, Sequence
 
 from pit_tools import VERSION, outputs
 from pit_tools.errors import UserError
@@ -52,22 +53,21 @@ FULL = (errno.ENOSPC, errno.EDQUOT, errno.EFBIG)
 #: The word that shows where in the program a fault arose.
 DEBUG = "--debug"
 
+#: What the help says before and after the list of the subcommands.
+ABOUT = "From a mining package's export to an instance of pitc, and back."
+BEHIND = """`pit-tools help COMMAND` prints the options of a command and an example.
+
+The status is 0 when all is done, 1 when a command finds what it calls wrong, 2 when arguments, an
+input or the system refuse, 3 at an error of the program itself, and 130 at Ctrl-C."""
+
+#: How each parser reads and prints.
+FORM: dict[str, Any] = {"allow_abbrev": False,
+                        "formatter_class": argparse.RawDescriptionHelpFormatter}
+
 
 def module_path(command: str) -> str:
     """The module of a subcommand, without its package."""
     return MODULES.get(command, command.replace("-", "_"))
-
-
-def overview() -> str:
-    """The help of `pit-tools` itself."""
-    lines = [f"  {name:15} {told}" for name, told in COMMANDS.items()]
-    return "\n".join(["usage: pit-tools COMMAND ..", "", "From a mining package's export to an "
-                      "instance of pitc, and back.", "", "commands:", *lines, "", "`pit-tools "
-                      "COMMAND --help` has its words and an example; `pit-tools --version` tells "
-                      "the", "version, the interpreter and the packages. With --debug a fault of "
-                      "the program itself is told with", "its place. The status is 0 where all is "
-                      "done, 1 what the command calls wrong, 2 where words, an input", "or the "
-                      "system's answer end it, 3 at a fault of the program, and 130 at Ctrl-C."])
 
 
 def version() -> str:
@@ -86,10 +86,30 @@ def version() -> str:
 
 def parser_of(command: str) -> argparse.ArgumentParser:
     """The parser of a subcommand, by its module."""
+    return _filled(argparse.ArgumentParser(prog=f"pit-tools {command}", **FORM), command)
+
+
+def whole_parser() -> argparse.ArgumentParser:
+    """The parser of all subcommands: the help, the man page and the completions are made from
+    it."""
+    whole = argparse.ArgumentParser(prog="pit-tools", description=ABOUT, epilog=BEHIND, **FORM)
+    whole.add_argument("-V", "--version", action="store_true",
+                       help="print the version, the interpreter and the packages")
+    whole.add_argument(DEBUG, action="store_true",
+                       help="show where in the program an error of its own arose")
+    commands = whole.add_subparsers(title="commands", metavar="COMMAND")
+    for command, told in COMMANDS.items():
+        _filled(commands.add_parser(command, help=told, **FORM), command)
+    about_help = commands.add_parser("help", help="the help of a command", **FORM)
+    about_help.add_argument("command", nargs="?", metavar="COMMAND", choices=list(COMMANDS),
+                            help="which command; without it, all")
+    return whole
+
+
+def _filled(parser: argparse.ArgumentParser, command: str) -> argparse.ArgumentParser:
+    """The parser of a subcommand with its words, by its module."""
     module = importlib.import_module("pit_tools.commands." + module_path(command))
-    parser = argparse.ArgumentParser(
-        prog=f"pit-tools {command}", description=module.HELP, allow_abbrev=False,
-        formatter_class=argparse.RawDescriptionHelpFormatter)
+    parser.description = module.HELP
     module.add_arguments(parser)
     if hasattr(module, "WRITES"):
         parser.add_argument("--force", action="store_true",
@@ -121,20 +141,29 @@ def joined(words: Sequence[str]) -> list[str]:
 
 def run(words: Sequence[str]) -> int:
     """Runs a command line; answers the status."""
-    if not words or words[0] in ("--help", "-h", "help"):
-        print(overview())
+    if words[:1] == ["help"]:
+        words = [*words[1:2], "--help"]
+    if not words or words[0] in ("--help", "-h"):
+        whole_parser().print_help()
         return 0 if words else 2
-    if words[0] == "--version":
+    if words[0] in ("--version", "-V"):
         print(version())
         return 0
     command = words[0]
     if command not in COMMANDS:
-        raise UserError(f"no command `{command}`: `pit-tools --help` lists them")
+        raise UserError(_unknown(command))
     args = parser_of(command).parse_args(joined(words[1:]))
     with outputs.of_command(args.force):
         status = args.run(args)
         _flush()
         return status
+
+
+def _unknown(command: str) -> str:
+    """What is said of a word that is no subcommand, with the nearest one if there is one."""
+    near = difflib.get_close_matches(command, COMMANDS, n=1)
+    question = f"; did you mean `{near[0]}`?" if near else ":"
+    return f"no command `{command}`{question} `pit-tools --help` lists all"
 
 
 def _flush() -> None:

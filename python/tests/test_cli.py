@@ -2,6 +2,7 @@
 folder."""
 import errno
 import os
+import re
 import signal
 import subprocess
 import sys
@@ -144,5 +145,34 @@ def test_ctrl_c_is_quiet():
     assert run.communicate() == (b"", b"") and run.returncode == 130
 
 
-def test_each_status_stands_in_the_help():
-    assert all(f"{status} " in cli.overview() for status in (0, 1, 2, 3, 130))
+def test_each_status_and_command_stands_in_the_help():
+    lines = cli.whole_parser().format_help()
+    assert all(f"{status} " in lines for status in (0, 1, 2, 3, 130))
+    assert re.findall(r"(?m)^    ([a-z-]+)", lines) == [*cli.COMMANDS, "help"]
+
+
+@pytest.mark.parametrize("words, same", [
+    (["help"], ["--help"]), (["help", "--help"], ["-h"]), (["-V"], ["--version"]),
+    *(([["help", command], [command, "--help"]]) for command in ("import", "by-zone", "python"))],
+    ids=lambda words: " ".join(words))
+def test_words_that_print_the_same(words, same):
+    done, other = ran(*words), ran(*same)
+    assert done.returncode == other.returncode == 0
+    assert done.stdout == other.stdout != "" and not done.stderr
+
+
+def test_help_of_a_command_is_its_own(capsys):
+    with pytest.raises(SystemExit):
+        cli.run(["help", "import"])
+    assert capsys.readouterr().out.startswith("usage: pit-tools import ")
+
+
+@pytest.mark.parametrize("words, told", [
+    (["imprt"], "; did you mean `import`? "), (["help", "imprt"], "; did you mean `import`? "),
+    (["checkschedule"], "; did you mean `check-schedule`? "),
+    (["sruvey"], "; did you mean `survey`? "), (["xyzzy"], ": "), (["--colour"], ": ")],
+    ids=" ".join)
+def test_a_mistyped_command_is_told_the_nearest_one(capsys, words, told):
+    assert main(words) == 2
+    assert capsys.readouterr().err == (f"pit-tools: no command `{words[-1]}`{told}`pit-tools "
+                                       "--help` lists all\n")
