@@ -1,9 +1,11 @@
 """What the scripts of tools/ that are written in Python share."""
 import argparse
+import functools
 import glob
 import os
 import shutil
 import subprocess
+import sys
 import tempfile
 import time
 from typing import NamedTuple
@@ -44,11 +46,20 @@ def parser_of(doc):
     return argparse.ArgumentParser(description=doc.split("\n")[0])
 
 
+def built(crate, path):
+    """The whole path of a program. Where there is none the script ends with 2, and says how it is built."""
+    if not os.path.isfile(path) or not os.access(path, os.X_OK):
+        print(f"tools/{os.path.basename(sys.argv[0])}: there is no program {path}; (cd crates/{crate} && rt run -- --help) proves and builds it",
+              file=sys.stderr)
+        sys.exit(2)
+    return os.path.abspath(path)
+
+
 def with_program(doc):
     """The same, where the first word is a built pitc."""
     parser = parser_of(doc)
     help_of_it = "a built pitc, as crates/pitc/out/pitc, which rt run leaves there"
-    parser.add_argument("program", type=os.path.abspath, help=help_of_it)
+    parser.add_argument("program", type=functools.partial(built, "pitc"), help=help_of_it)
     return parser
 
 
@@ -56,7 +67,7 @@ def with_programs(doc):
     """The same, where the second word is a built pitc_thin."""
     parser = with_program(doc)
     help_of_it = "a built pitc_thin, as crates/pitc_thin/out/pitc_thin, which rt run leaves there"
-    parser.add_argument("thin", type=os.path.abspath, help=help_of_it)
+    parser.add_argument("thin", type=functools.partial(built, "pitc_thin"), help=help_of_it)
     return parser
 
 

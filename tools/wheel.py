@@ -20,9 +20,9 @@ import page_recipes
 import shared
 
 METADATA = """Metadata-Version: 2.1
-Name: pitc
+Name: {name}
 Version: {version}
-Summary: Block models of an open pit mine as MineLib instances, from a mining package's export and back to it
+Summary: {summary}
 Author: The Jetburin team
 Classifier: Operating System :: POSIX :: Linux
 Classifier: Programming Language :: Python :: 3
@@ -45,16 +45,27 @@ Tag: {tag}
 OF_CPP = {b"GLIBCXX": (3, 4, 29), b"CXXABI": (1, 3, 13)}
 
 
+# The settings of the same distribution without the programs.
+PYPROJECT = shared.read(os.path.join(shared.TOP, "python/pyproject.toml"))
+
+
+def setting(key):
+    """A setting that is a text."""
+    return re.search(rf'(?m)^{key} = "(.*)"', PYPROJECT)[1]
+
+
+NAME = setting("name")
+
+
 def settings():
-    """What python/pyproject.toml asks of Python and of packages, as lines of METADATA, and its commands."""
-    text = shared.read(os.path.join(shared.TOP, "python/pyproject.toml"))
-    lines = [f"Requires-Dist: {need}" for need in ast.literal_eval(re.search(r"(?ms)^dependencies = (\[.*?\])", text)[1])]
-    for name, needs in re.findall(r"(?m)^(\w+) = (\[.*\])$", text.split("[project.optional-dependencies]\n")[1].split("\n\n")[0]):
+    """What python/pyproject.toml asks of packages, as lines of METADATA, and its commands."""
+    lines = [f"Requires-Dist: {need}" for need in ast.literal_eval(re.search(r"(?ms)^dependencies = (\[.*?\])", PYPROJECT)[1])]
+    for name, needs in re.findall(r"(?m)^(\w+) = (\[.*\])$", PYPROJECT.split("[project.optional-dependencies]\n")[1].split("\n\n")[0]):
         if name != "test":
             lines.append(f"Provides-Extra: {name}")
             lines += [f'Requires-Dist: {need} ; extra == "{name}"' for need in ast.literal_eval(needs)]
-    commands = re.findall(r'(?m)^(\S+) = "(\S+:\S+)"$', text.split("[project.scripts]\n")[1].split("\n\n")[0])
-    return re.search(r'(?m)^requires-python = "(.*)"', text)[1], "\n".join(lines), commands
+    commands = re.findall(r'(?m)^(\S+) = "(\S+:\S+)"$', PYPROJECT.split("[project.scripts]\n")[1].split("\n\n")[0])
+    return "\n".join(lines), commands
 
 
 def summed(text):
@@ -64,14 +75,14 @@ def summed(text):
 
 def files_of(version, tag, programs, below_share, texts):
     """The files of the wheel by their paths: those of its package, of its programs and below share/, and what pip reads."""
-    front, (python, needs, commands) = f"pitc-{version}", settings()
+    front, (needs, commands) = f"{NAME}-{version}", settings()
     package = {path[len("python/"):]: text for path, text in texts.items() if path.startswith("python/pit_tools/")}
     data = {**below_share, **{f"pitc/{path}": text for path, text in texts.items() if not path.startswith("python/")}}
     files = dict(sorted(package.items()))
     files.update({f"{front}.data/scripts/{name}": program for name, program in programs.items()})
     files.update({f"{front}.data/data/share/{path}": text for path, text in sorted(data.items())})
     about = f"{front}.dist-info/"
-    files[about + "METADATA"] = METADATA.format(version=version, python=python, needs=needs).encode()
+    files[about + "METADATA"] = METADATA.format(name=NAME, version=version, summary=setting("description"), python=setting("requires-python"), needs=needs).encode()
     files[about + "WHEEL"] = WHEEL.format(tag=tag).encode()
     files[about + "entry_points.txt"] = "\n".join(["[console_scripts]", *map(" = ".join, commands), ""]).encode()
     lines = [f"{path},{summed(text)},{len(text)}\n" for path, text in files.items()]
@@ -148,6 +159,6 @@ def tried(path, python, programs, below_share):
         if fault := fault_of([os.path.join(shared.TOP, "tools/page-links"), os.path.join(installed, "share/pitc")]):
             wrong.append(f"links of its pages: {fault}")
         wrong += of_commands(installed, folder)
-        if fault := fault_of([*pip, "uninstall", "--yes", "pitc"], env=quiet):
+        if fault := fault_of([*pip, "uninstall", "--yes", NAME], env=quiet):
             return [*wrong, f"it cannot be removed: {fault}"]
         return wrong + [f"removing it leaves {name}" for name in sorted(listed(installed) - before)]

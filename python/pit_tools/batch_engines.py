@@ -92,7 +92,7 @@ def by_dask(address: str) -> Engine:
         import distributed
     except ImportError:
         raise UserError("--scheduler needs Python's package distributed: apt-get install "
-                        "python3-distributed") from None
+                        "--no-install-recommends python3-distributed") from None
 
     def engine(entries: Sequence[Entry], way: Way, build: str) -> Iterator[Union[Made, Failed]]:
         try:

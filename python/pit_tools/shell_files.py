@@ -55,7 +55,8 @@ def _write_dxf(shells: Sequence[Shell], place: str) -> None:
 
 
 def _lacking(what: str, package: str) -> UserError:
-    return UserError(f"{what} needs Python's package {package}: apt-get install python3-{package}")
+    return UserError(f"{what} needs Python's package {package}: apt-get install "
+                     f"--no-install-recommends python3-{package}")
 
 
 def _layers(names: Sequence[str]) -> list[str]:

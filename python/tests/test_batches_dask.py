@@ -101,5 +101,5 @@ def test_a_scheduler_that_is_not_there_is_told(here, capsys):  # noqa: F811
 
 def test_a_python_without_distributed_is_told(monkeypatch):
     monkeypatch.setitem(sys.modules, "distributed", None)
-    with pytest.raises(UserError, match="apt-get install python3-distributed"):
+    with pytest.raises(UserError, match="apt-get install --no-install-recommends python3-distributed"):
         batch_engines.by_dask("tcp://127.0.0.1:1")

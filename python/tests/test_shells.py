@@ -203,7 +203,7 @@ def test_what_is_wrong_is_told_in_a_line(mine, tmp_path, capsys, words, told):
 def test_a_package_that_is_lacking_is_named(mine, capsys, monkeypatch, module, ending):
     monkeypatch.setitem(sys.modules, module, None)
     assert main([*SHELL, "early.pit", "--out", f"pit.{ending}"]) == 2
-    assert f"apt-get install python3-{module.split('.')[0]}" in capsys.readouterr().err
+    assert f"apt-get install --no-install-recommends python3-{module.split('.')[0]}" in capsys.readouterr().err
 
 
 def turned_export() -> str:
