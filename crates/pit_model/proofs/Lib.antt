@@ -1,8 +1,11 @@
 pub mod BandSteps
 pub mod CellFacts
 pub mod Keeps
+pub mod KeyFacts
 pub mod Limits
-mod PartsAdded
+pub mod PartFaults
+pub mod PartsAdded
 pub mod PlanKept
 pub mod PlanLaws
 pub mod PlanSteps
+pub mod Says

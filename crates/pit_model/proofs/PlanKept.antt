@@ -27,6 +27,7 @@ use Rattle.plan_parts.specs.declared.ranges.TheConstants.{MAX_DESTINATIONS, MAX_
 use Rattle.pit_model.proofs.CellFacts.{below, name, named, number, origin, size, tonnes, whole}
 use Rattle.pit_model.proofs.Keeps.{Keeps, answers, either, keeps, past, refuses, step, wide}
 use Rattle.pit_model.proofs.Limits.{All-with_limit, rises}
+use Rattle.pit_model.proofs.PlanLaws.{plan_finished, record_stated}
 use Rattle.pit_model.specs.DestinationRecords.{band_in, bands_in, destination_more, destination_record, rising}
 use Rattle.pit_model.specs.PlanRecords.{bound_in, covers_in, equal_zone, grid_by, is_letter, key_record, limit_record, resource_record, sided_zone, slope_in, zone_more}
 use Rattle.pit_model.specs.PlanKeys.{key_of}
@@ -249,7 +250,7 @@ numbered_kept number s row kept =
 records_kept : (number : ℕ) (s last : Stated) (rows : List (List (List ℕ))) → KeepsStated s → RecordsState number s rows last → KeepsStated last
 records_kept number s last [] kept all = subst KeepsStated (sym all) kept
 records_kept number s last (row ∷ rows) kept (next, states, more) =
-    records_kept (suc number) next last rows ((numbered_kept number s row kept).told next states) more
+    records_kept (suc number) next last rows ((numbered_kept number s row kept).told next ((record_stated number s row).back next states)) more
 
 -- what is whole behind parts in range is a plan
 whole_kept : (s : Stated) (name : Option (List ℕ)) (grid : Option Grid) (periods : Option ℕ) (rate : Option ℤ) (p : PlanParts)
@@ -276,5 +277,6 @@ whole_kept s (Some name) (Some grid) None rate p kept g n r e = absurd cc
 whole_kept s (Some name) (Some grid) (Some periods) None p kept g n r e = absurd cc
 
 pub spelled_plan : (rows : List (List (List ℕ))) (p : PlanParts) → SpellPlan rows p → IsPlan p
-spelled_plan rows p (s, all, whole) =
-    whole_kept s s.name s.grid s.periods s.rate p (records_kept 1 nothing_stated s rows nothing_kept all) refl refl refl whole
+spelled_plan rows p (s, all, are) =
+    whole_kept s s.name s.grid s.periods s.rate p (records_kept 1 nothing_stated s rows nothing_kept all) refl refl refl
+    ((plan_finished s).back p are)

@@ -1,10 +1,12 @@
 pub mod AddedParts
 pub mod DestinationRecords
+pub mod FailedParts
 pub mod FaultText
 pub mod PlanKeys
 pub mod PlanRecords
 pub mod Planned
 pub mod SpelledCells
+pub mod SpelledParts
 pub mod SpelledPlan
 pub mod Stated
 pub mod StatedCells
