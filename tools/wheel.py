@@ -130,8 +130,8 @@ def listed(folder):
 
 
 def of_commands(installed, folder):
-    """What is wrong of the commands with which docs/planners.md begins, run from an installed wheel."""
-    recipes = page_recipes.recipes_of(os.path.join(shared.TOP, "docs/planners.md"))[:2]
+    """What is wrong of the commands of docs/tutorial.md, run from an installed wheel."""
+    recipes = page_recipes.recipes_of(os.path.join(shared.TOP, "docs/tutorial.md"))
     top, cache, apart = (os.path.join(folder, name) for name in ("top", "cache", "apart"))
     shutil.copytree(os.path.join(installed, "share/pitc"), top)
     os.mkdir(apart)
