@@ -4,7 +4,7 @@ import re
 import shutil
 import subprocess
 import tempfile
-from typing import Dict, Iterable, List, NamedTuple, Optional, Tuple
+from typing import Dict, Iterable, List, NamedTuple, Optional, Sequence, Tuple
 
 import malloc
 import shared
@@ -46,16 +46,17 @@ NEEDS = [
     Need(["chromium", "chromium-browser", "google-chrome"], "chromium", "a test of python/: the page of a survey"),
 ]
 
-# Modules of Python that one interpreter has to have, all of them; Debian's packages begin with python3-. By ensurepip `python3 -m venv`
-# makes the environment in which tools/archive tries the wheel; by nbclient and ipykernel tools/recipes runs notebooks; by shtab
-# tools/pit-tools-pages makes completions.
-MODULES = ["pandas", "numpy", "scipy", "matplotlib", "openpyxl", "pytest", "distributed", "hypothesis", "ezdxf", "meshio", "tqdm", "nbclient", "ipykernel",
-           "ensurepip", "shtab"]
+# Modules of Python that pit-tools needs, and with which `./try planner` runs; Debian's packages begin with python3-.
+OF_PIT_TOOLS = ["pandas", "numpy", "scipy", "matplotlib", "openpyxl"]
+
+# Modules that one interpreter must have, all of them. By ensurepip `python3 -m venv` makes the environment in which tools/archive tries the
+# wheel; by nbclient and ipykernel tools/recipes runs notebooks; by shtab tools/pit-tools-pages makes completions.
+MODULES = [*OF_PIT_TOOLS, "pytest", "distributed", "hypothesis", "ezdxf", "meshio", "tqdm", "nbclient", "ipykernel", "ensurepip", "shtab"]
 
 # What no package brings.
 DEVICES = ["/dev/full", "/proc/self/task", "/proc/self/io"]
 
-LOOK = f"import importlib.util as u; print(*[name for name in {MODULES} if not u.find_spec(name)])"
+LOOK = "import importlib.util as u, sys; print(*[name for name in sys.argv[1:] if not u.find_spec(name)])"
 
 
 def is_strict() -> bool:
@@ -75,17 +76,17 @@ def interpreters() -> List[str]:
     return list(dict.fromkeys(path for path in paths if os.access(path, os.X_OK)))
 
 
-def lacking_of(python: str) -> List[str]:
-    """The modules that an interpreter does not have."""
-    done = subprocess.run([python, "-c", LOOK], capture_output=True, text=True)
-    return done.stdout.split() if done.returncode == 0 else MODULES
+def lacking_of(python: str, modules: List[str]) -> List[str]:
+    """Those of these modules that an interpreter does not have."""
+    done = subprocess.run([python, "-c", LOOK, *modules], capture_output=True, text=True)
+    return done.stdout.split() if done.returncode == 0 else modules
 
 
-def first_with_modules() -> Tuple[Optional[str], Dict[str, List[str]]]:
-    """The first interpreter that has all modules, and what those before it lack."""
+def first_with_modules(modules: Sequence[str] = tuple(MODULES)) -> Tuple[Optional[str], Dict[str, List[str]]]:
+    """The first interpreter that has all these modules, and what those before it lack."""
     lacking = {}
     for python in interpreters():
-        lacking[python] = lacking_of(python)
+        lacking[python] = lacking_of(python, list(modules))
         if not lacking[python]:
             return python, lacking
     return None, lacking
@@ -105,9 +106,9 @@ def pages_of_tool() -> Dict[str, bytes]:
         return found
 
 
-def packages_of_modules() -> List[str]:
-    """The packages of Debian that bring all modules."""
-    return [f"python3-{'venv' if name == 'ensurepip' else name}" for name in MODULES]
+def packages_of(modules: Iterable[str]) -> List[str]:
+    """The packages of Debian that bring these modules."""
+    return [f"python3-{'venv' if name == 'ensurepip' else name}" for name in modules]
 
 
 def of_recipes() -> List[str]:
@@ -117,12 +118,20 @@ def of_recipes() -> List[str]:
     return sorted(set(sum(words, [])))
 
 
+def lacking_of_planner() -> Dict[str, Tuple[List[str], str]]:
+    """What `./try planner` lacks, like `lacking`."""
+    found = {need.names[0]: ([need.package], "the pit in a survey") for need in NEEDS if need.package == "g++" and not is_there(need)}
+    if first_with_modules(OF_PIT_TOOLS)[0] is None:
+        found["a python3 with " + ", ".join(OF_PIT_TOOLS)] = (packages_of(OF_PIT_TOOLS), "pit-tools")
+    return found
+
+
 def lacking() -> Dict[str, Tuple[List[str], str]]:
     """What is not there, by its name: the packages that bring it, and what calls it."""
     found = {need.names[0]: (list(filter(None, [need.package])), need.callers) for need in NEEDS if not is_there(need)}
     if first_with_modules()[0] is None:
         callers = "tests of python/, recipes, and tools/archive: the wheel"
-        found["a python3 with " + ", ".join(MODULES)] = (packages_of_modules(), callers)
+        found["a python3 with " + ", ".join(MODULES)] = (packages_of(MODULES), callers)
     known = {name for need in NEEDS for name in need.names} | {"python3"}
     for name in of_recipes():
         if name not in known and not shutil.which(name):
@@ -133,7 +142,12 @@ def lacking() -> Dict[str, Tuple[List[str], str]]:
 
 def packages() -> List[str]:
     """All packages of Debian, as they are installed by hand."""
-    return [need.package for need in NEEDS if need.package] + packages_of_modules()
+    return [need.package for need in NEEDS if need.package] + packages_of(MODULES)
+
+
+def packages_of_planner() -> List[str]:
+    """The packages of Debian with which `./try planner` runs."""
+    return ["g++", *packages_of(OF_PIT_TOOLS)]
 
 
 def left_out(count: int, names: Iterable[str]) -> str:
