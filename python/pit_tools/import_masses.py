@@ -57,6 +57,11 @@ class Masses:
         parts = np.rint(np.where(known, mass, 0) * 10 ** self.fine).astype(np.int64)
         return np.where(known & (parts > 0), parts, -1)
 
+    def rock_volume(self) -> np.ndarray:
+        """Cubic metres of each row's rock: its block's volume, or the share of it. It is called
+        after `tonnes`."""
+        return self.volume if self.share is None else self.volume * np.nan_to_num(self.share)
+
     def by_density(self, density: np.ndarray) -> np.ndarray:
         """Tonnes of each row. Of a percent model the rest of a block is waste, or air beside waste
         of which the share is known; its grade is that of ore and waste together."""

@@ -1,6 +1,7 @@
 """Puts the rows of exports on a grid, leaves out what is no rock, and tells of it."""
 from __future__ import annotations
 
+from collections import Counter
 from decimal import Decimal
 from typing import Optional, Sequence
 
@@ -12,6 +13,7 @@ from pit_tools.errors import UserError
 from pit_tools.export_words import Measure, columns_of
 from pit_tools.gridding import (Axis, Frame, Turn, axis_of, box_told, counts_of, indices,
                                 rotation_of, sizes_of, thousandths, turn_of, turn_told, turned_by)
+from pit_tools.holdings import Holdings
 from pit_tools.import_causes import (causes, dip_of, dip_told, judge_ends, judge_neighbours,
                                      likelier_order)
 from pit_tools.import_doubts import Doubts
@@ -23,19 +25,28 @@ from pit_tools.import_sizes import (Parts, Sizes, judge_own_grid, judge_sizes, p
                                     sizes_of_axes, sizes_told)
 from pit_tools.imported_blocks import Imported
 from pit_tools.plan_file import Grid
+from pit_tools.reconciling import Circumstances, Wanted, compared, statement_of
+from pit_tools.resource_report import Known
 from pit_tools.source import Source
+from pit_tools.units import Measures, grade_unit_of
 from pit_tools.walls import MOST_BENCHES
 
 # The most that pitc takes: kilograms a block, millionths of g/t, zones, the greatest index.
 MOST_KILOGRAMS, MOST_GRADE, MOST_ZONES, MOST_INDEX = 10 ** 9, 10 ** 12, 64, 9999
 
+# Of how many texts of missing cells and zones the rows are told.
+MOST_TOLD = 12
+
 
 class Placing:
     """Puts rows on the grid, leaves out what is no rock, and tells of it."""
 
-    def __init__(self, reading: Reading, sources: list[Source], report: Report) -> None:
+    def __init__(self, reading: Reading, sources: list[Source], report: Report,
+                 wanted: Wanted = Wanted()) -> None:
         self.reading, self.sources, self.report, self.words = (reading, sources, report,
                                                                reading.words)
+        self.wanted = wanted
+        self.part_of: dict[str, str] = {}
         self.turn: Optional[Turn] = None
         self.factors = [1.0, 1.0, 1.0]
         self.sizes: Optional[Sizes] = None
@@ -66,7 +77,8 @@ class Placing:
         self.tell_rows()
         rows = self.without_repeats(rows)
         rows, air = self.without_air(rows)
-        rows = self.one_row_a_block(rows, axes)
+        read, aside = rows, air
+        rows = self.one_row_a_block(rows.drop(columns=["volume", "is_graded"]), axes)
         if self.words.holes:
             rows, air = self.with_holes(rows, air)
         rows, zones = self.zoned(rows)
@@ -75,13 +87,40 @@ class Placing:
             rows, zones = self.split_below(rows, zones, pair, benches)
         self.judge_ranges(rows)
         grid = self.grid(axes)
-        report.facts.append("")
-        self.tell_zones(rows, zones)
+        held = self.holdings(read, aside, grid)
+        report.facts += ["", *held.table(self.measures())]
         self.tell_grid(rows, axes)
         Doubts(rows, air, axes, self.factors, zones, report, self.reading, self.with_cells).look()
         rows = rows[["ix", "iy", "iz", "tonnes", "grade", "zone"]]
-        return Imported(self.words, self.sources, grid, axes, self.frame, zones,
-                        rows.reset_index(drop=True), records, report, benches)
+        found = Imported(self.words, self.sources, grid, axes, self.frame, zones,
+                         rows.reset_index(drop=True), records, report, benches, self.part_of)
+        self.reconcile(found, held)
+        return found
+
+    def reconcile(self, found: Imported, held: Holdings) -> None:
+        """Lays the resource report that was given beside the import, or tells that none was."""
+        wanted, facts = self.wanted, self.report.facts
+        if not (wanted.reports or wanted.expected):
+            facts += ["", "nothing was compared: give --reconcile REPORT, or --expect 'ZONE: 1.975 "
+                      "Mt at 0.226 g/t'"]
+            return
+        measure = self.measure_of("grade")
+        names = self.sources[0].names
+        columns = [" ".join(names[at].split()) for at in measure.formula.columns] if measure else []
+        known = Known(held.names, [*self.words.zone, *(["zone"] if self.words.zones else [])],
+                      columns, measure.unit if measure else "")
+        statement = statement_of(wanted.reports, wanted.expected, known)
+        zones = self.zone_names()
+        lacking = {column: _by_zone(self.reading.missing.get(column, Counter()), zones)
+                   for column in columns}
+        found.reconciliation = compared(
+            statement.rows, held, wanted.tolerance, self.measures(),
+            Circumstances(lacking, self.reading.counts["filtered"]))
+        found.reconciliation.notes += [
+            *(f"taken: {taken}, since the report says no unit" for taken in statement.taken),
+            *([f"not compared: the columns {', '.join(statement.ignored)}"]
+              if statement.ignored else [])]
+        facts += ["", *found.reconciliation.lines()]
 
     def taken(self, name: str) -> Optional[np.ndarray]:
         """A column of what was read, a row for each part of the export's rows; None where it was
@@ -112,7 +151,7 @@ class Placing:
         other = None if self.words.is_merged and self.sizes is None else masses.by_other()
         rows = pd.DataFrame({"ix": places[0], "iy": places[1], "iz": places[2], "tonnes": tonnes,
                              "grade": masses.grade, "zone": self.taken("zone"),
-                             "row": np.arange(len(tonnes))})
+                             "row": np.arange(len(tonnes)), "volume": masses.rock_volume()})
         if other is not None:
             rows["other"] = other
         if self.spot is None and self.words.is_merged:
@@ -535,10 +574,9 @@ class Placing:
         if self.words.where:
             facts.append(f"left out: {counts['filtered']:,} rows by the filter")
         for name, texts in self.reading.missing.items():
-            if set(texts) - {""}:
-                told = ", ".join(f"`{text}`" if text else "empty"
-                                 for text, _ in texts.most_common(4))
-                facts.append(f"missing in {name}: {sum(texts.values()):,} cells ({told})")
+            if any(text for _, text in texts):
+                facts.append(f"missing in {name}: {sum(texts.values()):,} cells: "
+                             f"{self.missing_told(texts)}")
         for name, shown in self.reading.percents.items():
             facts.append(f"{name} is shown in percent: {shown}")
         for (name, _), spelled in self.reading.spellings.items():
@@ -549,6 +587,38 @@ class Placing:
             told = ", ".join(f"`{key}` ({many:,} rows)"
                              for key, many in self.reading.unknown_densities.most_common(5))
             facts.append(f"without a density: {told.replace(chr(9), ' ')}")
+
+    def missing_told(self, texts: Counter[tuple[int, str]]) -> str:
+        """Texts of missing cells, each with the zones of its rows."""
+        names = self.zone_names()
+        found: dict[str, list[str]] = {}
+        for (zone, text), many in texts.most_common(MOST_TOLD):
+            found.setdefault(text, []).append(f"{names.get(zone, 'no zone')} {many:,}")
+        rest = sum(texts.values()) - sum(many for _, many in texts.most_common(MOST_TOLD))
+        parts = [f"{f'`{text}`' if text else 'empty'} in {', '.join(zones)}"
+                 for text, zones in found.items()]
+        return "; ".join(parts) + (f"; {rest:,} others" if rest else "")
+
+    def zone_names(self) -> dict[int, str]:
+        """The names of zones by their numbers in what was read."""
+        return {number: name for name, number in self.reading.zone_numbers.items()}
+
+    def holdings(self, rows: pd.DataFrame, air: pd.DataFrame, grid: Grid) -> Holdings:
+        """What the zones of the export hold, before rows of a block are summed."""
+        names = list(self.reading.zone_numbers)
+        known = rows[rows["zone"] >= 0]
+        zone = known["zone"].to_numpy()
+        counts = np.bincount(air["zone"][air["zone"] >= 0], minlength=len(names))
+        tonnes, grade = (known[key].to_numpy() / 10.0 ** self.reading.fine[key]
+                         for key in ("tonnes", "grade"))
+        return Holdings(names, zone, tonnes, grade, known["volume"].to_numpy(),
+                        (known["ix"].to_numpy(), known["iy"].to_numpy(), known["iz"].to_numpy()),
+                        grid, self.frame, known["is_graded"].to_numpy(),
+                        {name: int(many) for name, many in zip(names, counts)})
+
+    def measures(self) -> Measures:
+        """In what grades are told."""
+        return Measures(grade_unit=grade_unit_of(self.unit_of("grade")))
 
     def without_air(self, rows: pd.DataFrame) -> tuple[pd.DataFrame, pd.DataFrame]:
         """The rows with tonnes, and the others. Rock without a grade is waste, and has grade 0."""
@@ -564,6 +634,7 @@ class Placing:
         else:
             self.report.facts.append(f"kept with grade 0: {int(barren.sum()):,} rows without a "
                                      "grade")
+        rows["is_graded"] = ~barren
         rows.loc[barren, "grade"] = 0
         return rows, air
 
@@ -684,6 +755,7 @@ class Placing:
             raise UserError(f"--below: a zone `{(set(taken) & set(zones)).pop()}` is there "
                             "already: rename it by --zones")
         benches.update({name: min(many, MOST_BENCHES) for name, many in taken.items()})
+        self.part_of.update({name: self.part_of.get(zone, zone) for name in taken})
         codes, firsts = pd.factorize(pd.Series(names))
         if len(firsts) > MOST_ZONES:
             raise UserError(f"--below: {zone} goes down to {max(taken.values())} benches below "
@@ -708,18 +780,6 @@ class Placing:
 
     # What is told.
 
-    def tell_zones(self, rows: pd.DataFrame, zones: Sequence[str]) -> None:
-        """Tells rows, tonnes and the mean grade of each zone."""
-        unit = "a tonne" if self.reading.counts["money"] else "g/t"
-        width = max(map(len, zones))
-        for number, name in enumerate(zones):
-            part = rows[rows["zone"] == number]
-            tonnes = part["tonnes"].to_numpy()
-            mean = (float((tonnes * (part["grade"].to_numpy() / 1e6)).sum() / tonnes.sum())
-                    if tonnes.sum() else 0.0)
-            self.report.facts.append(f"zone {name:{width}}  {len(part):>9,} rows  "
-                                     f"{tonnes.sum() / 1000:>16,.1f} t  mean {mean:.4f} {unit}")
-
     def tell_grid(self, rows: pd.DataFrame, axes: Sequence[Axis]) -> None:
         places = axes[0].places * axes[1].places * axes[2].places
         self.report.facts.append(f"{box_told(axes)} {self.frame.unit}; of its {places:,} places "
@@ -728,6 +788,14 @@ class Placing:
             if axis.beside > axis.step / 1000:
                 self.report.facts.append(f"{name} is put on the grid: rows lie up to "
                                          f"{shortest(axis.beside, 3)} beside it")
+
+
+def _by_zone(texts: Counter[tuple[int, str]], names: dict[int, str]) -> dict[str, int]:
+    """How many cells of a column are missing in each zone."""
+    found: Counter[str] = Counter()
+    for (zone, _), many in texts.items():
+        found[names.get(zone, "")] += many
+    return dict(found)
 
 
 def key_of(rows: pd.DataFrame) -> np.ndarray:

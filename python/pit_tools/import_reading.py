@@ -37,7 +37,8 @@ class Reading:
         self.words = words
         self.pieces: dict[str, list[np.ndarray]] = {}
         self.zone_numbers: dict[str, int] = {}
-        self.missing: dict[str, Counter] = {}
+        # of each column the texts of missing cells, each with the number of its zone
+        self.missing: dict[str, Counter[tuple[int, str]]] = {}
         self.counts: Counter = Counter()
         self.fine = FINE if words.is_merged else {"tonnes": 3, "grade": 6}
         self.source_at = 0
@@ -174,6 +175,7 @@ class Piece:
                  reading: Reading) -> None:
         self.table, self.source, self.columns, self.marks, self.reading = (table, source, columns,
                                                                            marks, reading)
+        self.zone = np.full(len(table), -1, np.int32)
 
     def take(self) -> None:
         """Puts the rows behind those that were read before."""
@@ -186,11 +188,12 @@ class Piece:
         for key in ("x", "y", "z", "i", "j", "k"):
             if key in self.columns.measures:
                 self.reading.keep(**{key: self.place(key)})
+        self.zone = self.zones()
+        self.reading.keep(zone=self.zone)
         self.take_sizes()
         self.take_unnamed()
         self.take_tonnes()
         self.take_grade()
-        self.take_zone()
         self.reading.counts["rows"] += len(self.table)
         self.reading.keep(record=self.table.index.to_numpy(np.int64),
                           file=np.full(len(self.table), self.reading.source_at, np.int16))
@@ -313,8 +316,9 @@ class Piece:
         """Counts the texts that stand for what is missing."""
         if missing.any():
             name = " ".join(self.source.names[column].split())
-            counts = self.table[column][missing].str.strip().value_counts()
-            self.reading.missing.setdefault(name, Counter()).update(counts.to_dict())
+            cells = pd.DataFrame({"zone": self.zone[missing],
+                                  "text": self.table[column][missing].str.strip()})
+            self.reading.missing.setdefault(name, Counter()).update(cells.value_counts().to_dict())
 
     def place(self, key: str) -> np.ndarray:
         """Coordinates in thousandths of their unit, or indices; they are never missing."""
@@ -468,8 +472,8 @@ class Piece:
             self.reading.counts["negative returns"] += int(missing.sum())
         self.reading.keep(grade=np.where(missing, -1, grade))
 
-    def take_zone(self) -> None:
-        """Numbers of zones, -1 where there is none."""
+    def zones(self) -> np.ndarray:
+        """The number of each row's zone, int32, -1 where there is none."""
         if self.columns.zones:
             names = self.found_in(self.columns.zones).fillna("")
         elif self.columns.zone:
@@ -480,7 +484,7 @@ class Piece:
             names = pd.Series("all", index=self.table.index)
         numbers = {name: self.reading.zone_numbers.setdefault(name, len(self.reading.zone_numbers))
                    if name else -1 for name in names.unique()}
-        self.reading.keep(zone=names.map(numbers).to_numpy(np.int32))
+        return names.map(numbers).to_numpy(np.int32)
 
 
 def _number_or_nan(text: str) -> float:

@@ -13,6 +13,7 @@ from pit_tools.export_words import Words
 from pit_tools.gridding import Frame
 from pit_tools.plan_file import Grid
 from pit_tools.plan_note import PlanNote
+from pit_tools.reconciling import Reconciled
 from pit_tools.units import grade_unit_of
 
 
@@ -21,7 +22,7 @@ class ImportedFile:
     """What was imported: the exports and the words by which they were read, the grid with its
     numbers of blocks, the zones with their files, the frame of the export's coordinates, the K of
     zones that are so many benches below another, the sums of the exports, none where an older
-    version wrote it, and what was told, and behind LOOK AT. Paths of zone files are those from
+    version wrote it, what was told, and behind LOOK AT, and the resource report. Paths of zone files are those from
     where BASE.json was read."""
 
     exports: list[str]
@@ -35,6 +36,7 @@ class ImportedFile:
     sums: list[str]
     told: list[str]
     doubts: list[str]
+    reconciled: Reconciled = Reconciled()
 
     @property
     def grade_unit(self) -> str:
@@ -79,7 +81,8 @@ def _imported(told: dict, path: str) -> ImportedFile:
                         {name: index(K) for name, _, K in zones if K},
                         list(map(_text, told.get("sums", []))),
                         list(map(_text, told.get("told", []))),
-                        list(map(_text, told.get("look_at", []))))
+                        list(map(_text, told.get("look_at", []))),
+                        Reconciled.of_record(told.get("reconciled")))
 
 
 def _text(told: object) -> str:

@@ -4,8 +4,10 @@ from __future__ import annotations
 import json
 import os
 import re
-from dataclasses import asdict, dataclass
+from dataclasses import asdict, dataclass, field
+from typing import Optional
 
+import numpy as np
 import pandas as pd
 
 from pit_tools import VERSION, outputs, progress
@@ -15,6 +17,7 @@ from pit_tools.export_words import Words
 from pit_tools.gridding import Axis, Frame
 from pit_tools.import_report import Report
 from pit_tools.plan_file import Grid, Slope, Zone, zone_record
+from pit_tools.reconciling import Reconciled, Reconciliation
 from pit_tools.slope_words import K_for
 from pit_tools.source import Source
 from pit_tools.sums import sum_of
@@ -30,7 +33,8 @@ class Imported:
     `places` has a row for each record of the export that was read, with its file, its record (the
     header being 0) and its ix, iy, iz, so that a pit finds the export's rows again. `grid` is in
     metres, or in feet where the lengths stay in feet. `benches` has the K of zones that are so many
-    benches below another."""
+    benches below another, and `part_of` the zone that each of these was split off. `reconciliation`
+    is a resource report beside what was read, where one was given."""
 
     words: Words
     sources: list[Source]
@@ -42,6 +46,8 @@ class Imported:
     places: pd.DataFrame
     report: Report
     benches: dict[str, int]
+    part_of: dict[str, str] = field(default_factory=dict)
+    reconciliation: Optional[Reconciliation] = None
 
     def zone_rows(self, zone: int) -> pd.DataFrame:
         """The rows of a zone as a zone file has them: x, y, z in millimetres, tonnes in kilograms,
@@ -74,9 +80,30 @@ class Imported:
             names[name] = zone
         return list(names)
 
+    def reconciled(self) -> Reconciled:
+        """What is kept of the resource report, and what the zones hold as they are written."""
+        if self.reconciliation is None:
+            return Reconciled()
+        zone = self.rows["zone"].to_numpy()
+        tonnes = self.rows["tonnes"].to_numpy() / 1000
+        metal = tonnes * (self.rows["grade"].to_numpy() / 1e6)
+        count = len(self.zones)
+        written: dict[str, tuple[int, float, float]] = {}
+        for name, *held in zip(self.zones, *(np.bincount(zone, weights, count) for weights in
+                                             (None, tonnes, metal))):
+            whole = self.part_of.get(name, name)
+            before = written.get(whole, (0, 0.0, 0.0))
+            written[whole] = (before[0] + int(held[0]), before[1] + float(held[1]),
+                              before[2] + float(held[2]))
+        return Reconciled(self.reconciliation.tolerance, self.reconciliation.rows, written,
+                          self.part_of)
+
     def write(self, base: str) -> list[str]:
-        """Writes the zone files, and BASE.json with the words, the grid, the zones, the frame and
-        what was told. It answers the zone files' paths."""
+        """Writes the zone files, and BASE.json with the words, the grid, the zones, the frame, the
+        resource report and what was told. It answers the zone files' paths. It raises UserError,
+        and writes nothing, where zones do not hold what the report says."""
+        if self.reconciliation is not None:
+            self.reconciliation.judge()
         paths = self.file_names(base)
         exports = list(dict.fromkeys(source.path for source in self.sources))
         told = {"tool": f"pit-tools {VERSION}",
@@ -88,7 +115,7 @@ class Imported:
                          "blocks": [axis.places for axis in self.axes]},
                 "zones": [{"name": name, "file": os.path.basename(path),
                            "K": self.benches.get(name)} for name, path in zip(self.zones, paths)],
-                "frame": asdict(self.frame),
+                "frame": asdict(self.frame), "reconciled": self.reconciled().record(),
                 "told": self.report.facts, "look_at": self.report.doubts}
         progress.step("writes zone files")
         with outputs.together(source.path for source in self.sources):

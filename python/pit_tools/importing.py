@@ -20,15 +20,18 @@ from pit_tools.import_reading import Reading, read_export
 from pit_tools.import_report import Report
 from pit_tools.imported_blocks import Imported
 from pit_tools.packages import recognised, told_of, words_by_package
+from pit_tools.reconciling import Wanted
 
-__all__ = ["Imported", "Report", "Words", "import_export"]
+__all__ = ["Imported", "Report", "Wanted", "Words", "import_export"]
 
 
-def import_export(paths: Sequence[str], words: Words) -> Imported:
-    """Reads exports, one behind the other, and puts their rows on one grid.
+def import_export(paths: Sequence[str], words: Words, wanted: Wanted = Wanted()) -> Imported:
+    """Reads exports, one behind the other, puts their rows on one grid, and lays a resource report
+    beside them where one is wanted.
 
     It raises UserError for what cannot be right, with its cause and, where there is one, its line;
-    what may be wrong is told by the report. Nothing is written."""
+    what may be wrong is told by the report, and figures that differ from a resource report by
+    `reconciliation.judge` of the answer. Nothing is written."""
     report = Report()
     has_package = bool(words.package)
     if has_package:
@@ -47,6 +50,6 @@ def import_export(paths: Sequence[str], words: Words) -> Imported:
     if name:
         report.facts.append(told_of(name))
     try:
-        return Placing(reading, sources, report).imported()
+        return Placing(reading, sources, report, wanted).imported()
     except UserError as error:
         raise UserError(f"{error}; {told_of(name)}" if name else str(error)) from None

@@ -13,6 +13,7 @@ from dataclasses import asdict, dataclass, field
 from pit_tools import VERSION, outputs
 from pit_tools.errors import UserError
 from pit_tools.gridding import Frame
+from pit_tools.reconciling import Reconciled
 from pit_tools.sums import sum_of
 from pit_tools.units import Measures
 
@@ -32,7 +33,7 @@ class ZoneSeen:
 class PlanNote:
     """`plan` is the sum of the plan, empty where no note is used, and `why_not` says why one that
     is there is not; `said` has pairs of a record and what it says; `exports` pairs of a file and
-    its sum; `told`, `doubts` and the `frame` of coordinates are of `import`."""
+    its sum; `told`, `doubts`, the `frame` of coordinates and the resource report are of `import`."""
 
     plan: str = ""
     measures: Measures = Measures()
@@ -43,6 +44,7 @@ class PlanNote:
     told: list[str] = field(default_factory=list)
     doubts: list[str] = field(default_factory=list)
     frame: Frame = Frame()
+    reconciled: Reconciled = Reconciled()
     why_not: str = ""
 
     def money_told(self, in_hundredths: int) -> str:
@@ -67,7 +69,7 @@ def sum_or_none(path: str) -> str:
 def write_note(note: PlanNote, plan_path: str) -> str:
     """Writes the note beside the plan, and answers its path."""
     path = path_of_note(plan_path)
-    told = {"tool": f"pit-tools {VERSION}", **asdict(note)}
+    told = {"tool": f"pit-tools {VERSION}", **asdict(note), "reconciled": note.reconciled.record()}
     del told["why_not"]
     with outputs.opened(path, "note of a plan", "utf-8") as file:
         json.dump(told, file, indent=1, ensure_ascii=False)
@@ -101,4 +103,5 @@ def _note_of(told: dict) -> PlanNote:
     zones = [ZoneSeen(str(zone["name"]), str(zone["file"]), str(zone["sum"]))
              for zone in told["zones"]]
     return PlanNote(str(told["plan"]), Measures(**told["measures"]), zones, said, notes, exports,
-                    lines, doubts, Frame.of_record(told["frame"]))
+                    lines, doubts, Frame.of_record(told["frame"]),
+                    Reconciled.of_record(told.get("reconciled")))

@@ -39,6 +39,7 @@ def box(facts: Facts, inputs: Inputs) -> list[Entry]:
                Entry("plan", [f"{record}: {said}" for record, said in note.said]
                      or [",".join(record) for record in facts.plan.records()]),
                Entry("note", note.notes), Entry("import", note.told),
+               Entry("reconciled", list(_reconciled(facts))),
                Entry("import: look at", note.doubts), Entry("inputs", list(_sums(facts, inputs)))]
     return [entry for entry in entries if entry.lines]
 
@@ -56,6 +57,13 @@ def _pit(facts: Facts) -> Iterator[str]:
            "kg are recovered")
     money = measures.currency or "in units of 100 cents"
     yield f"worth {with_commas(measures.money(sums.value), 2)} {money}, of any period"
+
+
+def _reconciled(facts: Facts) -> Iterator[str]:
+    """The resource report beside the instance."""
+    kept = facts.note.reconciled
+    if kept.rows:
+        yield from kept.lines(facts.held, facts.measures)
 
 
 def _sums(facts: Facts, inputs: Inputs) -> Iterator[str]:

@@ -17,6 +17,7 @@ from pit_tools.closure import is_compiled, pit_by_cones
 from pit_tools.cones import Places, reach_along, size_in_millimetres
 from pit_tools.contacts import SIDES, Contacts, contacts_of, differ
 from pit_tools.errors import UserError
+from pit_tools.holdings import Holdings, holdings_of
 from pit_tools.instance import (Blocks, Outline, count_predecessors, read_blocks, read_outline,
                                 remarks_of)
 from pit_tools.plan_file import Plan, read_plan
@@ -281,6 +282,12 @@ class Facts:
     def is_waste_place(self) -> list[bool]:
         """Whether a destination recovers nothing."""
         return [not one.bands for one in self.plan.destinations]
+
+    @cached_property
+    def held(self) -> Holdings:
+        """What the zones hold; those that `import` split are one."""
+        names = self.note.reconciled.names(self.zone_names)
+        return holdings_of(self.blocks, names, self.plan.grid, self.note.frame)
 
     # Where cones and slopes go
 

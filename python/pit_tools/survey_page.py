@@ -23,7 +23,7 @@ table.box th { width: 8.5em; text-align: left; }
 table.box th, table.box td { vertical-align: top; padding: 0.35em 0.7em;
   border-top: 1px solid #dde5ee; }
 table.box td { overflow-wrap: anywhere; } table.box tr:first-child td { font-weight: 600; }
-table.box tr.small td { font: 12.5px/1.45 ui-monospace, monospace; }
+table.box tr.small td { font: 12.5px/1.45 ui-monospace, monospace; white-space: pre-wrap; }
 ul.look { background: #fff6e0; border-left: 5px solid #e0a030; padding: 0.6em 0.6em 0.6em 1.8em; }
 ul.look b { font-weight: 600; color: #7a4a00; }
 ul.note { background: #eef3f8; border-left: 5px solid #4c78a8; padding: 0.6em 0.6em 0.6em 1.8em; }
@@ -35,6 +35,9 @@ canvas { width: 100%; height: 32em; border: 1px solid #ccc; touch-action: none; 
 pre { overflow-x: auto; background: #f7f7f5; padding: 0.8em; font-size: 12.5px; line-height: 1.35; }
 nav a { margin-right: 1em; }
 """
+
+#: Rows of the box in small letters of one width, whose blanks stay.
+SMALL = ("inputs", "plan", "import", "reconciled")
 
 
 def survey_page(facts: Facts, inputs: Inputs, text: str = "", planes: Sequence[Plane] = ()) -> str:
@@ -61,7 +64,7 @@ def survey_page(facts: Facts, inputs: Inputs, text: str = "", planes: Sequence[P
 def _box(facts: Facts, inputs: Inputs) -> str:
     rows = []
     for entry in box(facts, inputs):
-        small = ' class="small"' if entry.name in ("inputs", "plan", "import") else ""
+        small = ' class="small"' if entry.name in SMALL else ""
         lines = "<br>".join(map(escape, entry.lines))
         rows.append(f"<tr{small}><th>{escape(entry.name)}</th><td>{lines}</td></tr>\n")
     return f'<table class="box">\n{"".join(rows)}</table>'

@@ -122,6 +122,16 @@ def _add_contents(parser: argparse.ArgumentParser) -> None:
     rows.add_argument("--merge", action="store_true", help="sum up several rows of one block")
     rows.add_argument("--holes", action="store_true",
                       help="keep rows without tonnes that lie below rock, with 0 tonnes")
+    beside = parser.add_argument_group("what it is compared with")
+    beside.add_argument("--reconcile", action="append", default=[], metavar="REPORT",
+                        help="the package's resource report, as CSV: columns zone, cut-off, tonnes, "
+                        "grade, metal, volume, blocks and extents (xmin, xmax, ..); may be given "
+                        "again")
+    beside.add_argument("--expect", action="append", default=[], metavar="WORDS",
+                        help="or in words, of a zone or the total: 'west: 1.975 Mt at 0.226 g/t, "
+                        "14.35 koz above 0.1 g/t'; may be given again")
+    beside.add_argument("--tolerance", type=float, default=1.0, metavar="PERCENT",
+                        help="how far figures may differ (1)")
     text = parser.add_argument_group("how it is written, where that is not found")
     text.add_argument("--names", default="", metavar="A,B,..",
                       help="the columns of a list without a header")
@@ -141,17 +151,23 @@ def run(args: argparse.Namespace) -> int:
     from dataclasses import fields
 
     from pit_tools import progress
+    from pit_tools.errors import UserError
     from pit_tools.export_words import Words
-    from pit_tools.importing import import_export
+    from pit_tools.importing import Wanted, import_export
 
+    if not 0 <= args.tolerance <= 100:
+        raise UserError(f"--tolerance: {args.tolerance:g} is not from 0 to 100 percent")
     known = {field.name for field in fields(Words)}
     told = {key: value for key, value in vars(args).items() if key in known}
     told["names"] = [name.strip() for name in args.names.split(",")] if args.names else []
     told["separator"] = {"tab": "\t", "\\t": "\t", "blank": " "}.get(args.separator, args.separator)
     with progress.shown("import", 3):
-        imported = import_export(args.exports, Words(**told))
+        imported = import_export(args.exports, Words(**told),
+                                 Wanted(args.reconcile, args.expect, args.tolerance))
         with progress.hidden():
             print(imported.report.text())
+        if imported.reconciliation is not None:
+            imported.reconciliation.judge()
         paths = imported.write(args.base) if args.base else []
     if paths:
         print()

@@ -3,12 +3,14 @@ from __future__ import annotations
 
 import argparse
 import os
-from typing import TYPE_CHECKING, Sequence
+from functools import cached_property
+from typing import TYPE_CHECKING, Iterator, Sequence
 
 if TYPE_CHECKING:
     from pit_tools.contacts import Contacts
     from pit_tools.imported import ImportedFile
-    from pit_tools.plan_file import Zone
+    from pit_tools.instance import Blocks
+    from pit_tools.plan_file import Plan, Zone
     from pit_tools.plan_note import PlanNote
     from pit_tools.plan_words import Told
 
@@ -82,10 +84,13 @@ def run(args: argparse.Namespace) -> int:
     told = {key: value for key, value in vars(args).items() if key in known}
     words = Spoken(**told, grade_unit=imported.grade_unit, x_bearing=imported.x_bearing,
                    K_of=imported.benches)
+    blocks = _Blocks(imported)
     plan, explained = plan_from(words, imported.grid, imported.zones, imported.blocks[2],
-                                lambda zones: _contacts(imported, zones))
+                                blocks.contacts)
     print(explained.text())
     print()
+    for line in blocks.reconciled(plan, explained):
+        print(line)
     if not args.out:
         print(plan.text(), end="")
         return 0
@@ -101,17 +106,45 @@ def run(args: argparse.Namespace) -> int:
     return 0
 
 
-def _contacts(imported: ImportedFile, zones: Sequence[Zone]) -> Contacts:
-    """Where zones of unlike slopes meet, by the blocks of the zone files, where they are there."""
-    from pit_tools.cones import Places, size_in_millimetres
-    from pit_tools.contacts import Contacts, contacts_of, differ
-    from pit_tools.valuation import blocks_of
-    from pit_tools.zone_files import read_zone_files
+class _Blocks:
+    """The blocks of the zone files, which are read where they are needed."""
 
-    if not differ(zones) or not all(map(os.path.exists, imported.files)):
-        return Contacts()
-    blocks = blocks_of(imported.grid, read_zone_files(imported.files))
-    return contacts_of(blocks, zones, size_in_millimetres(imported.grid), Places(blocks))
+    def __init__(self, imported: ImportedFile) -> None:
+        self.imported = imported
+
+    @cached_property
+    def blocks(self) -> Blocks:
+        """The blocks in the order of the zones."""
+        from pit_tools.valuation import blocks_of
+        from pit_tools.zone_files import read_zone_files
+
+        return blocks_of(self.imported.grid, read_zone_files(self.imported.files))
+
+    def contacts(self, zones: Sequence[Zone]) -> Contacts:
+        """Where zones of unlike slopes meet, where the zone files are there."""
+        from pit_tools.cones import Places, size_in_millimetres
+        from pit_tools.contacts import Contacts, contacts_of, differ
+
+        if not differ(zones) or not all(map(os.path.exists, self.imported.files)):
+            return Contacts()
+        return contacts_of(self.blocks, zones, size_in_millimetres(self.imported.grid),
+                           Places(self.blocks))
+
+    def reconciled(self, plan: Plan, explained: Told) -> Iterator[str]:
+        """What zones are worth, where a resource report was laid beside the import. It raises
+        UserError where zone files do not hold what was reconciled."""
+        from pit_tools.holdings import holdings_of
+        from pit_tools.zone_worths import worth_lines
+
+        kept = self.imported.reconciled
+        if not kept.rows:
+            return
+        held = holdings_of(self.blocks, kept.names(self.imported.zones), plan.grid,
+                           self.imported.frame)
+        kept.judge(held, explained.measures, "zone files")
+        yield f"zone files hold what was reconciled, within {kept.tolerance:g} %"
+        yield from worth_lines(plan, self.blocks, held, explained.measures)
+        yield ""
 
 
 def _note(plan_text: str, imported: ImportedFile, explained: Told) -> PlanNote:
@@ -125,4 +158,4 @@ def _note(plan_text: str, imported: ImportedFile, explained: Told) -> PlanNote:
              for name, path in zip(imported.zones, imported.files)]
     return PlanNote(plan_sum, explained.measures, zones, explained.lines, explained.notes,
                     [(path, sum_or_none(path)) for path in imported.exports], imported.told,
-                    imported.doubts, imported.frame)
+                    imported.doubts, imported.frame, imported.reconciled)

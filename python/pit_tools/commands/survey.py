@@ -58,6 +58,8 @@ def _survey(args: argparse.Namespace) -> None:
     from pit_tools.survey_text import survey_text
 
     facts = read_facts(args.plan, args.base, args.zones, args.pit)
+    if facts.note.reconciled.rows:
+        facts.note.reconciled.judge(facts.held, facts.measures, args.base)
     planes = [_plane(facts, text) for text in args.section]
     progress.step("counts")
     text = survey_text(facts)
