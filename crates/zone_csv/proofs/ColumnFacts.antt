@@ -1,18 +1,18 @@
 -- A header's columns are those that it names.
-use Rattle.std.proofs.Common.{◌≡◌, ℕ, zero, suc, ◌+◌, ◌<◌, Bool, true, false, List, [], ◌∷◌, length, arith, refl, sym, ap, subst, Ok, Err}
-use Rattle.std.specs.List.{AllZip}
+use Rattle.std.proofs.Common.{◌≡◌, ℕ, zero, suc, ◌+◌, ◌<◌, Bool, true, false, List, [], ◌∷◌, length, arith, refl, sym, ◌∙◌, ap, subst, Ok, Err}
 use Rattle.std.specs.Prelude.{Result, if◌then◌else◌}
 use Rattle.records.specs.Cells.{trimmed, is_word}
-use Rattle.pit_units.specs.Steps.{◌>>=◌}
 use Rattle.pit_units.proofs.Exactly.{Exactly, each, made, same}
-use Rattle.zone_csv.proofs.RowFacts.{IsOfCell, IsOfRow, here_or_behind, row_of_cell, step_of_row}
-use Rattle.zone_csv.specs.Cell.{trimmed_at}
+use Rattle.zone_csv.proofs.Refuses.{Of, Refuses, fault_is, made_refuses, passes, step}
+use Rattle.zone_csv.specs.Cell.{a_fault, trimmed_at}
 use Rattle.zone_csv.specs.Columns.{all_columns, column_name}
 use Rattle.zone_csv.specs.Header.{columns_of, each_place, one_place, places_in, places_of}
-use Rattle.zone_csv.specs.NamedColumns.{IsFirstUnnamed, NamesColumn, NamesColumns}
+use Rattle.zone_csv.specs.NamedColumns.{IsFirstUnnamed, LacksColumn, NamesColumn, NamesColumns}
 use Rattle.zone_csv.specs.declared.row_fault.Column.{Column}
 use Rattle.zone_csv.specs.declared.row_fault.Column.TheVariants.{X}
 use Rattle.zone_csv.specs.declared.row_fault.RowFault.{RowFault}
+use Rattle.zone_csv.specs.declared.row_fault.RowFaultKind.{RowFaultKind}
+use Rattle.zone_csv.specs.declared.row_fault.RowFaultKind.TheVariants.{MissingColumn, TwiceColumn}
 
 module _ (name : List ℕ) (no_name : is_word [] name ≡ false) where
   abbrev Is : List (List ℕ) → ℕ → Type 0
@@ -100,38 +100,47 @@ module _ (header : List (List ℕ)) where
       (λ places named. record { width = refl; places = named })
       (λ columns named. (columns.places, named.places, λ i. record { width = sym named.width i; places = columns.places }))
 
--- the fault of a header is of its row, and of the first column that it does not name
-place_of_cell : (column : Column) (places : List ℕ) → IsOfCell 1 column (one_place column places)
-place_of_cell column [] = (refl, refl)
-place_of_cell column (place ∷ []) = tt
-place_of_cell column (place ∷ second ∷ more) = (refl, refl)
+-- its fault is of the first column that it does not name
+module _ (header : List (List ℕ)) where
+  abbrev Lacks : Column → RowFaultKind → Type 0
+  Lacks column kind = LacksColumn header (column_name column) kind
 
-made_fails : {A B : Type 0} (r : Result A RowFault) (f : A → B) (fault : RowFault) → (r >>= λ x. Ok (f x)) ≡ Err fault → r ≡ Err fault
-made_fails (Ok x) f fault e = absurd cc
-made_fails (Err other) f fault e = let same : other ≡ fault = cc in ap Err same
+  place_refused : (column : Column)
+      → Refuses (one_place column (places_in header column)) (Of 1 (λ f. (f.column ≡ column) × Lacks column f.kind))
+  place_refused column = by (places_in header column) (found (column_name column) (no_name column) header 0)
+    where
+      Fault : RowFault → Type 0
+      Fault = Of 1 (λ f. (f.column ≡ column) × Lacks column f.kind)
 
-each_refused : (header : List (List ℕ)) (columns : List Column) (fault : RowFault) → each_place header columns ≡ Err fault
-    → IsFirstUnnamed header columns fault.column
-each_refused header [] fault e = absurd cc
-each_refused header (column ∷ columns) fault e =
-    here_or_behind 1 column (one_place column (places_in header column)) _ fault (one_named header column)
-    (place_of_cell column (places_in header column))
-    (λ place e. each_refused header columns fault (made_fails (each_place header columns) (λ places. place ∷ places) fault e)) e
+      by : (ps : List ℕ) → Found (column_name column) (no_name column) header 0 ps → Refuses (one_place column ps) Fault
+      by ps stands = record { told = told ps stands; back = λ f h. back ps stands f.kind h.1.1 ∙ is f h.0 h.1.0 }
+        where
+          told : (ps : List ℕ) → Found (column_name column) (no_name column) header 0 ps → (f : RowFault) → one_place column ps ≡ Err f → Fault f
+          told [] none f e = subst Fault (fault_is (a_fault 1 column MissingColumn) f e) (refl, (refl, none))
+          told (p ∷ []) one f e = absurd cc
+          told (p ∷ second ∷ more) two f e = subst Fault (fault_is (a_fault 1 column TwiceColumn) f e) (refl, (refl, two))
 
-pub header_refused : (header : List (List ℕ)) (fault : RowFault) → columns_of header ≡ Err fault
-    → IsFirstUnnamed header all_columns fault.column
-unfolding columns_of
-header_refused header fault e =
-    each_refused header all_columns fault (made_fails (each_place header all_columns) (λ places. record { width = length header; places = places }) fault e)
+          back : (ps : List ℕ) → Found (column_name column) (no_name column) header 0 ps → (k : RowFaultKind) → Lacks column k
+              → one_place column ps ≡ Err (a_fault 1 column k)
+          back [] none MissingColumn h = refl
+          back [] none TwiceColumn h = absurd (none h.0 h.2)
+          back (p ∷ []) one MissingColumn h = absurd (h one.0 one.2.0)
+          back (p ∷ []) one TwiceColumn h =
+              let first : h.0 ≡ one.0 = one.2.1 h.0 h.2 in
+              let other : h.1 ≡ one.0 = one.2.1 h.1 h.3 in
+              absurd (omega (arith, first, other, h.4))
+          back (p ∷ second ∷ more) two MissingColumn h = absurd (h two.0 two.2)
+          back (p ∷ second ∷ more) two TwiceColumn h = refl
+          back ps stands k h = absurd h
 
-places_of_row : (header : List (List ℕ)) (columns : List Column) → IsOfRow 1 (each_place header columns)
-places_of_row header [] = tt
-places_of_row header (column ∷ columns) =
-    step_of_row 1 (one_place column (places_in header column)) _
-    (row_of_cell 1 column (one_place column (places_in header column)) (place_of_cell column (places_in header column))) (λ place.
-    step_of_row 1 (each_place header columns) _ (places_of_row header columns) (λ places. tt))
+          is : (f : RowFault) → f.row ≡ 1 → f.column ≡ column → ◌≡◌ {A = Result ℕ RowFault} (Err (a_fault 1 column f.kind)) (Err f)
+          is f row at = λ i. Err (record { row = sym row i; column = sym at i; kind = f.kind })
 
-pub fault_of_header : (header : List (List ℕ)) (fault : RowFault) → columns_of header ≡ Err fault → fault.row ≡ 1
-unfolding columns_of
-fault_of_header header fault e =
-    subst (IsOfRow 1) e (step_of_row 1 (each_place header all_columns) _ (places_of_row header all_columns) (λ places. tt))
+  each_refused : (columns : List Column) → Refuses (each_place header columns) (Of 1 (IsFirstUnnamed header columns))
+  each_refused [] = passes 1 []
+  each_refused (column ∷ columns) =
+      step 1 (one_named header column) (place_refused column) (λ place. made_refuses (λ places. place ∷ places) (each_refused columns))
+
+  pub header_refused : Refuses (columns_of header) (Of 1 (IsFirstUnnamed header all_columns))
+  unfolding columns_of
+  header_refused = made_refuses (λ places. record { width = length header; places = places }) (each_refused all_columns)

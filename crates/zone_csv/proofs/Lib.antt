@@ -1,7 +1,8 @@
-pub mod CentroidFacts
-pub mod HeaderFacts
-pub mod RowFacts
-pub mod RefusedRowFacts
-pub mod ZoneFacts
-pub mod ColumnFacts
 pub mod AnsweredAgain
+pub mod CentroidFacts
+pub mod ColumnFacts
+pub mod HeaderFacts
+pub mod RefusedRowFacts
+pub mod Refuses
+pub mod RowFacts
+pub mod ZoneFacts

@@ -1,6 +1,6 @@
 -- What a row's answer tells: that its fault is of its number, and that it states a block exactly where its cells spell the block.
-use Rattle.std.proofs.Common.{◌≡◌, ℕ, ◌*◌, ◌/◌, ◌%◌, ◌^◌, ◌<◌, ◌≤◌, Bool, true, false, List, arith, refl, sym, ◌∙◌, ap, subst, leb-true, ℤ, pos, Ok, Err, inl, inr, min, length}
-use Rattle.std.specs.Prelude.{Result, ◌⊎◌, ◌==◌, nat_le, not, if◌then◌else◌}
+use Rattle.std.proofs.Common.{◌≡◌, ℕ, ◌*◌, ◌/◌, ◌%◌, ◌^◌, ◌<◌, ◌≤◌, Bool, true, false, List, arith, refl, sym, ◌∙◌, ap, subst, leb-true, ℤ, pos, Ok, Err, min, length}
+use Rattle.std.specs.Prelude.{Result, ◌==◌, nat_le, not, if◌then◌else◌}
 use Rattle.std.proofs.Math.Nat.{min-eq_left, mul-div_left}
 use Rattle.std.proofs.lemmas.Bool.{eq-eqb, le-leb, not-false}
 use Rattle.pit_units.proofs.Exactly.{Exactly, as_, counted, done, holds, same, tested, then_}
@@ -74,19 +74,6 @@ pub size_of_cell : (row : ℕ) (column : Column) (decimals most : ℕ) (cell : L
 size_of_cell row column decimals most cell =
     step_faults (λ fault. (fault.row ≡ row) × (fault.column ≡ column)) (number_said row column (decimal_within decimals (pos 0) (pos most) cell)) _
     (number_of_cell row column _) (λ m. tt)
-
--- a fault of a column and of those behind it: the column has nothing; or it does, and the fault is of those behind
-pub here_or_behind : {A B : Type 0} {P : A → Type 0} {Q : Type 0} (row : ℕ) (column : Column) (r : Result A RowFault)
-    (next : A → Result B RowFault) (fault : RowFault) → Exactly r P → IsOfCell row column r → ((x : A) → next x ≡ Err fault → Q)
-    → (r >>= next) ≡ Err fault → ((¬ ((x : A) × P x)) × (fault.column ≡ column)) ⊎ (((x : A) × P x) × Q)
-here_or_behind {A} {B} {P} {Q} row column r next fault all here behind e = by r refl here e
-  where
-    by : (s : Result A RowFault) → r ≡ s → IsOfCell row column s → (s >>= next) ≡ Err fault
-        → ((¬ ((x : A) × P x)) × (fault.column ≡ column)) ⊎ (((x : A) × P x) × Q)
-    by (Ok x) is here e = inr ((x, all.told x is), behind x e)
-    by (Err found) is here e =
-        let same : found ≡ fault = cc in
-        inl (λ spells. absurd (cc (is, all.back spells.0 spells.1)), ap (λ (f : RowFault). f.column) (sym same) ∙ here.1)
 
 index_of_row : (row : ℕ) (column : Column) (axis : Axis) (cell : List ℕ) → IsOfRow row (index_said row column axis cell)
 index_of_row row column axis cell = row_of_cell row column (index_said row column axis cell) (index_of_cell row column axis cell)

@@ -1,31 +1,50 @@
 -- A zone file has the blocks and the fault that its records state, and no others; its blocks are few, and of its zone.
 use Rattle.std.proofs.Common.{◌≡◌, ℕ, ◌+◌, ◌<◌, ◌≤◌, List, [], ◌∷◌, length, arith, refl, sym, ◌∙◌, ap, subst, inl, inr, Ok, Err, Some, None, min}
-use Rattle.std.specs.Prelude.{Result, Option, All, MatchOption, ◌⊎◌, ◌↔◌}
+use Rattle.std.specs.Prelude.{Result, Option, All, MatchOption, ◌⊎◌, ◌↔◌, drop}
 use Rattle.std.specs.Result.{ok_prefix}
 use Rattle.std.proofs.Math.Nat.{min-eq_left}
 use Rattle.std.proofs.lemmas.List.Elements.{All-nil, All-cons}
 use Rattle.records.specs.Records.{records_of}
 use Rattle.plan_parts.specs.declared.block.Block.{Block}
 use Rattle.plan_parts.specs.declared.grid.Grid.{Grid}
-use Rattle.zone_csv.proofs.ColumnFacts.{fault_of_header, header_named}
-use Rattle.zone_csv.proofs.RowFacts.{fault_of_row, row_within, zone_of_row}
+use Rattle.zone_csv.proofs.ColumnFacts.{header_named, header_refused}
+use Rattle.zone_csv.proofs.RefusedRowFacts.{row_refused}
+use Rattle.zone_csv.proofs.RowFacts.{fault_of_row, row_spelled, row_within, zone_of_row}
 use Rattle.zone_csv.specs.Cell.{a_fault}
 use Rattle.zone_csv.specs.Header.{columns_of}
 use Rattle.zone_csv.specs.NamedColumns.{NamesColumns}
+use Rattle.zone_csv.specs.RefusedRow.{HasSizes}
 use Rattle.zone_csv.specs.Row.{row_of}
 use Rattle.zone_csv.specs.Zone.{below_header, blocks_of, fault_of, first_fault, records_say, rows_say}
 use Rattle.zone_csv.specs.ZoneReaderView.{Ahead, ZoneReaderView}
 use Rattle.zone_csv.specs.ZoneKept.{AccountsForRecords, HasFewBlocks, HasOwnBlocks}
-use Rattle.zone_csv.specs.ZoneStates.{HeaderFails, RowsState, ZoneStates, header_record}
+use Rattle.zone_csv.specs.ZoneStates.{RowsState, ZoneFails, ZoneStates, header_record}
 use Rattle.zone_csv.specs.declared.columns.Columns.{Columns}
 use Rattle.zone_csv.specs.declared.row_fault.Column.TheVariants as column
 use Rattle.zone_csv.specs.declared.row_fault.RowFault.{RowFault}
 use Rattle.zone_csv.specs.declared.row_fault.RowFaultKind.TheVariants.{MissingColumn}
 
+-- rows that are read as these blocks, up to the end or this fault, and the records of a file
+abbrev RowsRead : Grid → ℕ → Columns → ℕ → List (List (List ℕ)) → List Block → Option RowFault → Type 0
+RowsRead grid zone columns number [] [] None = Unit {0}
+RowsRead grid zone columns number [] [] (Some fault) = ⊥
+RowsRead grid zone columns number [] (block ∷ blocks) fault = ⊥
+RowsRead grid zone columns number (row ∷ rows) [] None = ⊥
+RowsRead grid zone columns number (row ∷ rows) [] (Some fault) = row_of grid zone columns number row ≡ Err fault
+RowsRead grid zone columns number (row ∷ rows) (block ∷ blocks) fault =
+    (row_of grid zone columns number row ≡ Ok block) × RowsRead grid zone columns (number + 1) rows blocks fault
+
+abbrev ZoneReads : Grid → ℕ → List (List (List ℕ)) → List Block → Option RowFault → Type 0
+ZoneReads grid zone records blocks fault =
+    (columns : Columns) × NamesColumns (header_record records) columns × RowsRead grid zone columns 2 (drop 1 records) blocks fault
+
+abbrev HeaderRefused : List (List (List ℕ)) → List Block → RowFault → Type 0
+HeaderRefused records blocks fault = (blocks ≡ []) × (columns_of (header_record records) ≡ Err fault)
+
 -- what records tell: where there is a fault, it may be the header's
 abbrev pub Tell : Grid → ℕ → List (List (List ℕ)) → List Block → Option RowFault → Type 0
-Tell grid zone records blocks None = ZoneStates grid zone records blocks None
-Tell grid zone records blocks (Some fault) = HeaderFails records blocks fault ⊎ ZoneStates grid zone records blocks (Some fault)
+Tell grid zone records blocks None = ZoneReads grid zone records blocks None
+Tell grid zone records blocks (Some fault) = HeaderRefused records blocks fault ⊎ ZoneReads grid zone records blocks (Some fault)
 
 -- of so many rows from this number on, each has a block, or the fault is of the row behind the blocks
 abbrev Accounts : ℕ → ℕ → Option RowFault → ℕ → Type 0
@@ -53,16 +72,16 @@ module _ (grid : Grid) (zone : ℕ) where
   module _ (columns : Columns) where
     -- rows state what they say
     rows_told : (rows : List (List (List ℕ))) (number : ℕ)
-        → RowsState grid zone columns number rows (ok_prefix (rows_say grid zone columns rows number))
+        → RowsRead grid zone columns number rows (ok_prefix (rows_say grid zone columns rows number))
         (first_fault (rows_say grid zone columns rows number))
     rows_told [] number = tt
     rows_told (row ∷ rows) number =
         by (row_of grid zone columns number row) refl (rows_told rows (number + 1))
       where
         by : (r : Result Block RowFault) → row_of grid zone columns number row ≡ r
-            → RowsState grid zone columns (number + 1) rows
+            → RowsRead grid zone columns (number + 1) rows
             (ok_prefix (rows_say grid zone columns rows (number + 1))) (first_fault (rows_say grid zone columns rows (number + 1)))
-            → RowsState grid zone columns number
+            → RowsRead grid zone columns number
             (row ∷ rows) (ok_prefix (r ∷ rows_say grid zone columns rows (number + 1))) (first_fault (r
             ∷ rows_say grid zone columns rows (number + 1)))
         by (Ok b) states rest = (states, rest)
@@ -70,7 +89,7 @@ module _ (grid : Grid) (zone : ℕ) where
 
     -- and say what they state
     told_rows : (rows : List (List (List ℕ))) (number : ℕ) (blocks : List Block) (fault : Option RowFault)
-        → RowsState grid zone columns number rows blocks fault
+        → RowsRead grid zone columns number rows blocks fault
         → (first_fault (rows_say grid zone columns rows number) ≡ fault) × (ok_prefix (rows_say grid zone columns rows number) ≡ blocks)
     told_rows [] number [] None h = (refl, refl)
     told_rows (row ∷ rows) number [] (Some fault) fails =
@@ -82,7 +101,7 @@ module _ (grid : Grid) (zone : ℕ) where
 
     -- rows that state blocks are few, the blocks are of the zone, and each row has one, up to that of the fault
     rows_kept : (rows : List (List (List ℕ))) (number : ℕ) (blocks : List Block) (fault : Option RowFault) → number ≤ 1000002
-        → RowsState grid zone columns number rows blocks fault
+        → RowsRead grid zone columns number rows blocks fault
         → (length blocks + number ≤ 1000002) × All (λ (b : Block). b.zone ≡ min zone 63) blocks
         × Accounts (length rows) number fault (length blocks)
     rows_kept [] number [] None counted h = (omega (arith, counted), All-nil (λ (b : Block). b.zone ≡ min zone 63), refl)
@@ -110,7 +129,7 @@ module _ (grid : Grid) (zone : ℕ) where
   told (header ∷ rows) = by (columns_of header) refl
     where
       below : (columns : Columns) (blocks : List Block) (fault : Option RowFault) → NamesColumns header columns
-          → RowsState grid zone columns 2 rows blocks fault
+          → RowsRead grid zone columns 2 rows blocks fault
           → Tell grid zone (header ∷ rows) blocks fault
       below columns blocks None named states = (columns, named, states)
       below columns blocks (Some fault) named states = inr (columns, named, states)
@@ -124,7 +143,7 @@ module _ (grid : Grid) (zone : ℕ) where
 
   -- and say what they tell
   stated_records : (records : List (List (List ℕ))) (blocks : List Block) (fault : Option RowFault)
-      → ZoneStates grid zone records blocks fault
+      → ZoneReads grid zone records blocks fault
       → (first_fault (records_say grid zone records) ≡ fault) × (ok_prefix (records_say grid zone records) ≡ blocks)
   stated_records [] blocks fault (columns, named, states) = absurd (no_columns columns named)
   stated_records (header ∷ rows) blocks fault (columns, named, states) =
@@ -140,7 +159,7 @@ module _ (grid : Grid) (zone : ℕ) where
   tell_back (header ∷ rows) blocks (Some fault) (inl (none, fails)) =
       (rw fails refl, rw fails (sym none))
 
-  behind : (records : List (List (List ℕ))) (blocks : List Block) (fault : Option RowFault) → ZoneStates grid zone records blocks fault
+  behind : (records : List (List (List ℕ))) (blocks : List Block) (fault : Option RowFault) → ZoneReads grid zone records blocks fault
       → (length blocks ≤ 1000000) × All (λ (b : Block). b.zone ≡ min zone 63) blocks × IsWhole (length records) fault blocks
   behind [] blocks fault (columns, named, states) = absurd (no_columns columns named)
   behind (header ∷ rows) blocks fault (columns, named, states) =
@@ -159,7 +178,7 @@ module _ (grid : Grid) (zone : ℕ) where
       let few : length blocks ≤ 1000000 = omega (arith, ap length none) in (
         few,
         subst (All (λ (b : Block). b.zone ≡ min zone 63)) (sym none) (All-nil (λ (b : Block). b.zone ≡ min zone 63)),
-        inr (fault_of_header (header_record records) fault fails, none),
+        inr (((header_refused (header_record records)).told fault fails).0, none),
       )
 
 pub zone_told : (grid : Grid) (zone : ℕ) (text : List ℕ)
@@ -167,26 +186,63 @@ pub zone_told : (grid : Grid) (zone : ℕ) (text : List ℕ)
 unfolding blocks_of fault_of
 zone_told grid zone text = told grid zone (records_of text)
 
--- a zone file has these blocks and this fault, or none, exactly where its records tell them
-pub zone_tells : (grid : Grid) (zone : ℕ) (text : List ℕ) (blocks : List Block) (fault : Option RowFault)
-    → ((fault_of grid zone text ≡ fault) × (blocks_of grid zone text ≡ blocks)) ↔ Tell grid zone (records_of text) blocks fault
-unfolding blocks_of fault_of
-zone_tells grid zone text blocks fault = (to, tell_back grid zone (records_of text) blocks fault)
-  where
-    to : (fault_of grid zone text ≡ fault) × (blocks_of grid zone text ≡ blocks) → Tell grid zone (records_of text) blocks fault
-    to h =
-        subst (λ bs. Tell grid zone (records_of text) bs fault) h.1
-        (subst (Tell grid zone (records_of text) (blocks_of grid zone text)) h.0 (zone_told grid zone text))
+-- where the blocks of the grid have sizes, what is read is what is spelled
+module _ (grid : Grid) (zone : ℕ) (sizes : HasSizes grid) (small : zone < 64) where
+  rows_stated : (columns : Columns) (number : ℕ) (rows : List (List (List ℕ))) (blocks : List Block) (fault : Option RowFault)
+      → RowsRead grid zone columns number rows blocks fault ↔ RowsState grid zone columns number rows blocks fault
+  rows_stated columns number [] [] None = (λ h. h, λ h. h)
+  rows_stated columns number [] [] (Some fault) = (λ h. h, λ h. h)
+  rows_stated columns number [] (b ∷ blocks) fault = (λ h. h, λ h. h)
+  rows_stated columns number (row ∷ rows) [] None = (λ h. h, λ h. h)
+  rows_stated columns number (row ∷ rows) [] (Some fault) =
+      let all = row_refused grid zone columns number row sizes in (all.told fault, all.back fault)
+  rows_stated columns number (row ∷ rows) (b ∷ blocks) fault =
+      let here = row_spelled grid zone columns number row sizes.0 sizes.1 sizes.2 small in
+      let more = rows_stated columns (number + 1) rows blocks fault in
+      (λ h. (here.told b h.0, more.0 h.1), λ h. (here.back b h.0, more.1 h.1))
 
--- so a reader that has all of the file to say says just what its records tell
-pub reader_tells : (grid : Grid) (zone : ℕ) (text : List ℕ) (view : ZoneReaderView)
+  -- a zone file has these blocks and no fault, or these and this fault, exactly where its records spell and fail so
+  zone_told_by : (text : List ℕ) (blocks : List Block) (fault : Option RowFault)
+      → ((fault_of grid zone text ≡ fault) × (blocks_of grid zone text ≡ blocks)) ↔ Tell grid zone (records_of text) blocks fault
+  unfolding blocks_of fault_of
+  zone_told_by text blocks fault = (to, tell_back grid zone (records_of text) blocks fault)
+    where
+      to : (fault_of grid zone text ≡ fault) × (blocks_of grid zone text ≡ blocks) → Tell grid zone (records_of text) blocks fault
+      to h =
+          subst (λ bs. Tell grid zone (records_of text) bs fault) h.1
+          (subst (Tell grid zone (records_of text) (blocks_of grid zone text)) h.0 (zone_told grid zone text))
+
+  pub zone_states : (text : List ℕ) (blocks : List Block)
+      → ((fault_of grid zone text ≡ None) × (blocks_of grid zone text ≡ blocks)) ↔ ZoneStates grid zone (records_of text) blocks None
+  zone_states text blocks =
+      let tells = zone_told_by text blocks None in (
+        λ h. let t = tells.0 h in (t.0, t.1, (rows_stated t.0 2 (drop 1 (records_of text)) blocks None).0 t.2),
+        λ h. tells.1 (h.0, h.1, (rows_stated h.0 2 (drop 1 (records_of text)) blocks None).1 h.2),
+      )
+
+  pub zone_fails : (text : List ℕ) (blocks : List Block) (fault : RowFault)
+      → ((fault_of grid zone text ≡ Some fault) × (blocks_of grid zone text ≡ blocks)) ↔ ZoneFails grid zone (records_of text) blocks fault
+  zone_fails text blocks fault = (λ h. to ((zone_told_by text blocks (Some fault)).0 h), λ h. (zone_told_by text blocks (Some fault)).1 (from h))
+    where
+      header : List (List ℕ)
+      header = header_record (records_of text)
+
+      to : Tell grid zone (records_of text) blocks (Some fault) → ZoneFails grid zone (records_of text) blocks fault
+      to (inl (none, fails)) = let h = (header_refused header).told fault fails in inl (none, h.0, h.1)
+      to (inr (columns, named, rows)) = inr (columns, named, (rows_stated columns 2 (drop 1 (records_of text)) blocks (Some fault)).0 rows)
+
+      from : ZoneFails grid zone (records_of text) blocks fault → Tell grid zone (records_of text) blocks (Some fault)
+      from (inl (none, row, first)) = inl (none, (header_refused header).back fault (row, first))
+      from (inr (columns, named, rows)) = inr (columns, named, (rows_stated columns 2 (drop 1 (records_of text)) blocks (Some fault)).1 rows)
+
+-- so a reader that has all of the file to say says just that
+pub reader_says : (grid : Grid) (zone : ℕ) (text : List ℕ) (view : ZoneReaderView)
     → view ≡ Ahead (blocks_of grid zone text) (fault_of grid zone text) → (blocks : List Block) (fault : Option RowFault)
-    → (view ≡ Ahead blocks fault) ↔ Tell grid zone (records_of text) blocks fault
-reader_tells grid zone text view says blocks fault =
-    let tells = zone_tells grid zone text blocks fault in (
-      λ is. let same : Ahead (blocks_of grid zone text) (fault_of grid zone text) ≡ Ahead blocks fault = sym says ∙ is in tells.0 (cc, cc),
-      λ told. let back = tells.1 told in says ∙ (λ i. Ahead (back.1 i) (back.0 i)),
-    )
+    → (view ≡ Ahead blocks fault) ↔ ((fault_of grid zone text ≡ fault) × (blocks_of grid zone text ≡ blocks))
+reader_says grid zone text view says blocks fault = (
+  λ is. let same : Ahead (blocks_of grid zone text) (fault_of grid zone text) ≡ Ahead blocks fault = sym says ∙ is in (cc, cc),
+  λ back. says ∙ (λ i. Ahead (back.1 i) (back.0 i)),
+)
 
 pub zone_kept : (grid : Grid) (zone : ℕ) (text : List ℕ)
     → (length (blocks_of grid zone text) ≤ 1000000) × All (λ (b : Block). b.zone ≡ min zone 63) (blocks_of grid zone text)

@@ -58,36 +58,42 @@ pub fn rows_spell_blocks()
 {}
 
 /// A zone file has these blocks and no fault exactly where its header names the columns, and each record behind it
-/// states the block at its place.
+/// spells the block at its place.
 pub fn zone_files_are_spelled()
     ensures { (grid : AGrid) (zone : ℕ) (text : List ℕ) (blocks : List Block)
+        → HasSizes grid → zone < MAX_ZONES
         → ((fault_of grid zone text ≡ None) × (blocks_of grid zone text ≡ blocks))
         ↔ ZoneStates grid zone (records_of text) blocks None }
 {}
 
-/// A zone file has these blocks and this fault exactly in two cases. Either its header fails with this fault, and there
-/// are no blocks. Or its header names the columns, and the records behind it state these blocks, up to a record that
-/// fails with this fault.
+/// A zone file has these blocks and this fault exactly in two cases. Either the fault is that of the first column that
+/// the header does not name, and there are no blocks. Or the header names the columns, and the records behind it spell
+/// these blocks, up to one that is refused with this fault.
 pub fn zone_faults_are_first()
     ensures { (grid : AGrid) (zone : ℕ) (text : List ℕ) (blocks : List Block) (fault : RowFault)
+        → HasSizes grid → zone < MAX_ZONES
         → ((fault_of grid zone text ≡ Some fault) × (blocks_of grid zone text ≡ blocks))
         ↔ ZoneFails grid zone (records_of text) blocks fault }
 {}
 
-/// A record with a fault spells no block. The fault names the record, and the first column, in their order, whose cell spells
-/// nothing that it may, where the cells of the columns before it spell theirs; or the row as a whole. A header with a fault
-/// names no columns, and the fault names the first of them that it lacks or has twice.
+/// A record has a fault exactly where it is refused as a whole, or at the first column, in their order, whose cell spells
+/// nothing that it may, where the cells of the columns before it spell theirs (`rows`). The fault names the record and the
+/// column, and its kind is that of the first thing that is not so of the cell. Such a record spells no block (`cells`). A
+/// header has a fault exactly where it lacks a column or has it twice, and the fault names the first of them (`headers`).
+/// Such a header names no columns (`columns`).
 pub fn faulty_rows_spell_no_block()
     ensures rows { (grid : AGrid) (zone number : ℕ) (columns : FiveColumns) (row : List (List ℕ))
-        (fault : RowFault) → HasSizes grid → row_of grid zone columns number row ≡ Err fault
-        → (fault.row ≡ number) × IsRefusedAt grid columns number row fault }
+        (fault : RowFault) → HasSizes grid → (row_of grid zone columns number row ≡ Err fault)
+        ↔ ((fault.row ≡ number) × IsRefusedAt grid columns number row fault) }
     ensures cells { (grid : AGrid) (zone number : ℕ) (columns : FiveColumns) (row : List (List ℕ))
         (block : Block) (fault : RowFault) → HasSizes grid
         → row_of grid zone columns number row ≡ Err fault
         → ¬ (SpellsBlock grid zone columns number row block) }
-    ensures headers { (header : List (List ℕ)) (columns : FiveColumns) (fault : RowFault)
-        → columns_of header ≡ Err fault → (fault.row ≡ 1)
-        × IsFirstUnnamed header all_columns fault.column × (¬ (NamesColumns header columns)) }
+    ensures headers { (header : List (List ℕ)) (fault : RowFault)
+        → (columns_of header ≡ Err fault)
+        ↔ ((fault.row ≡ 1) × IsFirstUnnamed header all_columns fault) }
+    ensures columns { (header : List (List ℕ)) (columns : FiveColumns) (fault : RowFault)
+        → columns_of header ≡ Err fault → ¬ (NamesColumns header columns) }
 {}
 
 /// A reader that answered the end of its file, its fault or want of memory answers the same when it is asked again.
