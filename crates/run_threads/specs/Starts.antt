@@ -16,7 +16,7 @@ pub record StartsView : Type 0 where
 abbrev pub none_spent : ℕ → StartsView
 none_spent allowed = record { allowed = allowed; spent = 0; readers = 0; joined = 0; refused = false }
 
--- so many threads were started, each of them was joined, and no start was refused
+-- so many threads were started, and no start was refused; that each was joined says `AreSettled`
 abbrev pub AreSpent : ℕ → StartsView → Type 0
 AreSpent count starts = (starts.spent ≡ count) × (starts.refused ≡ false)
 
