@@ -89,7 +89,7 @@ class Holdings:
         """The least and the largest coordinate of centroids along each axis, in the export's own
         coordinates; None where there is no row."""
         rows = self.rows_of(zone)
-        if not len(rows):
+        if len(rows) == 0:
             return None
         places = [index[rows] for index in self.index]
         if self.frame.turn is None:

@@ -22,7 +22,7 @@ class ImportedFile:
     """What was imported: the exports and the words by which they were read, the grid with its
     numbers of blocks, the zones with their files, the frame of the export's coordinates, the K of
     zones that are so many benches below another, the sums of the exports, none where an older
-    version wrote it, what was told, and behind LOOK AT, and the resource report. Paths of zone files are those from
+    version wrote it, what was told, and behind LOOK AT, the resource report, and how many benches have rock. Paths of zone files are those from
     where BASE.json was read."""
 
     exports: list[str]
@@ -37,6 +37,7 @@ class ImportedFile:
     told: list[str]
     doubts: list[str]
     reconciled: Reconciled = Reconciled()
+    rock_benches: int = 0
 
     @property
     def grade_unit(self) -> str:
@@ -82,7 +83,8 @@ def _imported(told: dict, path: str) -> ImportedFile:
                         list(map(_text, told.get("sums", []))),
                         list(map(_text, told.get("told", []))),
                         list(map(_text, told.get("look_at", []))),
-                        Reconciled.of_record(told.get("reconciled")))
+                        Reconciled.of_record(told.get("reconciled")),
+                        index(told["grid"].get("rock_benches", high)))
 
 
 def _text(told: object) -> str:

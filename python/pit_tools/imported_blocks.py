@@ -61,11 +61,17 @@ class Imported:
         return pd.DataFrame({**columns, "tonnes": found["tonnes"].to_numpy(),
                              "grade": found["grade"].to_numpy()})
 
+    @property
+    def rock_benches(self) -> int:
+        """How many benches there are from the lowest row to the highest: those of air are not rows
+        of a zone file."""
+        return int(np.ptp(self.rows["iz"].to_numpy())) + 1
+
     def records(self) -> list[str]:
         """The records `grid` and `zone` of a plan, the zones in their order, with slopes of 45
         degrees and the K to take for them."""
         grid = ",".join(["grid", *map(plain, (*self.grid.origin, *self.grid.size))])
-        K = K_for(self.axes[2].places)
+        K = K_for(self.rock_benches)
         return [grid, *(",".join(zone_record(Zone((Slope(1, 1),) * 4, self.benches.get(name, K))))
                         for name in self.zones)]
 
@@ -112,7 +118,8 @@ class Imported:
                           if value not in ("", (), [], None, False)},
                 "grid": {"origin": [plain(value) for value in self.grid.origin],
                          "size": [plain(value) for value in self.grid.size],
-                         "blocks": [axis.places for axis in self.axes]},
+                         "blocks": [axis.places for axis in self.axes],
+                         "rock_benches": self.rock_benches},
                 "zones": [{"name": name, "file": os.path.basename(path),
                            "K": self.benches.get(name)} for name, path in zip(self.zones, paths)],
                 "frame": asdict(self.frame), "reconciled": self.reconciled().record(),

@@ -33,7 +33,8 @@ class ZoneSeen:
 class PlanNote:
     """`plan` is the sum of the plan, empty where no note is used, and `why_not` says why one that
     is there is not; `said` has pairs of a record and what it says; `exports` pairs of a file and
-    its sum; `told`, `doubts`, the `frame` of coordinates and the resource report are of `import`."""
+    its sum; `told`, `doubts`, the `frame` of coordinates and the resource report are of `import`;
+    `benches` are those for which slopes were judged, 0 where it is not known."""
 
     plan: str = ""
     measures: Measures = Measures()
@@ -45,6 +46,7 @@ class PlanNote:
     doubts: list[str] = field(default_factory=list)
     frame: Frame = Frame()
     reconciled: Reconciled = Reconciled()
+    benches: int = 0
     why_not: str = ""
 
     def money_told(self, in_hundredths: int) -> str:
@@ -104,4 +106,4 @@ def _note_of(told: dict) -> PlanNote:
              for zone in told["zones"]]
     return PlanNote(str(told["plan"]), Measures(**told["measures"]), zones, said, notes, exports,
                     lines, doubts, Frame.of_record(told["frame"]),
-                    Reconciled.of_record(told.get("reconciled")))
+                    Reconciled.of_record(told.get("reconciled")), int(told.get("benches", 0)))

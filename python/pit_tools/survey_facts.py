@@ -298,8 +298,9 @@ class Facts:
 
     @cached_property
     def slopes(self) -> Judgement:
-        """What is to be said of the slopes and the K of the plan, for pits as high as the model."""
-        benches = self.axes[2].most - self.axes[2].least + 1
+        """What is to be said of the slopes and the K of the plan, for pits as high as `plan` judged
+        them, or as the model."""
+        benches = self.note.benches or self.axes[2].most - self.axes[2].least + 1
         return judge(self.plan.grid, self.plan.zones, self.zone_names, benches,
                      contacts=self.contacts)
 

@@ -187,11 +187,13 @@ def square(width: int, height: int) -> Grid:
 
 
 def test_plan_slopes_and_survey_say_the_same(tmp_path, capsys, monkeypatch):
-    """Of one model: whole blocks are the same note for all, and a small K the same line to look
-    at."""
+    """Of one model below two benches of air: whole blocks are the same note for all, and a small K the
+    same line to look at."""
     monkeypatch.chdir(tmp_path)
     rows = [f"{20 * x},{20 * y},{10 * z},10800,{3 if (x, y, z) == (4, 4, 0) else 0},{x // 5}"
             for x in range(9) for y in range(9) for z in range(7)]
+    rows += [f"{20 * x},{20 * y},{10 * z},-99,-99,0" for x in range(9) for y in range(9)
+             for z in (7, 8)]
     (tmp_path / "export.csv").write_text("\n".join(["x,y,z,t,g,zone", *rows]) + "\n")
     words = [arg for name in "xyz" for arg in (f"--{name}", name)]
     assert main(["import", "export.csv", *words, "--tonnes", "t", "--grade", "g", "--zone", "zone",
@@ -203,7 +205,7 @@ def test_plan_slopes_and_survey_say_the_same(tmp_path, capsys, monkeypatch):
                      "recovery 92 %, cost 16 USD/t", "--dump", "cost 2 USD/t", "--slope", "40",
                      *K]) == 0
         plan = capsys.readouterr().out
-        assert main(["slopes", f"{name}.plan", "--benches", "7", "--brief"]) == 0
+        assert main(["slopes", f"{name}.plan", "--brief"]) == 0
         slopes = capsys.readouterr().out
         mines.quickly_compiled(tmp_path, (tmp_path / f"{name}.plan").read_text(),
                                [(tmp_path / f"from-{zone}.csv").read_text() for zone in (0, 1)],

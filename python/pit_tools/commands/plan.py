@@ -85,8 +85,8 @@ def run(args: argparse.Namespace) -> int:
     words = Spoken(**told, grade_unit=imported.grade_unit, x_bearing=imported.x_bearing,
                    K_of=imported.benches)
     blocks = _Blocks(imported)
-    plan, explained = plan_from(words, imported.grid, imported.zones, imported.blocks[2],
-                                blocks.contacts)
+    plan, explained = plan_from(words, imported.grid, imported.zones,
+                                imported.rock_benches, blocks.contacts)
     print(explained.text())
     print()
     for line in blocks.reconciled(plan, explained):
@@ -98,7 +98,9 @@ def run(args: argparse.Namespace) -> int:
     with outputs.together():
         with outputs.opened(args.out, "plan", "ascii") as file:
             file.write(plan.text())
-        note = write_note(_note(plan.text(), imported, explained), args.out) if is_file else None
+        note = write_note(_note(plan.text(), imported, explained,
+                                words.benches or imported.rock_benches),
+                          args.out) if is_file else None
     if note:
         print(f"written: {note}, by which survey, pit and report know units and names")
     print(f"written: {args.out}; the instance comes by")
@@ -147,7 +149,7 @@ class _Blocks:
         yield ""
 
 
-def _note(plan_text: str, imported: ImportedFile, explained: Told) -> PlanNote:
+def _note(plan_text: str, imported: ImportedFile, explained: Told, benches: int) -> PlanNote:
     import hashlib
 
     from pit_tools.plan_note import PlanNote, ZoneSeen, sum_or_none
@@ -158,4 +160,4 @@ def _note(plan_text: str, imported: ImportedFile, explained: Told) -> PlanNote:
              for name, path in zip(imported.zones, imported.files)]
     return PlanNote(plan_sum, explained.measures, zones, explained.lines, explained.notes,
                     [(path, sum_or_none(path)) for path in imported.exports], imported.told,
-                    imported.doubts, imported.frame, imported.reconciled)
+                    imported.doubts, imported.frame, imported.reconciled, benches)

@@ -20,7 +20,7 @@ For each zone it tells, by bearing (+y is north),
 - by how many degrees walls are too steep in the worst bearing, by K and rise;
 
 and then, for all zones together, the K to take for a mine of as many benches as --benches says, as
-`plan` and `survey` do: LOOK AT where the plan's K is too small, and NOTE where no K is enough.
+`plan` and `survey` do, or as the note that `plan` left beside PLAN has: LOOK AT where the plan's K is too small, and NOTE where no K is enough.
 
 PLAN may be a plan that has `grid` and `zone` records alone. A greater K never makes a wall steeper.
 A straight wall is asked at atan(1 / |(ux q/p, uy q/p)|), the pit of one block at
@@ -46,6 +46,7 @@ def run(args: argparse.Namespace) -> int:
     from pit_tools.errors import UserError
     from pit_tools.formats import MOST_HEIGHT
     from pit_tools.plan_file import grid_and_zones
+    from pit_tools.plan_note import read_note
 
     if not 0 <= args.benches <= MOST_HEIGHT:
         raise UserError(f"--benches: `{args.benches}` is no height of a mine")
@@ -64,8 +65,12 @@ def run(args: argparse.Namespace) -> int:
         _print_pit_of_one_block(grid, zone, args.decimals)
         _print_walls(grid, zone, args.K or zone.benches, args.decimals)
         _print_by_K_and_rise(grid, zone)
-    for benches in [args.benches] if args.benches else (5, 10, 20, 40):
-        _print_judgement(grid, zones, benches, args.within)
+    note = read_note(args.plan)
+    names = [zone.name for zone in note.zones]
+    names = names if len(names) == len(zones) else list(map(str, range(len(zones))))
+    given = args.benches or note.benches
+    for benches in [given] if given else (5, 10, 20, 40):
+        _print_judgement(grid, zones, names, benches, args.within)
     return 0
 
 
@@ -109,10 +114,11 @@ def _print_by_K_and_rise(grid: Grid, zone: Zone) -> None:
         print(f"{f'K = {K}':>14}{row}" + ("  the plan's K" if K == zone.benches else ""))
 
 
-def _print_judgement(grid: Grid, zones: Sequence[Zone], benches: int, within: float) -> None:
+def _print_judgement(grid: Grid, zones: Sequence[Zone], names: Sequence[str], benches: int,
+                     within: float) -> None:
     from pit_tools.slope_words import judge
 
-    judged = judge(grid, zones, list(map(str, range(len(zones)))), benches, within)
+    judged = judge(grid, zones, names, benches, within)
     print(f"\nin a mine of {benches} benches take K = {max(judged.K)}")
     for head, told in (("LOOK AT", judged.look_at), ("NOTE", judged.notes)):
         for line in told:
