@@ -5,8 +5,9 @@ from typing import Any, Optional
 
 from pit_tools.closure import ultimate_pit
 from pit_tools.commands.lp import fewer_arcs
-from pit_tools.instance import Instance, cents, present
+from pit_tools.instance import Instance, present
 from pit_tools.programs import program_of, solve
+from pit_tools.spelling import multiples_of
 
 
 def bounds_of(mine: Instance, seconds: Optional[float] = None) -> dict[str, Optional[float]]:
@@ -17,9 +18,10 @@ def bounds_of(mine: Instance, seconds: Optional[float] = None) -> dict[str, Opti
     """
     values = present(mine.upit, "UPIT").values
     precedence: Any = present(mine.precedence, "precedence file")
-    worth, in_pit = cents(values), ultimate_pit(values, precedence)
-    found: dict[str, Optional[float]] = {"all values above 0": int(worth[worth > 0].sum()) / 100,
-                                         "the ultimate pit": int(worth[in_pit].sum()) / 100}
+    (worth, decimals), in_pit = multiples_of(values), ultimate_pit(values, precedence)
+    found: dict[str, Optional[float]] = {
+        name: int(worth[taken].sum()) / 10**decimals
+        for name, taken in (("all values above 0", worth > 0), ("the ultimate pit", in_pit))}
     fewer = fewer_arcs(precedence)
     for problem in filter(None, (mine.cpit, mine.pcpsp)):
         answer = solve(program_of(problem, fewer, relaxed=True), seconds)

@@ -1,8 +1,8 @@
 // The ultimate pit as a closure of greatest value, by pseudoflow with lowest labels first (Hochbaum 2008). It needs no library:
 // closure.py compiles it as a shared one, and calls the functions at the end.
 //
-// Blocks stand in trees. What a block is worth, in cents, flows along the arcs to those that it waits for, and is gathered at the
-// root of its tree. A tree whose root has cents left is strong: it looks for an arc from one of its blocks to a weak tree, and hangs
+// Blocks stand in trees. What a block is worth, in whole units, flows along the arcs to those that it waits for, and is gathered at the
+// root of its tree. A tree whose root has some left is strong: it looks for an arc from one of its blocks to a weak tree, and hangs
 // itself there. Strong trees that find no such arc are the pit.
 #include <algorithm>
 #include <cstdint>
@@ -12,7 +12,7 @@
 namespace {
 
 using Block = std::int32_t;
-using Cents = std::int64_t;
+using Units = std::int64_t;
 constexpr Block NONE = -1;
 
 // The blocks that block b waits for: above[starts[b]] up to above[starts[b + 1]].
@@ -22,8 +22,8 @@ struct Arcs {
 };
 
 struct Node {
-    Cents excess;              // of a root: what is left of its tree
-    Cents flow = 0;            // on the arc between a block and its parent
+    Units excess;              // of a root: what is left of its tree
+    Units flow = 0;            // on the arc between a block and its parent
     Block parent = NONE;
     Block first_child = NONE, older = NONE, younger = NONE;  // siblings are a list in both directions
     Block to_scan = NONE;      // the next child to look at
@@ -34,7 +34,7 @@ struct Node {
 
 class Forest {
 public:
-    Forest(std::size_t count, const Cents *values, Arcs arcs) : arcs(arcs), nodes(count), at_label(2), strong(2) {
+    Forest(std::size_t count, const Units *values, Arcs arcs) : arcs(arcs), nodes(count), at_label(2), strong(2) {
         for (std::size_t block = 0; block < count; block++) {
             Node &node = nodes[block];
             node.excess = values[block];
@@ -135,7 +135,7 @@ private:
     // Makes `block` the root of its tree, and hangs it under `weak`, for which it waits.
     void hang(Block block, Block weak) {
         Block child = block, parent = weak;
-        Cents flow = 0;
+        Units flow = 0;
         bool waits = true;
         while (child != NONE) {
             const Block above = nodes[child].parent;
@@ -154,7 +154,7 @@ private:
             Node &node = nodes[block];
             Node &parent = nodes[node.parent];
             const Block above = node.parent;
-            const Cents goes = node.waits_for_parent ? node.excess : std::min(node.excess, node.flow);
+            const Units goes = node.waits_for_parent ? node.excess : std::min(node.excess, node.flow);
             node.flow += node.waits_for_parent ? goes : -goes;
             node.excess -= goes;
             const bool was_strong = parent.excess > 0;
@@ -285,7 +285,7 @@ private:
     }
 };
 
-int find(std::int64_t count, const Cents *values, Arcs arcs, std::uint8_t *in_pit) {
+int find(std::int64_t count, const Units *values, Arcs arcs, std::uint8_t *in_pit) {
     Forest forest(count, values, arcs);
     forest.grow_all();
     forest.mark(in_pit);
@@ -297,8 +297,8 @@ int find(std::int64_t count, const Cents *values, Arcs arcs, std::uint8_t *in_pi
 // Each answers 0, or 1 where memory was refused.
 extern "C" {
 
-// The pit of blocks by their values in cents and by all arcs: in_pit[b] is 1 or 0.
-int closure(std::int64_t count, const Cents *values, const std::int64_t *starts, const Block *above, std::uint8_t *in_pit) try {
+// The pit of blocks by their values in whole units and by all arcs: in_pit[b] is 1 or 0.
+int closure(std::int64_t count, const Units *values, const std::int64_t *starts, const Block *above, std::uint8_t *in_pit) try {
     return find(count, values, {starts, above}, in_pit);
 } catch (const std::bad_alloc &) {
     return 1;
@@ -307,7 +307,7 @@ int closure(std::int64_t count, const Cents *values, const std::int64_t *starts,
 // The same of blocks at places of a box, whose arcs follow from the cones of their zones. shape is that of the box along x, y and z;
 // places has the block of each place, x fastest, or -1; xyz the place of each block. Offsets of zone a are those from bounds[a] up to
 // bounds[a + 1]. *arcs is how many arcs were left that no others imply.
-int closure_of_cones(std::int64_t count, const Cents *values, const std::int32_t *shape, const Block *places, const std::int32_t *xyz,
+int closure_of_cones(std::int64_t count, const Units *values, const std::int32_t *shape, const Block *places, const std::int32_t *xyz,
                      const std::int32_t *zones, std::int32_t zone_count, const std::int64_t *bounds, const std::int32_t *offsets,
                      std::uint8_t *in_pit, std::int64_t *arcs) try {
     std::vector<Cone> cones;
@@ -321,16 +321,29 @@ int closure_of_cones(std::int64_t count, const Cents *values, const std::int32_t
     return 1;
 }
 
-// Marks the arcs that others imply, those to a predecessor of a predecessor: kept[a] is 0 for them, else 1. The predecessors of a block
-// have to rise, and a block's identifier to be less than theirs.
+// Marks the arcs that stay: kept[a] is 0 where the predecessor is one of another predecessor of the block too, else 1. The predecessors
+// of a block have to rise, and a block's identifier to be less than theirs.
+//
+// The lists of predecessors that stay so far are gone through whole, and drop most others. In the lists of these only the few that still
+// stay are looked for.
 int immediate(std::int64_t count, const std::int64_t *starts, const Block *above, std::uint8_t *kept) try {
     std::vector<Block> implied_by(count, NONE);
+    std::vector<std::int64_t> staying;
     for (Block block = 0; block < count; block++) {
+        staying.clear();
         for (std::int64_t arc = starts[block]; arc < starts[block + 1]; arc++) {
             const Block next = above[arc];
             kept[arc] = implied_by[next] != block;
             if (!kept[arc]) continue;
+            staying.push_back(arc);
             for (std::int64_t far = starts[next]; far < starts[next + 1]; far++) implied_by[above[far]] = block;
+        }
+        for (std::int64_t arc = starts[block]; arc < starts[block + 1]; arc++) {
+            if (kept[arc]) continue;
+            const Block *first = above + starts[above[arc]], *end = above + starts[above[arc] + 1];
+            for (auto at = staying.rbegin(); at != staying.rend() && first != end && above[*at] >= *first; ++at) {
+                if (kept[*at] && std::binary_search(first, end, above[*at])) kept[*at] = 0;
+            }
         }
     }
     return 0;

@@ -5,8 +5,8 @@
 
 A program of C++ (compiled.py) finds it: a million blocks at K = 1 in a second or two. Where there
 is no compiler, HiGHS of scipy solves the linear program, which takes minutes beyond some ten
-thousand blocks. Both are exact: values are counted in cents. Of several pits of greatest value the
-smallest is taken by the program; HiGHS may take another.
+thousand blocks. Both are exact: values are counted by their finest decimal, the sixth at the most.
+Of several pits of greatest value the program takes the smallest; HiGHS may take another.
 """
 from __future__ import annotations
 
@@ -18,8 +18,9 @@ from scipy import optimize, sparse
 from pit_tools.compiled import library
 from pit_tools.cones import Places, cone_offsets, precedence_of, size_in_millimetres
 from pit_tools.errors import UserError
-from pit_tools.instance import Blocks, cents
+from pit_tools.instance import Blocks, arcs_of
 from pit_tools.plan_file import Plan
+from pit_tools.spelling import multiples_of
 
 #: Arcs up to which HiGHS is asked where there is no compiler.
 MOST_ARCS_OF_HIGHS = 2_000_000
@@ -39,14 +40,14 @@ def _called(function: str, *arguments: object) -> None:
         raise UserError("memory was refused")
 
 
-def ultimate_pit(values: np.ndarray, precedence: sparse.csr_matrix) -> np.ndarray:
+def ultimate_pit(values: np.ndarray, precedence: sparse.spmatrix) -> np.ndarray:
     """Which blocks are in the pit, bool (n,), by their values (n,), in units of 100 cents, and all
-    arcs (n, n).
+    arcs (n, n), a matrix of any format of scipy, or an array.
 
-    Raises UserError where memory was refused, and where there is no C++ compiler and there are more
-    arcs than HiGHS would end with.
+    Raises UserError where values have more than six decimals or are too great for theirs, memory
+    was refused, or there is no C++ compiler and there are more arcs than HiGHS would end with.
     """
-    worth = cents(values)
+    worth, precedence = multiples_of(values)[0], arcs_of(precedence)
     if len(worth) != precedence.shape[0]:
         raise UserError(f"there are {len(worth)} values and {precedence.shape[0]} blocks")
     if not is_compiled():
@@ -90,7 +91,7 @@ def pit_of_plan(values: np.ndarray, blocks: Blocks, plan: Plan) -> tuple[np.ndar
              for zone in plan.zones]
     bounds = np.cumsum([0, *map(len, cones)]).astype(np.int64)
     offsets = np.ascontiguousarray(np.concatenate(cones), dtype=np.int32)
-    worth, shape = cents(values), np.array(places.shape, dtype=np.int32)
+    worth, shape = multiples_of(values)[0], np.array(places.shape, dtype=np.int32)
     at = np.ascontiguousarray(np.stack([places.x, places.y, places.z], axis=1), dtype=np.int32)
     zones = np.ascontiguousarray(blocks.zone, dtype=np.int32)
     taken = np.ascontiguousarray(places.at)
@@ -115,16 +116,17 @@ def pit_by_cones(values: np.ndarray, blocks: Blocks, plan: Plan) -> np.ndarray:
     return ultimate_pit(values, precedence_of(blocks, plan))
 
 
-def immediate(precedence: sparse.csr_matrix) -> sparse.csr_matrix:
-    """The arcs without those that others imply, to a predecessor of a predecessor: the same pits
-    and schedules by fewer arcs. Predecessors have to come behind their block, as in files of
-    `pitc`.
+def immediate(precedence: sparse.spmatrix) -> sparse.csr_matrix:
+    """The arcs that `pitc_thin` keeps, by the same rule: a predecessor of a block is dropped if it
+    is also a predecessor of another one of the block's predecessors. Pits and schedules stay the
+    same. The arcs (n, n) are a matrix of any format, or an array; predecessors come after their
+    block, as in files of `pitc`.
 
     Raises UserError where they do not, where memory was refused, or there is no C++ compiler.
     """
     if not is_compiled():
         raise UserError("no C++ compiler is there: apt-get install g++")
-    arcs = precedence.sorted_indices()
+    arcs = arcs_of(precedence)
     rows = np.repeat(np.arange(arcs.shape[0]), np.diff(arcs.indptr))
     if np.any(arcs.indices <= rows):
         raise UserError("a block comes behind one that it waits for")

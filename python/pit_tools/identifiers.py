@@ -14,7 +14,7 @@ from scipy import sparse
 from pit_tools import outputs, spelling
 from pit_tools.decimals import whole_of
 from pit_tools.errors import UserError
-from pit_tools.instance import Blocks, Instance, Problem, Uses
+from pit_tools.instance import Blocks, Instance, Problem, Uses, arcs_of
 
 
 @dataclass(frozen=True)
@@ -81,6 +81,7 @@ def lines_renamed(path: str, identifiers: Identifiers, to_published: bool) -> It
 def order_of(precedence: sparse.csr_matrix) -> Optional[np.ndarray]:
     """The rows (n,) in an order in which each one's predecessors stand behind it; None where they
     do as it is. Raises UserError where rows wait for one another in a ring."""
+    precedence = arcs_of(precedence)
     rows = np.repeat(np.arange(precedence.shape[0]), np.diff(precedence.indptr))
     if np.all(precedence.indices > rows):
         return None

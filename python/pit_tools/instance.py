@@ -154,13 +154,18 @@ class Problem:
 
 @dataclass(frozen=True)
 class Instance:
-    """The texts of an instance; a part that was not read is None."""
+    """The texts of an instance; a part that was not read is None. Its arcs may be given in any
+    format that `arcs_of` takes."""
 
     blocks: Optional[Blocks] = None
     precedence: Optional[sparse.csr_matrix] = None  #: (n, n), int8, 1 where row b waits for p
     upit: Optional[UltimatePit] = None
     pcpsp: Optional[Problem] = None
     cpit: Optional[Problem] = None
+
+    def __post_init__(self) -> None:
+        if self.precedence is not None:
+            object.__setattr__(self, "precedence", arcs_of(self.precedence))
 
     def counts(self) -> str:
         """The line of `pitc check`: blocks, arcs, coefficients, limits, those of the CPIT."""
@@ -194,9 +199,28 @@ def present(part: Optional[_Part], what: str) -> _Part:
 def cents(values: np.ndarray) -> np.ndarray:
     """Values, of any shape, in units of 100 cents, as whole cents, int64: their sums are exact.
 
-    Raises UserError where one is infinite, NaN, or above some 90,000 billion.
+    Raises UserError where one is infinite, NaN, above about 90,000 billion, or no whole cents:
+    `spelling.multiples_of` takes finer ones.
     """
-    return spelling.scaled(values, 2)
+    return spelling.multiples_of(values, [2])[0]
+
+
+def arcs_of(precedence: Any) -> sparse.csr_matrix:
+    """Arcs as a CSR matrix (n, n) whose columns rise in each row and whose entries are not 0. It
+    may be of any format of scipy, or an array; a CSR matrix that is so already is not copied.
+
+    Raises UserError where it is not square.
+    """
+    # The class would give indices and starts one type, of up to twice the size.
+    arcs = (precedence if isinstance(precedence, sparse.csr_matrix)
+            else sparse.csr_matrix(precedence))
+    if arcs.shape[0] != arcs.shape[1]:
+        raise UserError(f"arcs are a matrix of as many rows as columns, and these {arcs.shape}")
+    if not (arcs.has_canonical_format and arcs.data.all()):
+        arcs = arcs.copy()
+        arcs.sum_duplicates()
+        arcs.eliminate_zeros()
+    return arcs
 
 
 # Reading
@@ -694,8 +718,11 @@ def write_blocks(blocks: Blocks, path: str, remark: str = "") -> None:
     _write(path, "blocks", spelling.lines_of(columns), remark)
 
 
-def write_precedence(precedence: sparse.csr_matrix, path: str, remark: str = "") -> None:
-    """A precedence file: a line `id k p1 .. pk` for each row, after the remark if there is one."""
+def write_precedence(precedence: sparse.spmatrix, path: str, remark: str = "") -> None:
+    """A precedence file: a line `id k p1 .. pk` for each row of a matrix of any format, after the
+    remark if there is one."""
+    precedence = arcs_of(precedence)
+
     def pieces(rows: int = 1 << 16) -> Iterator[bytes]:
         starts = precedence.indptr
         for first in range(0, precedence.shape[0], rows):

@@ -8,8 +8,9 @@ import numpy as np
 from pit_tools import outputs
 from pit_tools.decimals import whole_of
 from pit_tools.errors import UserError
-from pit_tools.instance import Blocks, cents
+from pit_tools.instance import Blocks
 from pit_tools.plan_note import PlanNote
+from pit_tools.spelling import multiples_of
 
 
 def read_pit(path: str, blocks: Optional[int] = None) -> np.ndarray:
@@ -45,7 +46,7 @@ def write_pit(in_pit: np.ndarray, path: str) -> None:
 def told(in_pit: np.ndarray, blocks: Blocks, values: np.ndarray,
          note: PlanNote = PlanNote()) -> str:
     """What a pit, bool (n,), holds and is worth, in a line, in the currency of a plan's note."""
-    worth = int(cents(values)[in_pit].sum())
+    worth, decimals = multiples_of(values)
     kilograms = int(np.rint(blocks.tonnes[in_pit] * 1000).astype(np.int64).sum())
     return (f"{in_pit.sum()} blocks, {kilograms // 1000}.{kilograms % 1000:03d} t, worth "
-            f"{note.money_told(worth)}")
+            f"{note.money_told(int(worth[in_pit].sum()), decimals)}")

@@ -49,11 +49,12 @@ class PlanNote:
     benches: int = 0
     why_not: str = ""
 
-    def money_told(self, in_hundredths: int) -> str:
-        """A sum of what the plan counts money in, exact where a cent has one part, with the
-        currency."""
-        sign, whole = "-" if in_hundredths < 0 else "", abs(in_hundredths) // self.measures.parts
-        return f"{sign}{whole // 100}.{whole % 100:02d}{self.measures.unit}"
+    def money_told(self, multiple: int, decimals: int = 2) -> str:
+        """A multiple of 10^-decimals of what the plan counts money in, exact where a cent has one
+        part, with the currency."""
+        sign, whole = "-" if multiple < 0 else "", abs(multiple) // self.measures.parts
+        units, rest = divmod(whole, 10**decimals)
+        return f"{sign}{units}.{rest:0{decimals}d}{self.measures.unit}"
 
 
 def path_of_note(plan_path: str) -> str:

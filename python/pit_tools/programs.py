@@ -17,7 +17,7 @@ import numpy as np
 from scipy import optimize, sparse
 
 from pit_tools.errors import UserError
-from pit_tools.instance import Problem, UltimatePit
+from pit_tools.instance import Problem, UltimatePit, arcs_of
 from pit_tools.schedules import Schedule, schedule_of_shares
 from pit_tools.spelling import shortest
 
@@ -99,11 +99,11 @@ class Names:
                         for period in range(self.periods)]
 
 
-def program_of_upit(upit: UltimatePit, precedence: sparse.csr_matrix) -> Program:
-    """The ultimate pit as a linear program: x_b <= x_p for each predecessor p of b, arcs (n, n).
-    Its value is in units of 100 cents."""
-    arcs = precedence.tocoo()
-    count, n = precedence.nnz, len(upit.values)
+def program_of_upit(upit: UltimatePit, precedence: sparse.spmatrix) -> Program:
+    """The ultimate pit as a linear program: x_b <= x_p for each predecessor p of b, arcs (n, n), a
+    matrix of any format or an array. Its value is in units of 100 cents."""
+    arcs = arcs_of(precedence).tocoo()
+    count, n = arcs.nnz, len(upit.values)
     rows = sparse.csr_matrix((np.tile([1.0, -1.0], count), (np.repeat(np.arange(count), 2),
                               np.stack([arcs.row, arcs.col], axis=1).ravel())), shape=(count, n))
     return Program(f"the ultimate pit of {upit.name}", upit.values.astype(float), rows,
@@ -139,11 +139,11 @@ class _Builder:
                                  shape=(self.count, self.variables))
 
 
-def program_of(problem: Problem, precedence: sparse.csr_matrix, relaxed: bool = False,
+def program_of(problem: Problem, precedence: sparse.spmatrix, relaxed: bool = False,
                whole_blocks: bool = False) -> Program:
-    """A CPIT or a PCPSP, with its arcs (n, n), as a mixed integer program; `relaxed` lets blocks be
-    split over periods, and `whole_blocks` lets no block of a PCPSP be split over destinations. Its
-    value is in units of 100 cents, discounted."""
+    """A CPIT or a PCPSP, with its arcs (n, n), of any format, as a mixed integer program; `relaxed`
+    lets blocks be split over periods, and `whole_blocks` lets no block of a PCPSP be split over
+    destinations. Its value is in units of 100 cents, discounted."""
     n, periods, has_y = len(problem.values), problem.periods, problem.kind == "PCPSP"
     names = Names(n, periods, problem.destinations if has_y else 0, has_x=not relaxed)
     builder, discounts = _Builder(names.count), problem.discounts()
@@ -158,7 +158,7 @@ def program_of(problem: Problem, precedence: sparse.csr_matrix, relaxed: bool = 
         _add_periods(builder, names)
     else:
         _add_ends(builder, n, periods)
-    _add_arcs(builder, precedence, periods)
+    _add_arcs(builder, arcs_of(precedence), periods)
     if has_y:
         _add_shares(builder, names)
     _add_limits(builder, problem, names)

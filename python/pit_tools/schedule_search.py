@@ -16,7 +16,7 @@ import numpy as np
 from scipy import optimize, sparse
 
 from pit_tools.closure import ultimate_pit
-from pit_tools.instance import Blocks, Problem
+from pit_tools.instance import Blocks, Problem, arcs_of
 from pit_tools.programs import Program, program_of, schedule_of, solve
 from pit_tools.schedules import Schedule, check
 
@@ -56,6 +56,7 @@ def from_shells(problem: Problem, blocks: Blocks, precedence: sparse.csr_matrix)
     no upper limit is passed, at the destination of most value that there is room for. Predecessors
     have to come behind their block, as in files of `pitc`. Lower limits are not looked at: `check`
     tells."""
+    precedence = arcs_of(precedence)
     shell = shells(blocks.tonnes, problem.values.max(axis=1), precedence)
     order = [block
              for block in np.lexsort((-np.arange(len(shell)), shell)) if shell[block] <= SHELLS]
@@ -92,7 +93,7 @@ class Search:
 
     def __init__(self, problem: Problem, blocks: Blocks, precedence: sparse.csr_matrix,
                  seconds: float, seed: int = 1):
-        self.problem, self.precedence = problem, precedence
+        self.problem, self.precedence = problem, arcs_of(precedence)
         self.program = program_of(problem, precedence)
         self.places = np.stack([blocks.x, blocks.y, blocks.z], axis=1).astype(float)
         self.chances = np.random.default_rng(seed)

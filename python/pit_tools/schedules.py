@@ -15,7 +15,7 @@ from scipy import sparse
 
 from pit_tools import outputs
 from pit_tools.errors import UserError
-from pit_tools.instance import Limit, Problem
+from pit_tools.instance import Limit, Problem, arcs_of
 from pit_tools.spelling import shortest
 
 #: What is off by so much of a block is not counted.
@@ -153,17 +153,35 @@ class Check:
         return not self.broken
 
 
-def check(schedule: Schedule, problem: Problem, precedence: sparse.csr_matrix,
+def check(schedule: Schedule, problem: Problem, precedence: sparse.spmatrix,
           relaxed: bool = False) -> Check:
-    """Whether a schedule holds, of a problem and all its arcs (n, n); its worth is in units of 100
-    cents, discounted. In a CPIT and a PCPSP a block is mined in one period, in a PCPSP at one or
-    more destinations; `relaxed` lets it be split over periods, as in the relaxations.
+    """Whether a schedule holds, of a problem and all its arcs (n, n), a matrix of any format or an
+    array; its worth is in units of 100 cents, discounted. In a CPIT and a PCPSP a block is mined in
+    one period, in a PCPSP at one or more destinations; `relaxed` lets it be split over periods, as
+    in the relaxations.
 
-    Raises UserError where there are more blocks and periods than it can hold.
+    Raises UserError where a line names a block, period or destination that is not there, the arcs
+    are of other blocks, or there are more blocks and periods than it can hold.
     """
+    arcs = arcs_of(precedence)
+    _judge_places(schedule, problem, arcs)
     uses, over = _limits(schedule, problem)
-    broken = [*_shares(schedule, problem, relaxed), *_order(schedule, problem, precedence), *over]
+    broken = [*_shares(schedule, problem, relaxed), *_order(schedule, problem, arcs), *over]
     return Check(float(schedule.share.sum()), schedule.worth(problem), uses, broken)
+
+
+def _judge_places(schedule: Schedule, problem: Problem, arcs: sparse.csr_matrix) -> None:
+    """Stops at the first line that names what the problem has not."""
+    n = len(problem.values)
+    if arcs.shape[0] != n:
+        raise UserError(f"the arcs are of {arcs.shape[0]} blocks, and the problem has {n}")
+    for name, column, end in (("block", schedule.block, n),
+                              ("period", schedule.period, problem.periods),
+                              ("destination", schedule.destination, problem.destinations)):
+        strange = np.flatnonzero((column < 0) | (column >= end))
+        if len(strange):
+            raise UserError(f"line {strange[0] + 1} of the schedule: no {name} below {end}: "
+                            f"{column[strange[0]]}")
 
 
 def _shares(schedule: Schedule, problem: Problem, relaxed: bool) -> Iterator[str]:

@@ -63,6 +63,30 @@ def nearest(values: np.ndarray, decimals: int) -> tuple[np.ndarray, np.ndarray]:
     return whole / of_each, np.abs(multiples - whole) > 4 * np.spacing(np.abs(multiples))
 
 
+def multiples_of(values: np.ndarray,
+                 choices: Sequence[int] = range(2, 7)) -> tuple[np.ndarray, int]:
+    """The values as whole multiples of 10^-decimals, int64, and these decimals: the fewest of
+    `choices` that hold all of them exactly. Sums of the multiples are exact.
+
+    Raises NotHeld where a value is infinite, NaN, too great for the decimals of the others, or has
+    more decimals than any of the choices.
+    """
+    values = np.asarray(values, dtype=float)
+    decimals = next((one for one in choices if not nearest(values, one)[1].any()), None)
+    if decimals is None:
+        raise NotHeld(f"a number with more than {choices[-1]} decimals: round the values first; it")
+    multiples = scaled(values, decimals)
+    if np.abs(multiples).sum(dtype=float) >= 2.0**62:
+        raise NotHeld(f"the sum of all values with {decimals} decimals")
+    return multiples, decimals
+
+
+def at_least_cents(value: float) -> str:
+    """A value with two decimals, or with those that it has, six at the most."""
+    cents, text = f"{value:.2f}", shortest(value)
+    return text if len(text) > len(cents) else cents
+
+
 def _spelled(multiples: np.ndarray, decimals: int) -> tuple[np.ndarray, np.ndarray]:
     """Characters (n, width) of the decimals, and which of them are to be kept."""
     magnitude = np.abs(multiples)

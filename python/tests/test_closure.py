@@ -12,9 +12,13 @@ import mines
 from pit_tools import closure, compiled
 from pit_tools.commands import pit as pit_command
 from pit_tools.errors import UserError
-from pit_tools.instance import cents, read_instance
+from pit_tools.instance import (Blocks, Instance, UltimatePit, cents, read_instance,
+                                write_instance)
 from pit_tools.pits import read_pit, told
 from pit_tools.plan_file import read_plan
+from pit_tools.programs import program_of, program_of_upit
+from pit_tools.schedules import Schedule, check
+from pit_tools.spelling import multiples_of
 
 pytestmark = pytest.mark.skipif(compiled.compiler() is None, reason="no C++ compiler is here")
 
@@ -95,6 +99,76 @@ def test_values_beyond_32_bits_are_counted_to_the_cent():
     arcs = sparse.csr_matrix(np.array([[0, 1, 0, 0], [0, 0, 0, 0], [0, 0, 0, 1], [0, 0, 0, 0]],
                                       np.int8))
     assert closure.ultimate_pit(values, arcs).tolist() == [True, True, False, False]
+
+
+@pytest.mark.parametrize("scale", [0.0205, 0.004, 0.000001, 1.23])
+def test_values_finer_than_cents_count_exactly(tmp_path, capsys, scale):
+    """A block of value pays for one that costs just less, and not for one that costs just more."""
+    step = 10.0 ** -(len(f"{scale}".partition(".")[2]) if scale > 1e-5 else 6)
+    values = np.round([scale, step - scale, scale, -step - scale, scale], 6)
+    arcs = sparse.csr_matrix(([1, 1], ([0, 2], [1, 3])), shape=(5, 5))
+    wanted = [True, True, False, False, True]
+    assert closure.ultimate_pit(values, arcs).tolist() == wanted
+    assert closure._pit_by_highs(multiples_of(values)[0], arcs).tolist() == wanted
+    base = str(tmp_path / "mine")
+    blocks = Blocks(*(np.arange(5),) * 3, np.ones(5), np.ones(5), np.zeros(5, np.int32))
+    write_instance(Instance(blocks, arcs, UltimatePit("fine", values)), base)
+    assert pit_command.run(argparse_of(pit_command, base)) == 0
+    decimals = round(-np.log10(step))
+    assert capsys.readouterr().out == f"3 blocks, 3.000 t, worth {scale + step:.{decimals}f}\n"
+
+
+def argparse_of(command, *words):
+    parser = pit_command.argparse.ArgumentParser()
+    command.add_arguments(parser)
+    return parser.parse_args(words)
+
+
+@pytest.mark.parametrize("values, told", [([0.1234567, 1], "more than 6 decimals"),
+                                          ([1e12, 0.000001], "a number above 9,007,199,254"),
+                                          ([np.nan, 1], "infinite or NaN"), ([np.inf, 1], "NaN")])
+def test_values_that_cannot_be_counted_exactly_are_refused(values, told):
+    with pytest.raises(UserError, match=told):
+        closure.ultimate_pit(np.array(values, dtype=float), sparse.csr_matrix((2, 2)))
+    with pytest.raises(UserError, match="decimals|NaN"):
+        cents(np.array([0.0205]))
+
+
+#: What arcs may be given as: each format of scipy, and arrays.
+FORMATS = {"csr": sparse.csr_matrix, "csc": sparse.csc_matrix, "coo": sparse.coo_matrix,
+           "lil": sparse.lil_matrix, "dok": sparse.dok_matrix, "bsr": sparse.bsr_matrix,
+           "csr array": sparse.csr_array, "csc array": sparse.csc_array,
+           "array": lambda arcs: arcs.toarray(), "bool array": lambda arcs: arcs.toarray() > 0,
+           "list": lambda arcs: arcs.toarray().tolist(),
+           "zeros": lambda arcs: sparse.csr_matrix(
+               (np.append(arcs.data, 0), np.append(arcs.indices, 0),
+                np.append(arcs.indptr[:-1], arcs.nnz + 1)), shape=arcs.shape),
+           "falling": lambda arcs: arcs[:, ::-1].sorted_indices()[:, ::-1]}
+
+
+@pytest.mark.parametrize("kind", FORMATS)
+def test_arcs_of_any_format_are_the_same_arcs(tmp_path, kind):
+    mine = read_instance(mines.deposit(tmp_path, 1, (8, 7, 5), "lens", 3))
+    given = FORMATS[kind](mine.precedence)
+    values, problem = mine.upit.values, mine.cpit
+    in_pit = closure.ultimate_pit(values, mine.precedence)
+    assert 0 < in_pit.sum() < len(in_pit)
+    assert np.array_equal(closure.ultimate_pit(values, given), in_pit)
+    assert (closure.immediate(given) != closure.immediate(mine.precedence)).nnz == 0
+    whole = Schedule.of(np.flatnonzero(in_pit), np.zeros(int(in_pit.sum()), int))
+    early = Schedule.of([0], [0])
+    for schedule in (whole, early):
+        assert (check(schedule, problem, given).broken
+                == check(schedule, problem, mine.precedence).broken)
+    assert any("before block" in line for line in check(early, problem, given).broken)
+    for program in (program_of_upit(mine.upit, given), program_of(problem, given)):
+        again = (program_of_upit(mine.upit, mine.precedence) if program.names.periods == 0
+                 else program_of(problem, mine.precedence))
+        assert (program.rows != again.rows).nnz == 0
+    write_instance(Instance(precedence=given), str(tmp_path / "copy"))
+    assert (tmp_path / "copy.prec").read_bytes() == (tmp_path / "mine.prec").read_bytes()
+    with pytest.raises(UserError, match="as many rows as columns"):
+        closure.ultimate_pit(values, mine.precedence[:, 1:])
 
 
 def test_the_command_finds_the_pit_of_the_deposit(tmp_path, capsys):

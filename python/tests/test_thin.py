@@ -12,7 +12,11 @@ from scipy import sparse
 import mines
 from pit_tools import closure, compiled
 from pit_tools.cli import main
+from pit_tools.cones import precedence_of
 from pit_tools.instance import read_instance, read_precedence, write_precedence
+from pit_tools.plan_file import plan_of
+from pit_tools.valuation import blocks_of
+from pit_tools.zone_files import read_zone_files
 
 
 def fewer_by_hand(precedence: sparse.csr_matrix) -> sparse.csr_matrix:
@@ -116,6 +120,58 @@ def test_a_thin_file_that_is_none_is_refused_by_its_name(tmp_path, capsys, comma
         assert wanted in capsys.readouterr().err
     assert main([command, base, "--prec", str(tmp_path / "gone.thin")]) == 2
     assert capsys.readouterr().err.endswith("gone.thin: No such file or directory\n")
+
+
+#: How many models of unlike cones `immediate` is compared on.
+MODELS = 300
+
+
+def cones_of(seed: int) -> tuple[str, list[str]]:
+    """A plan and zone files of up to four zones whose cones are unlike."""
+    chance = np.random.default_rng(seed)
+    zones, wide, high = int(chance.integers(1, 5)), chance.choice([5, 10, 20]), chance.choice([5, 10])
+    records = ["name,m", f"grid,0,0,0,{wide},10,{high}"]
+    records += ["zone," + ",".join(map(str, [*chance.integers(1, 5, chance.choice([2, 8])),
+                                             chance.integers(1, 6)])) for _ in range(zones)]
+    records += ["dump,d,1", "periods,1", "rate,0"]
+    rows = [["x,y,z,tonnes,grade"] for _ in range(zones)]
+    for place in np.flatnonzero(chance.random(6 * 5 * 6) < chance.choice([0.6, 0.9, 1.0])):
+        x, y, z = np.unravel_index(place, (6, 5, 6))
+        rows[chance.integers(zones)].append(f"{x * wide},{y * 10},{z * high},1,0")
+    return "\n".join(records) + "\n", ["\n".join(lines) + "\n" for lines in rows]
+
+
+def all_arcs_of(base: str, plan: str, zones: list[str]) -> sparse.csr_matrix:
+    """All arcs of a model, whose plan and zone files are written."""
+    Path(base + ".plan").write_text(plan)
+    paths = [f"{base}-{number}.csv" for number in range(len(zones))]
+    for path, text in zip(paths, zones):
+        Path(path).write_text(text)
+    made = plan_of(plan)
+    return precedence_of(blocks_of(made.grid, read_zone_files(paths)), made)
+
+
+@pytest.mark.skipif(compiled.compiler() is None, reason="no C++ compiler is here")
+def test_immediate_drops_what_the_rule_says_on_models_of_unlike_cones(tmp_path):
+    dropped = 0
+    for seed in range(MODELS):
+        whole = all_arcs_of(str(tmp_path / "m"), *cones_of(seed))
+        left = closure.immediate(whole)
+        assert (left != fewer_by_hand(whole)).nnz == 0, seed
+        dropped += whole.nnz - left.nnz
+    assert dropped > 100 * MODELS
+
+
+def test_immediate_drops_what_pitc_thin_drops_on_models_of_unlike_cones(pitc_thin, tmp_path):
+    base = str(tmp_path / "m")
+    for seed in range(MODELS):
+        plan, zones = cones_of(seed)
+        left = closure.immediate(all_arcs_of(base, plan, zones))
+        done = subprocess.run([pitc_thin, "--plan", base + ".plan", "--out", base + ".thin",
+                               *(f"{base}-{number}.csv" for number in range(len(zones)))],
+                              capture_output=True, text=True)
+        assert (done.stderr, done.returncode) == ("", 0), seed
+        assert (left != read_precedence(base + ".thin")).nnz == 0, seed
 
 
 @pytest.mark.parametrize("K", [1, 4])

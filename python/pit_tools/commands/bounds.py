@@ -27,8 +27,10 @@ def add_arguments(parser: argparse.ArgumentParser) -> None:
 def run(args: argparse.Namespace) -> int:
     from pit_tools.bounds import bounds_of
     from pit_tools.instance import read_instance
+    from pit_tools.spelling import at_least_cents
 
     for name, value in bounds_of(read_instance(args.base, precedence=args.prec),
                                  args.seconds).items():
-        print(f"{name:<22} {'-' if value is None else f'{value:.2f}':>20}")
+        told = at_least_cents(value or 0.0) if "relaxed" not in name else f"{value or 0:.2f}"
+        print(f"{name:<22} {'-' if value is None else told:>20}")
     return 0

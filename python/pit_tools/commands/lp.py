@@ -23,8 +23,8 @@ HiGHS, SCIP, Gurobi and others read.
 A UPIT has a variable x12 for block 12, which is 0 or 1 by itself. The others have w12_3, what is
 mined of block 12 by the end of period 3; x12_3, what is mined of it in period 3, 0 or 1 (--relaxed
 has no x); and a PCPSP y12_1_3, the share of it that goes to destination 1 in period 3. A value of
-period t counts 1 / (1 + rate)^t. Arcs that others imply are left out, where a C++ compiler is
-there, but with --all-arcs: no answer changes.
+period t counts 1 / (1 + rate)^t. Arcs that `pitc_thin` drops are left out, where a C++ compiler
+is there, but with --all-arcs: no answer changes.
 """
 
 WRITES = "programs"
@@ -41,7 +41,7 @@ def add_arguments(parser: argparse.ArgumentParser) -> None:
     parser.add_argument("--by-period", action="store_true",
                         help="without w: rows are longer, and cbc is quicker")
     parser.add_argument("--all-arcs", action="store_true",
-                        help="all arcs of the file, also such as others imply")
+                        help="all arcs of the file, also those that pitc_thin drops")
 
 
 def run(args: argparse.Namespace) -> int:
@@ -57,7 +57,7 @@ def run(args: argparse.Namespace) -> int:
 
 
 def fewer_arcs(precedence: sparse.csr_matrix, all_arcs: bool = False) -> sparse.csr_matrix:
-    """The precedences without arcs that others imply, where they can be left out."""
+    """The precedences without the arcs that `immediate` drops, if it can be called."""
     from pit_tools.closure import immediate, is_compiled
     from pit_tools.errors import UserError
 

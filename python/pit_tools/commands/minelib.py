@@ -53,7 +53,8 @@ def add_arguments(parser: argparse.ArgumentParser) -> None:
                         "destination and r for the resource (bdr outward, inward what alone fits)")
     parser.add_argument("--without-general", action="store_true",
                         help="leaves general side constraints out")
-    parser.add_argument("--immediate", action="store_true", help="without arcs that others imply")
+    parser.add_argument("--immediate", action="store_true",
+                        help="without the arcs that pitc_thin drops")
 
 
 def run(args: argparse.Namespace) -> int:

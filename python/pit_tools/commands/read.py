@@ -17,7 +17,7 @@ Reads the files of an instance into arrays and sparse matrices, and prints the c
     pit-tools read deposit --write copy              the same files again, to the byte
     pit-tools read deposit --arrays deposit.npz      for numpy.load
     pit-tools read deposit --prec deposit.thin          with the arcs that pitc_thin left
-    pit-tools read deposit --immediate fewer         the files without arcs that others imply
+    pit-tools read deposit --immediate fewer         the files without what pitc_thin drops
 
 A program of your own calls pit_tools.instance.read_instance.
 """

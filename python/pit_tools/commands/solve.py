@@ -31,7 +31,7 @@ def add_arguments(parser: argparse.ArgumentParser) -> None:
     parser.add_argument("--whole", action="store_true",
                         help="lets no block of a PCPSP be split over destinations")
     parser.add_argument("--all-arcs", action="store_true",
-                        help="all arcs of the file, also such as others imply")
+                        help="all arcs of the file, also those that pitc_thin drops")
     parser.add_argument("--seconds", type=from_zero, default=60, metavar="N",
                         help="stops after so many (60); 0 for never")
     parser.add_argument("--ratio", type=from_zero, default=0.0, metavar="R",
