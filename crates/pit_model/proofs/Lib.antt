@@ -1,6 +1,5 @@
 pub mod BandSteps
 pub mod CellFacts
-pub mod Keeps
 pub mod KeyFacts
 pub mod Limits
 pub mod PartFaults

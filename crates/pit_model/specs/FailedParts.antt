@@ -21,10 +21,11 @@ use Rattle.pit_model.specs.declared.plan_fault.PlanFaultKind.TheVariants.{Key, W
 use Rattle.pit_model.specs.declared.plan_key.PlanKey.{PlanKey}
 use Rattle.pit_model.specs.declared.plan_key.PlanKey.TheVariants as key
 
--- this is asked, and where it is so, what is behind it; and nothing is
+-- something is asked: where it is not so, the fault has this kind; where it is, the kind of what is asked behind it
 abbrev pub Asks : Type 0 → PlanFaultKind → (PlanFaultKind → Type 0) → PlanFaultKind → Type 0
 Asks IsSo kind behind found = ((¬ IsSo) × (found ≡ kind)) ⊎ (IsSo × behind found)
 
+-- nothing more is asked
 abbrev pub NoMore : PlanFaultKind → Type 0
 NoMore found = ⊥
 
