@@ -55,12 +55,24 @@ def test_a_tree_without_examples_is_refused(top):
     assert "run try in a complete clone" in refused_in_a_line(ended(top))
 
 
-def test_another_program_that_is_called_pitc_is_not_run(top, tmp_path):
-    other = tmp_path / "pitc"
-    other.write_text("#!/bin/sh\necho pit-cake 3\n")
-    other.chmod(0o755)
-    assert f"{other} does not print its version" in refused_in_a_line(
-        ended(top, path=f"{tmp_path}:{SYSTEM}"))
+@pytest.fixture(name="other")
+def another_program(tmp_path):
+    """A folder with a program that is called pitc and is another one."""
+    (tmp_path / "pitc").write_text("#!/bin/sh\necho pit-cake 3\n")
+    (tmp_path / "pitc").chmod(0o755)
+    return tmp_path
+
+
+def test_another_program_in_the_path_is_not_run(top, other):
+    done = ended(top, path=f"{other}:{SYSTEM}")
+    assert (done.returncode, done.stdout) == (2, "")
+    assert f"{other}/pitc is another program" in done.stderr and "there is no rt" in done.stderr
+
+
+def test_a_built_program_that_does_not_run_is_refused(top, other):
+    (top / "crates/pitc/out").mkdir(parents=True)
+    (other / "pitc").rename(top / "crates/pitc/out/pitc")
+    assert "does not run here: build it anew" in refused_in_a_line(ended(top))
 
 
 def test_packages_that_are_missing_are_named(top, tmp_path):
