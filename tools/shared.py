@@ -3,6 +3,7 @@ import argparse
 import functools
 import glob
 import os
+import re
 import shutil
 import subprocess
 import sys
@@ -84,6 +85,33 @@ def read(path):
 def write(path, text):
     with open(path, "w") as file:
         file.write(text)
+
+
+def crates():
+    """The crates of the repository, each with the libraries that it depends on, as the toolchain reads crates.txt: blanks around a line and
+    all after a `#` do not count, and commas separate libraries as blanks do."""
+    lines = (line.partition("#")[0].strip() for line in read(os.path.join(TOP, "crates.txt")).splitlines())
+    parts = (line.partition(":") for line in lines if line)
+    return {head.split()[0]: libraries.replace(",", " ").split() for head, _, libraries in parts}
+
+
+# A comment, a raw string, a string or a character of Rattle. What comes first in a text wins, so no mark inside a string begins a comment.
+COMMENT_OR_TEXT = re.compile(r"""(?s)//[^\n]*|/\*.*?\*/|r(#*)".*?"\1|b?"(?:\\.|[^"\\])*"|b?'(?:\\.[^']*|[^'\\])'""")
+
+
+def code_of(path):
+    """The code of a file of Rattle, with a blank for each comment and each text, so that no word in them counts."""
+    return COMMENT_OR_TEXT.sub(" ", read(path))
+
+
+def test_files():
+    """The files of crates/ that only tests compile: modules behind `#[cfg(test)]`, and what is in their folders."""
+    found = []
+    for path in glob.glob("crates/*/src/**/*.rt", recursive=True):
+        folder = os.path.dirname(path) if os.path.basename(path) in ("lib.rt", "main.rt") else path[: -len(".rt")]
+        for name in re.findall(r"#\[cfg\(test\)\]\s*(?:pub )?mod (\w+);", code_of(path)):
+            found += [f"{folder}/{name}.rt", *glob.glob(f"{folder}/{name}/**/*.rt", recursive=True)]
+    return set(found)
 
 
 def model(path):
