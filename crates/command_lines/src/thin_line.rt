@@ -27,8 +27,8 @@ const AFTER: &str = "Example:
       writes out/march.thin, replacing what is there, in the format of the file out/march.prec of pitc,
       and prints `rows N arcs M of L`: N blocks, M arcs that are left, L arcs of the whole lists
 
-An input whose path is that of FILE is overwritten. `-` is a file of that name. `pitc check` wants the
-file that pitc writes, and not this one. Statuses and faults are those of pitc compile.";
+An input whose path is that of FILE is overwritten. `-` is a file of that name. `pitc check BASE` reads
+FILE too, if it is BASE.prec. Statuses and faults are those of pitc compile.";
 
 /// The run that these words state. The first word is the program's name.
 ///
