@@ -15,7 +15,7 @@ ghost use Rattle.minelib_reading.specs.spelled.LineKinds.{HasFields, IsOfAnother
 ghost use Rattle.minelib_reading.specs.spelled.SpelledAdditions.{AddsWhatItSpells, ReadsKey, StatesKey};
 ghost use Rattle.minelib_reading.specs.spelled.SpelledItems.{SpellsBlock, SpellsPreds};
 ghost use Rattle.minelib_reading.specs.spelled.SpelledLines.{IsFirstUnspelled};
-ghost use Rattle.minelib_reading.specs.spelled.SpelledModel.{AreModelLines, StateModel};
+ghost use Rattle.minelib_reading.specs.spelled.SpelledModel.{AreModelLines};
 ghost use Rattle.minelib_reading.specs.spelled.SpelledTexts.{LacksLines, SpellBlocks, SpellCpit, SpellInstance, SpellPreds, SpellsBlockLine, SpellsPredsLine};
 ghost use Rattle.minelib_reading.specs.declared.model.key.Section.TheVariants.{Coefs, Limits, Objective};
 ghost use Rattle.minelib_lines.specs.declared.header_key.HeaderKey.{HeaderKey};
@@ -78,31 +78,22 @@ pub fn prec_lines_are_spelled()
         → SpellPreds n text lists }
 {}
 
-/// Where a model file of n blocks is read, its lines that are not skipped spell what it states.
-///
-/// - `lines`: they are one line for each header key, in any order, and then those of the sections: the key of each
-///   section, alone, and behind it a line for each block's values, for each coefficient and for each limit, in order. The
-///   value of a header key and the fields of a section's line spell the numbers of their part.
-/// - `grammar`: they state it one after the other, and no line is lacking.
+/// Where a model file of n blocks is read, its lines that are not skipped spell what it states. They are one line for each
+/// header key, in any order, and then those of the sections: the key of each section, alone, and behind it a line for each
+/// block's values, for each coefficient and for each limit, in order. The value of a header key and the fields of a
+/// section's line spell the numbers of their part.
 pub fn model_lines_are_spelled()
-    ensures lines { (problem : Problem) (n : ℕ) (text : List ℕ) (d : ModelDraftView)
+    ensures { (problem : Problem) (n : ℕ) (text : List ℕ) (d : ModelDraftView)
         → model_in problem n text ≡ Ok d
         → AreModelLines problem n (lines_in text) (stated_by d) }
-    ensures grammar { (problem : Problem) (n : ℕ) (text : List ℕ) (d : ModelDraftView)
-        → model_in problem n text ≡ Ok d
-        → StateModel problem n (lines_in text) d }
 {}
 
-/// Lines that spell what a model file states are read as it.
-///
-/// - `lines`: the header keys may stand in any order, and numbers in any spelling.
-/// - `grammar`: lines that state a model one after the other, with none lacking, are read as that model.
+/// Lines that spell what a model file states are read as it. The header keys may stand in any order, and numbers in any
+/// spelling.
 pub fn spelled_models_are_read()
-    ensures lines { (problem : Problem) (n : ℕ) (text : List ℕ) (m : StatedModel)
+    ensures { (problem : Problem) (n : ℕ) (text : List ℕ) (m : StatedModel)
         → AreModelLines problem n (lines_in text) m
         → (d : ModelDraftView) × (model_in problem n text ≡ Ok d) × (stated_by d ≡ m) }
-    ensures grammar { (problem : Problem) (n : ℕ) (text : List ℕ) (d : ModelDraftView)
-        → StateModel problem n (lines_in text) d → model_in problem n text ≡ Ok d }
 {}
 
 /// Three texts denote an instance exactly where their lines spell it.

@@ -16,7 +16,7 @@ use Rattle.minelib_lines.specs.declared.problem.Problem.{Problem}
 use Rattle.minelib_lines.specs.declared.problem.Problem.TheVariants as problem
 use Rattle.minelib_reading.proofs.models.ValidModel.{spelled_model}
 use Rattle.minelib_reading.proofs.spelled.SpelledModelBack.{spelled_stated}
-use Rattle.minelib_reading.proofs.spelled.SpelledModelRead.{stated_spelled}
+use Rattle.minelib_reading.proofs.spelled.SpelledModelRead.{StateModel, stated_spelled}
 use Rattle.minelib_reading.proofs.spelled.SpelledRead.{blocks_exact, lists_exact}
 use Rattle.minelib_reading.specs.BlockText.{blocks_in}
 use Rattle.minelib_reading.specs.Denotes.{Denotes, DenotesCpit, cpit_denoted, cpit_read, denoted, instance_read}
@@ -25,18 +25,18 @@ use Rattle.minelib_reading.specs.ModelDraft.{ModelDraftView, blank_model, is_who
 use Rattle.minelib_reading.specs.ModelText.{line_stated, model_in}
 use Rattle.minelib_reading.specs.PrecText.{preds_in}
 use Rattle.minelib_reading.specs.StatedModel.{StatedModel, alone, model_of, model_of_cpit, stated_by}
-use Rattle.minelib_reading.specs.spelled.SpelledModel.{AreModelLines, StateModel}
+use Rattle.minelib_reading.specs.spelled.SpelledModel.{AreModelLines}
 use Rattle.minelib_reading.specs.spelled.SpelledTexts.{SpellCpit, SpellInstance}
 
 -- what is read the lines state one behind the other, and what they state is read
-pub model_states : (problem : Problem) (n : ℕ) (text : List ℕ) (d : ModelDraftView) → model_in problem n text ≡ Ok d
+model_states : (problem : Problem) (n : ℕ) (text : List ℕ) (d : ModelDraftView) → model_in problem n text ≡ Ok d
     → StateModel problem n (lines_in text) d
 model_states problem n text d e =
     bind_then (read_lines line_stated (blank_model problem n) (lines_in text)) _ d e (λ found read rest.
     let t = then_ok (is_whole found) _ (Ok found) d rest in
     subst (StateModel problem n (lines_in text)) (same_ok found d t.1) (read, t.0))
 
-pub states_back : (problem : Problem) (n : ℕ) (text : List ℕ) (d : ModelDraftView) → StateModel problem n (lines_in text) d
+states_back : (problem : Problem) (n : ℕ) (text : List ℕ) (d : ModelDraftView) → StateModel problem n (lines_in text) d
     → model_in problem n text ≡ Ok d
 states_back problem n text d are = rw (are.0, are.1) refl
 

@@ -26,6 +26,7 @@ use Rattle.minelib_reading.proofs.models.Drafts.{draft, heading}
 use Rattle.minelib_reading.proofs.models.ModelSteps.{coef_back, limit_back, values_back}
 use Rattle.minelib_reading.proofs.models.Places.{behind_last}
 use Rattle.minelib_reading.proofs.models.ValidModel.{in_both, key_spelled}
+use Rattle.minelib_reading.proofs.spelled.SpelledModelRead.{StateModel}
 use Rattle.minelib_reading.specs.HeaderNumbers.{count_in, is_complete, is_given, number_of, with_key}
 use Rattle.minelib_reading.specs.ModelDraft.{ModelDraftView, blank_header, blank_model, is_behind, is_heading, is_next, is_ready, last_of, name_with}
 use Rattle.minelib_reading.specs.ModelKeys.{section_text}
@@ -37,7 +38,7 @@ use Rattle.minelib_reading.specs.declared.model.key.Section.TheVariants.{Coefs, 
 use Rattle.minelib_reading.specs.spelled.SpelledItems.{SpellsCoef, SpellsLimit, SpellsValues}
 use Rattle.minelib_reading.specs.spelled.SpelledKeys.{IsKeyLine}
 use Rattle.minelib_reading.specs.spelled.SpelledLines.{AreLines}
-use Rattle.minelib_reading.specs.spelled.SpelledModel.{AreHeaderLines, AreModelLines, IsHeaderLine, IsSingle, SpellsKey, StateModel}
+use Rattle.minelib_reading.specs.spelled.SpelledModel.{AreHeaderLines, AreModelLines, IsHeaderLine, IsSingle, SpellsKey}
 
 -- a key's line adds what the header states by it
 name_same : (p : Problem) (n : ℕ) (m : StatedHeader) (k : HeaderKey) (value name : List ℕ) → SpellsKey p n m k value

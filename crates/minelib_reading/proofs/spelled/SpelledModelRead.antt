@@ -23,7 +23,7 @@ use Rattle.minelib_reading.proofs.models.LineCases.{each_line}
 use Rattle.minelib_reading.proofs.models.ModelSteps.{coef_step, key_step, limit_step, section_step, values_step}
 use Rattle.minelib_reading.proofs.models.Places.{rises_behind}
 use Rattle.minelib_reading.specs.HeaderNumbers.{count_in, is_complete}
-use Rattle.minelib_reading.specs.ModelDraft.{ModelDraftView, blank_model, is_heading, is_limits, is_ready}
+use Rattle.minelib_reading.specs.ModelDraft.{ModelDraftView, blank_model, is_heading, is_limits, is_ready, is_whole}
 use Rattle.minelib_reading.specs.ModelKeys.{section_text}
 use Rattle.minelib_reading.specs.ModelText.{item_stated, key_stated, line_stated, section_stated}
 use Rattle.minelib_reading.specs.StatedModel.{header_stated, stated_by}
@@ -32,7 +32,11 @@ use Rattle.minelib_reading.specs.declared.model.key.Section.TheVariants.{Coefs, 
 use Rattle.minelib_reading.specs.spelled.SpelledItems.{SpellsCoef, SpellsLimit, SpellsValues}
 use Rattle.minelib_reading.specs.spelled.SpelledKeys.{IsKeyLine}
 use Rattle.minelib_reading.specs.spelled.SpelledLines.{AreLines}
-use Rattle.minelib_reading.specs.spelled.SpelledModel.{AreModelLines, SpellsKey, StateModel}
+use Rattle.minelib_reading.specs.spelled.SpelledModel.{AreModelLines, SpellsKey}
+
+-- all lines of a model file, of n blocks, are read as this, and nothing of it is lacking
+abbrev pub StateModel : Problem → ℕ → List Line → ModelDraftView → Type 0
+StateModel problem n lines d = (read_lines line_stated (blank_model problem n) lines ≡ Ok d) × (is_whole d ≡ true)
 
 -- the lines of a section so far: those before it, the line that begins it, and one for each item, which keep something together
 pub record Part {A : Type 0} (Before : List Line → Type 0) (section : Section) (Spells : ℕ → List ℕ → A → Type 0)

@@ -1,13 +1,12 @@
 -- How the lines of a model file spell what it states: those of the header, and then the sections, each behind the line of its key.
 -- And the first line with which they can no longer become a model.
-use Rattle.std.specs.Prelude.{◌≡◌, ◌≢◌, ℕ, ◌+◌, true, false, List, [], ◌∷◌, ◌++◌, length, AllPairs, IsTrue, pos, Ok}
+use Rattle.std.specs.Prelude.{◌≡◌, ◌≢◌, ℕ, ◌+◌, true, false, List, [], ◌∷◌, ◌++◌, length, AllPairs, IsTrue, pos}
 use Rattle.std.specs.List.{Contains}
 use Rattle.pit_units.specs.SpelledNumbers.{SpellsBelow, SpellsNumber, SpellsWhole}
 use Rattle.plan_parts.specs.Name.{is_name}
 use Rattle.plan_parts.specs.PlanKept.{RiseStrictly, is_turned}
 use Rattle.plan_parts.specs.declared.ranges.TheConstants.{MAX_BLOCKS, MAX_DESTINATIONS, MAX_PERIODS, MAX_RATE, MAX_RESOURCES}
 use Rattle.mine_instance.specs.Order.{coef_before}
-use Rattle.text_lines.specs.Reading.{read_lines}
 use Rattle.text_lines.specs.TextLines.{Line, fields_of, lines_in, end_of}
 use Rattle.text_lines.specs.declared.text_fault.LineFault.{LineFault}
 use Rattle.text_lines.specs.declared.text_fault.TextKind.TheVariants.{Missing}
@@ -17,9 +16,7 @@ use Rattle.minelib_lines.specs.declared.header_key.HeaderKey.{HeaderKey}
 use Rattle.minelib_lines.specs.declared.header_key.HeaderKey.TheVariants as key
 use Rattle.minelib_lines.specs.declared.problem.Problem.{Problem}
 use Rattle.minelib_lines.specs.declared.problem.Problem.TheVariants.{Pcpsp, Cpit}
-use Rattle.minelib_reading.specs.ModelDraft.{ModelDraftView, blank_model, is_whole}
 use Rattle.minelib_reading.specs.ModelKeys.{section_text}
-use Rattle.minelib_reading.specs.ModelText.{line_stated}
 use Rattle.minelib_reading.specs.StatedModel.{StatedModel}
 use Rattle.minelib_reading.specs.declared.model.key.Section.TheVariants.{Objective, Coefs, Limits}
 use Rattle.minelib_reading.specs.spelled.SpelledItems.{SpellsCoef, SpellsLimit, SpellsValues}
@@ -57,11 +54,6 @@ pub record AreHeaderLines (problem : Problem) (n : ℕ) (lines : List Line)
   pub spelled : AreLines (λ _ line k. IsHeaderLine problem n h line k) 0 lines keys
   pub once : AllPairs (λ k j. k ≢ j) keys
   pub all : (k : HeaderKey) → IsTrue (has_key problem k) → Contains keys k
-
--- all lines of a model file, of n blocks, one behind the other: they state this, and nothing of it is lacking
-abbrev pub StateModel : Problem → ℕ → List Line → ModelDraftView → Type 0
-StateModel problem n lines d =
-    (read_lines line_stated (blank_model problem n) lines ≡ Ok d) × (is_whole d ≡ true)
 
 -- all lines of a model file, of n blocks: those of the header, and then three sections, each behind the line of its key. A line of values
 -- for each block, in order of identifier; the coefficients, which rise; the limits, which rise and of which no interval is turned
