@@ -20,7 +20,6 @@ from pit_tools.imported_blocks import Imported
 from pit_tools.instance import Blocks
 from pit_tools.plan_file import Plan
 from pit_tools.spelling import lines_of
-from pit_tools.sums import sum_of
 
 #: The columns behind the block, by how many fields lines have.
 FIELDS = ("period", "destination", "share")
@@ -61,6 +60,7 @@ def read_mined(path: str, plan: Plan, blocks: int) -> Mined:
 
     Raises UserError where lines have not as many fields, or one is no block, period or destination.
     """
+    outputs.reads(path)
     with open(path, encoding="utf-8", errors="replace") as file:
         lines = pd.Series(file.read().splitlines(), dtype=str)
     lines = lines[lines.str.strip() != ""]
@@ -181,10 +181,6 @@ def onto_rows(imported_path: str, plan: Plan, blocks: Blocks, mined: Mined,
 
     told = by_block(plan, mined, len(blocks), with_shares)
     read = read_imported(imported_path)
-    for path, found in zip(read.exports, read.sums):
-        if sum_of(path) != found:
-            raise UserError(f"{path}: it is another file than the one that `import` read: bring "
-                            "that back, or import it again")
     again = import_export(read.exports, read.words)
     block_at = _block_at(plan, blocks, again)
     without = len(np.setdiff1d(mined.block, block_at))

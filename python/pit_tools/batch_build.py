@@ -14,7 +14,7 @@ from typing import Optional
 from pit_tools import VERSION
 from pit_tools.compiled import SOURCE
 from pit_tools.errors import UserError
-from pit_tools.sums import sum_of
+from pit_tools.records import sum_of
 
 
 @dataclass(frozen=True)

@@ -16,7 +16,7 @@ from pit_tools.batch_build import Way, build_told_once
 from pit_tools.batch_list import Entry
 from pit_tools.errors import UserError
 from pit_tools.instance import TEXTS, present, read_instance, read_outline
-from pit_tools.sums import sum_of
+from pit_tools.records import sum_of
 
 #: The columns of SIZES, in order.
 COLUMNS = ("name", "blocks", "arcs", "coefficients", "limits", "cpit", "positive", "bytes",

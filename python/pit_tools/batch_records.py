@@ -17,7 +17,7 @@ from pit_tools import outputs
 from pit_tools.batch_list import Entry, Part
 from pit_tools.batch_making import Made
 from pit_tools.errors import UserError
-from pit_tools.sums import sum_of
+from pit_tools.records import sum_of
 
 NAME = "RECORD"
 

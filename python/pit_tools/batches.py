@@ -9,16 +9,15 @@ import os
 from contextlib import ExitStack
 from typing import Iterable, Sequence
 
-from pit_tools import outputs, progress
+from pit_tools import outputs, progress, records
 from pit_tools.batch_build import Way, build_told
 from pit_tools.batch_engines import Engine, in_turn
 from pit_tools.batch_list import TABLES, BatchList, Entry, Part, read_list
-from pit_tools.batch_lock import locked
+from pit_tools.locks import locked
 from pit_tools.batch_making import COLUMNS, Failed, Made, clear_unfinished, texts_of
 from pit_tools.batch_records import Record, Recorded, Sums, record_path, recorded_in
 from pit_tools.errors import UserError
 from pit_tools.instance import TEXTS
-from pit_tools.sums import sum_line
 
 #: The kinds of files that the tables are.
 KINDS = {"MANIFEST": "sums", "SIZES": "table of a batch", "BUILD": "build of a batch"}
@@ -34,6 +33,7 @@ class Batch:
         self.way, self.part = way, part
         self.list = read_list(path, texts_of(way), [record_path("", part)])
         self.entries = self.list.entries_of(part)
+        outputs.reads(*(name for entry in self.entries for name in entry.inputs))
         self.made: dict[Entry, Made] = {}
         self.kept: set[Entry] = set()
         self.failed: list[str] = []
@@ -112,15 +112,19 @@ def finish(listed: BatchList, build: str, made: dict[Entry, Made], is_right: boo
                 file.write(content)
     if not is_right or len(rows) < len(listed.entries):
         return []
-    wanted = {name: hashlib.sha256(content.encode()).hexdigest()
-              for name, content in tables.items()} | {listed.path: listed.sum}
     changed = _changed(listed, made)
     if changed:
         return [f"{name} was changed while the batch ran" for name in changed]
+    inputs = {listed.path: listed.sum}
+    written = {name: hashlib.sha256(content.encode()).hexdigest()
+               for name, content in tables.items()}
     for entry in listed.entries:
-        wanted |= made[entry].sums
+        for name, found in made[entry].sums.items():
+            (inputs if name in entry.inputs else written)[name] = found
+    files = [tuple(records.File(name, os.path.getsize(name), found) for name, found in part.items())
+             for part in (written, inputs)]
     with outputs.opened("MANIFEST", KINDS["MANIFEST"], "utf-8") as file:
-        file.writelines(sum_line(found, name) for name, found in wanted.items())
+        file.write(records.Record("MANIFEST", "batch", *files).text)
     return []
 
 

@@ -47,6 +47,9 @@ COMMANDS = {
 
 MODULES = {"import": "import_"}
 
+#: Those that read nothing that a command wrote.
+UNJUDGED = ("deposit", "python", "texts")
+
 #: What the system answers where nothing more can be written.
 FULL = (errno.ENOSPC, errno.EDQUOT, errno.EFBIG)
 
@@ -111,11 +114,14 @@ def _filled(parser: argparse.ArgumentParser, command: str) -> argparse.ArgumentP
     module = importlib.import_module("pit_tools.commands." + module_path(command))
     parser.description = module.HELP
     module.add_arguments(parser)
+    if command not in UNJUDGED:
+        parser.add_argument("--edited", action="store_true",
+                            help="takes files too that were changed since a command wrote them")
     if hasattr(module, "WRITES"):
         parser.add_argument("--force", action="store_true",
                             help="replaces files of another kind too")
         parser.epilog = "\n\n".join(filter(None, [parser.epilog, replaced(module.WRITES)]))
-    parser.set_defaults(run=module.run, force=False)
+    parser.set_defaults(run=module.run, force=False, edited=False)
     return parser
 
 
@@ -153,7 +159,7 @@ def run(words: Sequence[str]) -> int:
     if command not in COMMANDS:
         raise UserError(_unknown(command))
     args = parser_of(command).parse_args(joined(words[1:]))
-    with outputs.of_command(args.force):
+    with outputs.of_command(args.force, args.edited, command):
         status = args.run(args)
         _flush()
         return status

@@ -47,6 +47,7 @@ def read_identifiers(path: str) -> Identifiers:
 
     Raises UserError where it is none.
     """
+    outputs.reads(path)
     try:
         with open(path, encoding="ascii") as file:
             fields = np.array([line.split() for line in file], dtype=np.int64).reshape(-1, 2)
@@ -67,6 +68,7 @@ def lines_renamed(path: str, identifiers: Identifiers, to_published: bool) -> It
     """
     first = 0 if to_published else identifiers.first
     names = (identifiers.published if to_published else identifiers.blocks()).tolist()
+    outputs.reads(path)
     with open(path, encoding="utf-8", errors="replace") as file:
         for number, line in enumerate(file, 1):
             fields = line.split()

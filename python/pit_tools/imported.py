@@ -7,6 +7,7 @@ from dataclasses import dataclass
 from operator import index
 from typing import Optional
 
+from pit_tools import outputs
 from pit_tools.decimals import decimal_of
 from pit_tools.errors import UserError
 from pit_tools.export_words import Words
@@ -21,9 +22,9 @@ from pit_tools.units import grade_unit_of
 class ImportedFile:
     """What was imported: the exports and the words by which they were read, the grid with its
     numbers of blocks, the zones with their files, the frame of the export's coordinates, the K of
-    zones that are so many benches below another, the sums of the exports, none where an older
-    version wrote it, what was told, and behind LOOK AT, the resource report, and how many benches have rock. Paths of zone files are those from
-    where BASE.json was read."""
+    zones that are so many benches below another, what was told, and behind LOOK AT, the resource
+    report, and how many benches have rock. Paths of zone files are those from where BASE.json was
+    read."""
 
     exports: list[str]
     words: Words
@@ -33,7 +34,6 @@ class ImportedFile:
     files: list[str]
     frame: Frame
     benches: dict[str, int]
-    sums: list[str]
     told: list[str]
     doubts: list[str]
     reconciled: Reconciled = Reconciled()
@@ -53,6 +53,7 @@ class ImportedFile:
 
 def read_imported(path: str) -> ImportedFile:
     """Reads BASE.json. It raises UserError where it is none, OSError where it cannot be read."""
+    outputs.reads(path)
     with open(path, encoding="utf-8", errors="replace") as file:
         try:
             told = json.load(file)
@@ -80,7 +81,6 @@ def _imported(told: dict, path: str) -> ImportedFile:
                         (wide, deep, high), [name for name, _, _ in zones],
                         [path for _, path, _ in zones], Frame.of_record(told["frame"]),
                         {name: index(K) for name, _, K in zones if K},
-                        list(map(_text, told.get("sums", []))),
                         list(map(_text, told.get("told", []))),
                         list(map(_text, told.get("look_at", []))),
                         Reconciled.of_record(told.get("reconciled")),

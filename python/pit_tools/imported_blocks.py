@@ -20,7 +20,6 @@ from pit_tools.plan_file import Grid, Slope, Zone, zone_record
 from pit_tools.reconciling import Reconciled, Reconciliation
 from pit_tools.slope_words import K_for
 from pit_tools.source import Source
-from pit_tools.sums import sum_of
 from pit_tools.zone_files import write_zone_file
 
 
@@ -113,7 +112,7 @@ class Imported:
         paths = self.file_names(base)
         exports = list(dict.fromkeys(source.path for source in self.sources))
         told = {"tool": f"pit-tools {VERSION}",
-                "exports": exports, "sums": [sum_of(path) for path in exports],
+                "exports": exports,
                 "words": {key: value for key, value in asdict(self.words).items()
                           if value not in ("", (), [], None, False)},
                 "grid": {"origin": [plain(value) for value in self.grid.origin],
@@ -125,7 +124,7 @@ class Imported:
                 "frame": asdict(self.frame), "reconciled": self.reconciled().record(),
                 "told": self.report.facts, "look_at": self.report.doubts}
         progress.step("writes zone files")
-        with outputs.together(source.path for source in self.sources):
+        with outputs.together(exports, record=base + ".json", others=()):
             for zone, path in enumerate(paths):
                 write_zone_file(path, self.zone_rows(zone))
             with outputs.opened(base + ".json", "record of an import", "utf-8") as file:

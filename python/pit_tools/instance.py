@@ -29,6 +29,7 @@ from pit_tools import outputs, spelling
 from pit_tools.errors import UserError
 from pit_tools.formats import (MOST_AMOUNT, MOST_DESTINATIONS, MOST_INDEX, MOST_PERIODS,
                                MOST_RESOURCES, MOST_ZONE, NAME, WHAT_A_NAME_IS)
+from pit_tools.records import status_of
 
 TEXTS = ("blocks", "prec", "upit", "pcpsp", "cpit")
 
@@ -283,7 +284,15 @@ def _first_line(error: Exception) -> str:
 
 def _opened(path: str) -> BinaryIO:
     try:
+        outputs.reads(path)
         return open(path, "rb")
+    except OSError as error:
+        raise BadInstance(f"cannot open {path}: {error.strerror}") from None
+
+
+def _is_there(path: str) -> bool:
+    try:
+        return status_of(path) is not None
     except OSError as error:
         raise BadInstance(f"cannot open {path}: {error.strerror}") from None
 
@@ -694,7 +703,7 @@ def read_instance(base: str, texts: Sequence[str] = TEXTS,
     parts: dict[str, Any] = {}
     for text in texts:
         path = precedence if text == "prec" and precedence is not None else f"{base}.{text}"
-        if text in ("upit", "cpit") and not os.path.exists(path):
+        if text in ("upit", "cpit") and not _is_there(path):
             continue
         parts["precedence" if text == "prec" else text] = readers[text](path)
     sizes: dict[str, Callable[[Any], int]] = {"blocks": len,
@@ -788,12 +797,13 @@ def _write(path: str, kind: str, pieces: Iterable[bytes], remark: str) -> None:
 def write_instance(instance: Instance, base: str, end: bytes = b"", remark: str = "") -> None:
     """Writes the parts of an instance that are there to BASE.blocks and so on: the bytes of `pitc`.
     They come together, or none does. Each file begins with the remark, one line, if there is one,
-    as a comment; `end` follows each model.
+    as a comment; `end` follows each model. In a command other files of an instance at BASE go, or
+    are refused (outputs.together).
 
     Raises UserError where a number is infinite, NaN or too great for its decimals, and where a file
     cannot be written.
     """
-    with outputs.together():
+    with outputs.together(record=base, others=[f"{base}.{text}" for text in TEXTS]):
         if instance.blocks is not None:
             write_blocks(instance.blocks, base + ".blocks", remark)
         if instance.precedence is not None:

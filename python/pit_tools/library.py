@@ -7,7 +7,6 @@ bounds, FOUND when each schedule was found, by whom and how, SUMS the sums of th
 """
 from __future__ import annotations
 
-import hashlib
 import os
 import tempfile
 from dataclasses import dataclass
@@ -21,6 +20,7 @@ from pit_tools.deposits import ZONES, Deposit
 from pit_tools.errors import UserError
 from pit_tools.instance import TEXTS, Instance, cents, present, write_instance
 from pit_tools.plan_file import plan_of
+from pit_tools.records import ENDING, File, read_record, status_of
 from pit_tools.schedules import check, read_schedule
 from pit_tools.valuation import blocks_of, instance_of
 from pit_tools.zone_files import read_zone_files
@@ -51,7 +51,7 @@ class Known:
     """What the library's table says of a deposit; `sums` are of the texts of its instance."""
 
     row: dict[str, str]
-    sums: dict[str, str]
+    sums: dict[str, File]
 
 
 def make(deposit: Deposit, folder: str) -> Instance:
@@ -64,19 +64,16 @@ def make(deposit: Deposit, folder: str) -> Instance:
     return mine
 
 
-def sums_of(folder: str, name: str) -> dict[str, str]:
-    """The SHA-256 sums of the texts of an instance."""
-    found = {}
-    for text in TEXTS:
-        with open(os.path.join(folder, f"{name}.{text}"), "rb") as file:
-            found[f"{name}.{text}"] = hashlib.sha256(file.read()).hexdigest()
-    return found
+def sums_of(folder: str, name: str) -> dict[str, File]:
+    """The texts of an instance with their sums, by name."""
+    found = [File.of(os.path.join(folder, f"{name}.{text}"), folder) for text in TEXTS]
+    return {file.name: file for file in found}
 
 
 def table_of(folder: str, name: str) -> pd.DataFrame:
     """TABLE or FOUND of a library, as words. Raises UserError where it is not there."""
     path = os.path.join(folder or FOLDER, name)
-    if not os.path.exists(path):
+    if status_of(path) is None:
         raise UserError(f"{folder}: no library, since it has no {name}: `library --write` makes "
                         "one")
     with outputs.looking():
@@ -104,11 +101,14 @@ def known(name: str, folder: str = "") -> Known:
     rows = table[table["name"] == name]
     if len(rows) != 1:
         raise UserError(f"the library has no `{name}`: it has {', '.join(table['name'])}")
-    with open(os.path.join(folder or FOLDER, "SUMS"), encoding="utf-8", errors="replace") as file:
-        sums = [line.split() for line in file]
-    mine = {file: found for found, file in (line for line in sums if len(line) == 2)
-            if file.rpartition(".")[0] == name}
-    return Known(rows.iloc[0].to_dict(), mine)
+    path = os.path.join(folder or FOLDER, "SUMS")
+    with outputs.looking():
+        record = read_record(path)
+    if record is None:
+        raise UserError(f"{path}: it is not there, or no record of sums: `library --write` makes "
+                        "one")
+    return Known(rows.iloc[0].to_dict(), {file.name: file for file in record.outputs
+                                          if file.name.rpartition(".")[0] == name})
 
 
 def schedule_path(name: str, kind: str, folder: str = "") -> str:
@@ -157,7 +157,7 @@ def write_all(folder: str) -> None:
             make(deposit, made)
         with outputs.together():
             outputs.folder(folder)
-            for name in sorted(os.listdir(made)):
+            for name in sorted(name for name in os.listdir(made) if not name.endswith(ENDING)):
                 kind = outputs.ENDINGS.get(os.path.splitext(name)[1], "zone file")
                 outputs.copied(os.path.join(made, name), os.path.join(folder, name), kind)
             for deposit in DEPOSITS:

@@ -16,6 +16,7 @@ from pit_tools.commands.lp import fewer_arcs
 from pit_tools.deposits import Deposit
 from pit_tools.errors import UserError
 from pit_tools.instance import Instance, Problem, present
+from pit_tools.records import File, Record
 from pit_tools.schedule_search import STEP, Search
 from pit_tools.schedules import Schedule, check, read_schedule, write_schedule
 
@@ -164,7 +165,7 @@ def build(folder: str, seconds: float) -> None:
     """Makes the library anew: tables, sums and schedules."""
     outputs.folder(folder)
     rows, lines = [], []
-    sums: dict[str, str] = {}
+    sums: dict[str, File] = {}
     with tempfile.TemporaryDirectory() as made:
         for deposit in library.DEPOSITS:
             mine = library.make(deposit, made)
@@ -180,7 +181,7 @@ def build(folder: str, seconds: float) -> None:
                 write_table(pd.DataFrame(rows)[list(library.COLUMNS)], folder, "TABLE")
                 write_table(pd.DataFrame(lines), folder, "FOUND")
                 with outputs.opened(os.path.join(folder, "SUMS"), "sums", "ascii") as file:
-                    file.writelines(f"{found}  {name}\n" for name, found in sums.items())
+                    file.write(Record("SUMS", "library", tuple(sums.values())).text)
 
 
 def _both(mine: Instance, deposit: Deposit, seconds: float) -> Iterator[Finding]:

@@ -10,6 +10,7 @@ from typing import Iterator, NamedTuple, Optional
 
 import numpy as np
 
+from pit_tools import outputs
 from pit_tools.plan_file import Destination
 from pit_tools.spelling import shortest, with_commas
 from pit_tools.survey_facts import Facts
@@ -169,10 +170,6 @@ def _files_of_the_note(facts: Facts) -> Iterator[str]:
     if names and names != wanted:
         yield (f"zone files are {', '.join(names)}, and those of the plan {', '.join(wanted)}: "
                "each zone has the slopes of its record")
-        return
-    for zone, file in zip(facts.note.zones, facts.zone_files):
-        if file.sum and file.sum != zone.sum:
-            yield f"{file.name} is not the file that it was when `plan` was called"
 
 
 def _benches(facts: Facts) -> Iterator[str]:
@@ -302,8 +299,8 @@ def _little_used(facts: Facts) -> Iterator[str]:
 
 
 def _note(facts: Facts) -> Iterator[str]:
-    if facts.note.why_not:
-        yield facts.note.why_not
+    yield from filter(None, [facts.note.why_not])
+    yield from outputs.edited()
 
 
 def _resources(facts: Facts) -> Iterator[str]:

@@ -7,7 +7,9 @@
 A file is written beside its place, as NAME.unfinished-PROCESS, and put there by a rename when all
 of it lies on the disk. The files of one `together` come together, or none does; an old file is kept
 meanwhile as NAME.before-PROCESS, and comes back where a later one cannot be put in its place. Both
-names stay where the process is killed, and nowhere else.
+names stay where the process is killed, or where the system lets nothing be put back, which is told.
+One command at a time puts files into a folder. Of several files a record is put last
+(pit_tools.records), which tells a mixture of two runs to whoever reads one of them.
 
 Nothing is written over what the command reads, by whichever name or link. A link stays a link: the
 file that it leads to is replaced. A device or a pipe is written through. Of a file with several
@@ -16,6 +18,8 @@ names by hard links the one name gets the new file.
 from __future__ import annotations
 
 import errno
+import fcntl
+import hashlib
 import io
 import os
 import re
@@ -23,12 +27,15 @@ import shutil
 import stat
 import sys
 import threading
-from contextlib import contextmanager
-from dataclasses import dataclass
-from typing import IO, Any, Callable, Iterable, Iterator, Optional, Tuple, TypeVar, Union
+import time
+from contextlib import ExitStack, contextmanager
+from dataclasses import dataclass, replace
+from typing import (IO, Any, Callable, Iterable, Iterator, Optional, Sequence, Tuple, TypeVar,
+                    Union)
 
-from pit_tools import interrupts
+from pit_tools import interrupts, records
 from pit_tools.errors import UserError
+from pit_tools.records import File, Reading, Record, status_of
 
 #: How a file of each kind begins. A command replaces no other files, but by --force.
 KINDS = {
@@ -60,7 +67,7 @@ KINDS = {
     "OBJ file": rb"# pit-tools shell\n",
     "compiled program": rb"\x7fELF|\xcf\xfa\xed\xfe",
     "table of the library": rb"name( seed shape |,kind,date,)",
-    "sums": rb"\\?[0-9a-f]{64}  ",
+    "sums": rb'# \{"tool": "pit-tools ',
     "table of a batch": rb"name blocks ",
     "record of a batch": rb'\{"build": "',
     "build of a batch": rb"[^\n]*\n[0-9a-f]{64}  pitc\n",
@@ -76,8 +83,8 @@ FRONT = 1 << 20
 #: How much of a name stands in that of an unfinished file: with the rest it has to have 255 bytes.
 NAME_KEPT = 200
 
-#: What a file system answers that has no hard links, or gives none of this file.
-NO_LINKS = (errno.EPERM, errno.EOPNOTSUPP, errno.ENOSYS, errno.EMLINK, errno.EACCES)
+#: Seconds in which another command has put its files into a folder.
+SECONDS_OF_A_PUT = 20.0
 
 Identity = Tuple[int, int]
 Made = TypeVar("Made")
@@ -88,32 +95,32 @@ Name = Union[str, bytes, "os.PathLike[str]", "os.PathLike[bytes]"]
 
 
 def _identity(path: Name) -> Optional[Identity]:
-    """What a regular file is, by whichever of its names; None of all else."""
-    try:
-        status = os.stat(path)
-    except (OSError, ValueError):
-        return None
-    return (status.st_dev, status.st_ino) if stat.S_ISREG(status.st_mode) else None
+    """What a regular file is, by whichever of its names; None of all else. Raises OSError where the
+    system does not say."""
+    status = status_of(os.fsdecode(path))
+    return (status.st_dev, status.st_ino) if status and stat.S_ISREG(status.st_mode) else None
 
 
 # What is read
 
 
 class _Command:
-    """The command that runs: what it has read, and whether it may replace other files."""
+    """The command that runs, by its name: what it has read, and whether it may replace other
+    files."""
 
     #: The one that runs now, and whether Python calls `_hook` already.
     now: Optional[_Command] = None
     is_hooked = False
 
-    def __init__(self, force: bool):
-        self.force, self.is_looking = force, False
+    def __init__(self, force: bool, is_edited: bool, name: str):
+        self.force, self.is_looking, self.name = force, False, name
         self.reads: dict[Identity, str] = {}
+        self.reading = Reading(is_edited)
 
     def note(self, path: Name) -> None:
-        found = _identity(path)
-        if found and not self.is_looking:
-            self.reads.setdefault(found, os.fsdecode(path))
+        if not self.is_looking and b"\0" not in os.fsencode(path):
+            if found := _identity(path):
+                self.reads.setdefault(found, os.fsdecode(path))
 
 
 def _hook(event: str, arguments: tuple[Any, ...]) -> None:
@@ -126,13 +133,14 @@ def _hook(event: str, arguments: tuple[Any, ...]) -> None:
 
 
 @contextmanager
-def of_command(force: bool = False) -> Iterator[None]:
+def of_command(force: bool = False, is_edited: bool = False, name: str = "") -> Iterator[None]:
     """Within it each file that is opened to read is one that nothing may be written over, and a
-    file is replaced only by one of its kind, but with `force`."""
+    file is replaced only by one of its kind, but with `force`. Inputs have to be those that records
+    name, but with `is_edited`."""
     if not _Command.is_hooked:
         sys.addaudithook(_hook)
         _Command.is_hooked = True
-    _Command.now = _Command(force)
+    _Command.now = _Command(force, is_edited, name)
     try:
         yield
     finally:
@@ -154,10 +162,21 @@ def looking() -> Iterator[None]:
 
 
 def reads(*paths: str) -> None:
-    """Says that the command reads these files too, by another program."""
-    if _Command.now is not None:
+    """Says that the command reads these inputs, itself or by another program: what it writes is
+    made of them.
+
+    Raises UserError where records say that they are of different runs."""
+    command = _Command.now
+    if command is not None and not command.is_looking:
         for path in paths:
-            _Command.now.note(path)
+            command.note(path)
+            with looking():
+                command.reading.take(path)
+
+
+def edited() -> Sequence[str]:
+    """What was read by the command although a record names another file, in a line each."""
+    return _Command.now.reading.edited if _Command.now is not None else ()
 
 
 # Where a file goes
@@ -189,17 +208,26 @@ def _named(error: OSError, place: str) -> OSError:
 
 
 class _Raw(io.FileIO):
-    """A file whose faults have its name."""
+    """A file whose faults have its name, and whose sum is taken while it is written; `sum` is None
+    where it was written in another order, as an archive is."""
 
-    def __init__(self, descriptor: int, place: str):
+    def __init__(self, descriptor: int, place: str, is_summed: bool = False):
         super().__init__(descriptor, "w")
         self.place = place
+        self.sum = hashlib.sha256() if is_summed else None
 
     def write(self, data: Any) -> int:
         try:
-            return super().write(data)
+            written = super().write(data)
         except OSError as error:
             raise _named(error, self.place) from None
+        if self.sum is not None:
+            self.sum.update(memoryview(data)[:written])
+        return written
+
+    def seek(self, position: int, whence: int = 0) -> int:
+        self.sum = None
+        return super().seek(position, whence)
 
 
 def _over(raw: _Raw, encoding: Optional[str], newline: str) -> IO[Any]:
@@ -211,11 +239,50 @@ def _over(raw: _Raw, encoding: Optional[str], newline: str) -> IO[Any]:
 
 @dataclass
 class _Unfinished:
-    """A file beside its place. `place` is how the command names it, `target` where it goes."""
+    """A file beside its place. `place` is how the command names it, `target` where it goes, `path`
+    where it is till then, empty for a file that goes; `record` is the path of its record, or
+    empty."""
 
     place: str
     target: str
     path: str
+    record: str = ""
+    raw: Optional[_Raw] = None
+
+    def file(self) -> File:
+        """What its record says of it."""
+        found = self.raw.sum.hexdigest() if self.raw and self.raw.sum else records.sum_of(self.path)
+        return File(os.path.relpath(self.target, os.path.dirname(self.record)),
+                    os.stat(self.path).st_size, found)
+
+
+@dataclass
+class _Step:
+    """A file on its way to its place: whether one was there, the other name that this one has
+    meanwhile, whether it lost its own for that, and whether the new one is in its place."""
+
+    one: _Unfinished
+    was_there: bool
+    kept: str = ""
+    is_aside: bool = False
+    is_put: bool = False
+
+    def back(self) -> str:
+        """Brings the old file back, or takes away a new one that nothing stood in place of; tells
+        what there is where that is refused."""
+        place, before = self.one.place, os.path.join(os.path.dirname(self.one.place),
+                                                     os.path.basename(self.kept))
+        try:
+            if self.kept and (self.is_put or self.is_aside):
+                os.replace(self.kept, self.one.target)
+            elif self.is_put and not self.was_there:
+                os.unlink(self.one.target)
+            _remove(self.kept)
+            return ""
+        except OSError:
+            if not self.kept:
+                return f"{place} is new"
+            return f"{place} is {'new' if self.is_put else 'gone'}, and was {before}"
 
 
 def _beside(target: str, what: str, make: Callable[[str], Made]) -> tuple[str, Made]:
@@ -246,6 +313,10 @@ class _Group:
         self.files: list[_Unfinished] = []
         self.folders: list[str] = []
         self.reads: dict[Identity, str] = {}
+        #: Of the files that are opened now.
+        self.record = ""
+        #: Files that no run may leave beside those of a record, by the path of that.
+        self.others: dict[str, list[str]] = {}
 
     def note(self, paths: Iterable[str]) -> None:
         self.reads |= {found: path for path in paths if (found := _identity(path))}
@@ -262,15 +333,16 @@ class _Group:
     def begin(self, place: str, kind: str) -> _Raw:
         """Opens the file beside the place of one that is to be written."""
         target = os.path.realpath(place)
-        if os.path.isdir(target):
+        status = status_of(target)
+        if status and stat.S_ISDIR(status.st_mode):
             raise IsADirectoryError(errno.EISDIR, os.strerror(errno.EISDIR), place)
         if any(one.target == target for one in self.files):
             raise UserError(f"{place}: two files would have this name")
         self.refuse_read(place, _identity(target))
-        if os.path.exists(target):
+        if status:
             self.judge_old(place, target, kind)
         with interrupts.held():
-            return self._made_beside(place, target)
+            return self._made_beside(place, target, status)
 
     def judge_old(self, place: str, target: str, kind: str) -> None:
         """Refuses to write in place of a file of another kind, or one that may not be written."""
@@ -285,8 +357,7 @@ class _Group:
             raise UserError(f"{place}: the file there is of another kind than `{kind}`: --force "
                             "replaces it")
 
-    def _made_beside(self, place: str, target: str) -> _Raw:
-        old = os.stat(target) if os.path.exists(target) else None
+    def _made_beside(self, place: str, target: str, old: Optional[os.stat_result]) -> _Raw:
         mode = stat.S_IMODE(old.st_mode) & 0o777 if old else 0o666
         try:
             path, descriptor = _beside(target, "unfinished", lambda name: _created(name, mode))
@@ -297,10 +368,11 @@ class _Group:
             raise PermissionError(errno.EACCES, os.strerror(errno.EACCES), place) from None
         except OSError as error:
             raise _named(error, place) from None
-        self.files.append(_Unfinished(place, target, path))
+        raw = _Raw(descriptor, place, bool(self.record))
+        self.files.append(_Unfinished(place, target, path, self.record, raw))
         if old:
             _take_rights(descriptor, old)
-        return _Raw(descriptor, place)
+        return raw
 
     def drop(self, files: Iterable[_Unfinished]) -> None:
         """Takes unfinished files away."""
@@ -308,36 +380,104 @@ class _Group:
             self.files.remove(one)
             _remove(one.path)
 
+    # Records
+
+    def _made_records(self) -> dict[str, Record]:
+        """The records of what is about to be put, by their paths: each names more than one file."""
+        found: dict[str, Record] = {}
+        command, targets = _Command.now, [one.target for one in self.files]
+        for path in dict.fromkeys(one.record for one in self.files if one.record):
+            with looking():
+                files = tuple(one.file() for one in self.files if one.record == path)
+            if len(files) > 1:
+                inputs = command.reading.inputs(os.path.dirname(path), targets) if command else ()
+                found[path] = Record(path, command.name if command else "", files, inputs)
+        return found
+
+    def _judged_records(self) -> dict[str, Optional[str]]:
+        """The texts of all records that are to be put, by their paths: those of these files, and
+        older ones, which no longer name a file that is replaced; None of one that names no other.
+        """
+        made, targets = self._made_records(), {one.target for one in self.files}
+        texts: dict[str, Optional[str]] = {path: record.text for path, record in made.items()}
+        with looking():
+            older = [record for folder in self._folders()
+                     for record in records.records_in(folder, is_replacing=True)]
+        for record in (one for one in older if one.is_put):
+            left = tuple(file for file in record.outputs if record.at(file) not in targets)
+            if record.path in self.others:
+                self._take_others(record.path, left)
+                left = ()
+            if record.path not in made and len(left) < len(record.outputs):
+                texts[record.path] = replace(record, outputs=left).text if left else None
+        for path in list(self.others):
+            self._take_others(path, ())
+        return texts
+
+    def _take_others(self, path: str, named: Sequence[File]) -> None:
+        """Has the files go that an earlier run left beside these; refuses where one was changed
+        since, or nothing says that this tool wrote it."""
+        sums = {os.path.abspath(os.path.join(os.path.dirname(path), file.name)): file.sum
+                for file in named}
+        targets = [one.target for one in self.files]
+        for target in [one for one in (*sums, *self.others.pop(path)) if one not in targets]:
+            if status_of(target) is None:
+                continue
+            place = os.path.relpath(target)
+            with looking():
+                is_own = target in sums and records.sum_of(target) == sums[target]
+            if not is_own and not (_Command.now and _Command.now.force):
+                raise UserError(f"{place}: it stands beside what is written, and is none of it: "
+                                "move it away, or let --force remove it")
+            self.refuse_read(place, _identity(target))
+            targets.append(target)
+            self.files.append(_Unfinished(place, target, ""))
+
+    def _write_records(self) -> None:
+        self.record = ""
+        for path, text in self._judged_records().items():
+            place = os.path.relpath(path)
+            if text is None:
+                self.files.append(_Unfinished(place, path, ""))
+                continue
+            with _whole(self.begin(place, "sums"), "utf-8", "\n") as file:
+                file.write(text)
+
+    def _folders(self) -> list[str]:
+        return sorted({os.path.dirname(one.target) for one in self.files})
+
+    # Renames
+
     def put(self) -> None:
         """Puts all files in their places."""
-        for one in self.files:
-            self.refuse_read(one.place, _identity(one.target))
-        done: list[tuple[_Unfinished, Optional[str], bool]] = []
+        with ExitStack() as held:
+            for above in self._folders():
+                held.enter_context(_alone_in(above))
+            self._write_records()
+            for one in self.files:
+                self.refuse_read(one.place, _identity(one.target))
+            with interrupts.held():
+                self._rename()
+                for above in self._folders():
+                    _sync_folder(above)
+                self.files.clear()
+                self.folders.clear()
+
+    def _rename(self) -> None:
+        done: list[_Step] = []
         try:
             for one in self.files:
-                was_there = os.path.lexists(one.target)
-                kept = _kept(one) if was_there and len(self.files) > 1 else None
-                done.append((one, kept, was_there))
-                _renamed(one.path, one.target, one.place)
+                done.append(_Step(one, _lies(one.target)))
+                _put(done[-1], len(self.files) > 1)
         except OSError as error:
-            self._undo(done)
+            told = [line for line in (step.back() for step in reversed(done)) if line]
+            if told:
+                raise UserError(f"{_said(error)}, and the system lets nothing be put back: "
+                                f"{', '.join(reversed(told))}: bring the old files back, or run "
+                                "this again, once it does") from None
             raise error
-        for _, kept, _ in done:
-            _remove(kept)
-        for above in {os.path.dirname(one.target) for one in self.files}:
-            _sync_folder(above)
-        self.files.clear()
-        self.folders.clear()
-
-    def _undo(self, done: list[tuple[_Unfinished, Optional[str], bool]]) -> None:
-        """Brings the old files back, and takes new ones away that nothing stood in place of."""
-        for one, kept, was_there in reversed(done):
-            if os.path.lexists(one.path):
-                _remove(kept)
-            elif kept:
-                _renamed(kept, one.target, one.place)
-            elif not was_there:
-                _remove(one.target)
+        for step in done:
+            _remove(step.kept)
 
     def clear(self) -> None:
         """Takes all away that was begun."""
@@ -361,24 +501,84 @@ def _take_rights(descriptor: int, old: os.stat_result) -> None:
         pass
 
 
-def _kept(one: _Unfinished) -> Optional[str]:
-    """A second name of the old file; None where the file system has none to give."""
+def _lies(target: str) -> bool:
+    """Whether a name is taken, by a link that leads nowhere too."""
     try:
-        return _beside(one.target, "before", lambda path: os.link(one.target, path))[0]
+        os.lstat(target)
+    except (FileNotFoundError, NotADirectoryError):
+        return False
+    return True
+
+
+def _put(step: _Step, is_kept: bool) -> None:
+    """Puts a file in its place, or has it go; the old one gets a second name, or another where the
+    file system has no links."""
+    one = step.one
+    try:
+        if step.was_there and (is_kept or not one.path):
+            step.kept, step.is_aside = _kept(one)
+        if one.path:
+            os.replace(one.path, one.target)
+            step.is_put = True
     except OSError as error:
-        if error.errno in NO_LINKS:
-            return None
         raise _named(error, one.place) from None
 
 
-def _renamed(path: str, target: str, place: str) -> None:
+def _kept(one: _Unfinished) -> tuple[str, bool]:
+    """Another name of the old file, and whether it lost its own for that."""
+    if one.path:
+        try:
+            return _beside(one.target, "before", lambda path: os.link(one.target, path))[0], False
+        except OSError:
+            pass
+    return _beside(one.target, "before", lambda path: _moved(one.target, path))[0], True
+
+
+def _moved(path: str, new: str) -> None:
+    """Renames a file to a name that is not taken."""
+    if _lies(new):
+        raise FileExistsError(errno.EEXIST, os.strerror(errno.EEXIST), new)
+    os.replace(path, new)
+
+
+def _said(error: OSError) -> str:
+    place = f"{os.fsdecode(error.filename)}: " if error.filename else ""
+    return place + (error.strerror or str(error))
+
+
+@contextmanager
+def _alone_in(above: str) -> Iterator[None]:
+    """Has no other command put files into a folder meanwhile. The system lifts the lock with the
+    process; where a file system has none, records alone tell a mixture."""
     try:
-        os.replace(path, target)
-    except OSError as error:
-        raise _named(error, place) from None
+        descriptor = os.open(above, os.O_RDONLY | os.O_DIRECTORY | os.O_CLOEXEC)
+    except OSError:
+        yield
+        return
+    try:
+        until = time.monotonic() + SECONDS_OF_A_PUT
+        while not _locked(descriptor):
+            if time.monotonic() > until:
+                raise UserError(f"{above}: another command has been putting files there for "
+                                f"{SECONDS_OF_A_PUT:g} s: end it, or wait for it")
+            time.sleep(0.02)
+        yield
+    finally:
+        os.close(descriptor)
 
 
-def _remove(path: Optional[str]) -> None:
+def _locked(descriptor: int) -> bool:
+    """Takes a lock; whether nobody else has it."""
+    try:
+        fcntl.flock(descriptor, fcntl.LOCK_EX | fcntl.LOCK_NB)
+    except BlockingIOError:
+        return False
+    except OSError:
+        pass
+    return True
+
+
+def _remove(path: str) -> None:
     try:
         if path:
             os.unlink(path)
@@ -413,26 +613,47 @@ _here = threading.local()
 
 
 @contextmanager
-def together(reading: Iterable[str] = ()) -> Iterator[None]:
+def together(reading: Iterable[str] = (), record: str = "",
+             others: Optional[Iterable[str]] = None) -> Iterator[None]:
     """The files that are opened within come together at its end, or none does where an exception
     leaves it. One `together` within another is a part of that. `reading` are files that are read
-    where no command runs, which knows its own."""
+    where no command runs, which knows its own.
+
+    In a command a record RECORD.sums comes last where there are several files. With `others`, names
+    that belong beside the same base, none of these and none that the record named before stays
+    unless it is written: what was changed since, or was never of a record, is refused, but with
+    `force` removed."""
     group = getattr(_here, "group", None)
     if group is not None:
         group.note(reading)
-        yield
+        with _recorded(group, record, others):
+            yield
         return
     with interrupts.caught():
         group = _here.group = _Group()
         group.note(reading)
         try:
-            yield
-            with interrupts.held():
-                group.put()
+            with _recorded(group, record, others):
+                yield
+            group.put()
         finally:
             with interrupts.held():
                 _here.group = None
                 group.clear()
+
+
+@contextmanager
+def _recorded(group: _Group, record: str, others: Optional[Iterable[str]]) -> Iterator[None]:
+    """Has files be of a record, of a command alone: a program in Python has none."""
+    before, path = group.record, os.path.realpath(record + records.ENDING)
+    if record and before in ("", path) and _Command.now is not None:
+        group.record = path
+        if others is not None:
+            group.others[path] = [os.path.realpath(one) for one in others]
+    try:
+        yield
+    finally:
+        group.record = before
 
 
 @contextmanager
@@ -526,6 +747,17 @@ def opened_or_printed(place: Optional[str], kind: str, encoding: str,
     yield sys.stdout
 
 
+def record_of(base: str, paths: Iterable[str]) -> None:
+    """Writes the record of files that another program wrote for the command that runs."""
+    path, command = os.path.realpath(base + records.ENDING), _Command.now
+    assert command is not None
+    with looking():
+        files = tuple(File.of(one, os.path.dirname(path)) for one in paths)
+        inputs = command.reading.inputs(os.path.dirname(path), ())
+    with opened(base + records.ENDING, "sums", "utf-8") as file:
+        file.write(Record(path, command.name, files, inputs).text)
+
+
 def copied(source: str, place: str, kind: str) -> None:
     """Copies a file through the door."""
     with open(source, "rb") as file, opened(place, kind) as out:
@@ -541,7 +773,7 @@ def judged(*places: Optional[str]) -> None:
 def judged_old(place: str, kind: str) -> None:
     """Refuses early what would be written in place of a file of another kind."""
     target = os.path.realpath(place)
-    if os.path.exists(target):
+    if status_of(target):
         _Group().judge_old(place, target, kind)
 
 

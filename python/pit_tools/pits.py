@@ -19,6 +19,7 @@ def read_pit(path: str, blocks: Optional[int] = None) -> np.ndarray:
     Raises UserError where a line begins with no identifier below `blocks`, or one stands twice.
     """
     found = []
+    outputs.reads(path)
     with open(path, encoding="utf-8", errors="replace") as file:
         for number, line in enumerate(file, 1):
             fields = line.split()

@@ -8,6 +8,7 @@ from dataclasses import dataclass, field
 from decimal import Decimal
 from typing import Iterable, Optional, Sequence, Tuple
 
+from pit_tools import outputs
 from pit_tools.decimals import decimal_of, plain
 from pit_tools.errors import UserError
 from pit_tools.formats import (MOST_HEIGHT, MOST_PERIODS, MOST_PLAN_BYTES, NAME,
@@ -313,6 +314,7 @@ class _Reader:
 def read_text(path: str) -> str:
     """The text of a plan. It raises UserError where it is longer than any plan, OSError for a file
     that cannot be read."""
+    outputs.reads(path)
     with open(path, "rb") as file:
         content = file.read(MOST_PLAN_BYTES + 1)
     if len(content) > MOST_PLAN_BYTES:

@@ -15,6 +15,7 @@ from typing import BinaryIO, Iterable, Iterator, NoReturn, Optional, Sequence
 import numpy as np
 import pandas as pd
 
+from pit_tools import outputs
 from pit_tools.errors import UserError
 from pit_tools.spelling import EXACT, FEWEST, NotHeld, nearest
 
@@ -116,6 +117,7 @@ def pieces_of(path: str) -> Iterator[Piece]:
     Raises UserError where it cannot be opened, is no text, or has lines behind `EOF`.
     """
     number, has_ended = 1, False
+    outputs.reads(path)
     try:
         file = open(path, "rb")
     except OSError as error:

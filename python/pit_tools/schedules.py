@@ -92,6 +92,7 @@ def read_schedule(path: str, problem: Problem) -> Schedule:
     """
     is_pcpsp = problem.kind == "PCPSP"
     fields = 3 if is_pcpsp else 2
+    outputs.reads(path)
     with open(path, encoding="utf-8", errors="replace") as file:
         table = pd.Series(file.read().splitlines(), dtype=str).str.split(n=fields + 1, expand=True)
     table = table.reindex(columns=range(fields + 2)).fillna("")
@@ -250,6 +251,7 @@ def read_variables(path: str) -> dict[tuple, float]:
     """
     found: dict[tuple, float] = {}
     name = None
+    outputs.reads(path)
     with open(path, encoding="utf-8", errors="replace") as file:
         for line in file:
             for field in line.split():

@@ -10,7 +10,7 @@ from pit_tools.cli import version
 from pit_tools.plan_note import path_of_note
 from pit_tools.report import pit_sums
 from pit_tools.spelling import with_commas
-from pit_tools.sums import sum_of
+from pit_tools.records import sum_of
 from pit_tools.survey_facts import Facts
 
 
@@ -68,9 +68,9 @@ def _reconciled(facts: Facts) -> Iterator[str]:
 
 def _sums(facts: Facts, inputs: Inputs) -> Iterator[str]:
     """The files by their SHA-256; precedences, which may be gigabytes, by their length."""
-    paths = [inputs.plan, *([path_of_note(inputs.plan)] if facts.note.plan else []), *inputs.zones]
+    paths = [inputs.plan, *([path_of_note(inputs.plan)] if facts.note.is_used else []),
+             *inputs.zones]
     for path in [*paths, inputs.base + ".blocks", inputs.base + ".pcpsp"]:
         yield f"{sum_of(path)}  {path}"
     yield f"{with_commas(os.path.getsize(inputs.base + '.prec'))} bytes  {inputs.base}.prec"
-    for path, digits in facts.note.exports:
-        yield f"{digits}  {path}, when the plan was made"
+    yield from facts.note.exports

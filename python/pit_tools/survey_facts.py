@@ -24,7 +24,6 @@ from pit_tools.plan_file import Plan, read_plan
 from pit_tools.plan_note import PlanNote, read_note
 from pit_tools.slope_words import Judgement, judge
 from pit_tools.spelling import with_commas
-from pit_tools.sums import sum_of
 from pit_tools.units import Numbers
 from pit_tools.valuation import values_of
 from pit_tools.zone_files import count_lines
@@ -71,11 +70,10 @@ class Axis:
 
 @dataclass(frozen=True)
 class ZoneFile:
-    """A zone file, its lines below the header, and its sum where it is known."""
+    """A zone file, and its lines below the header."""
 
     name: str
     lines: int
-    sum: str = ""
 
 
 @dataclass(frozen=True)
@@ -101,7 +99,7 @@ class Facts:
         self.plan, self.blocks, self.arcs, self.outline = plan, blocks, arcs, outline
         self.remarks = list(remarks)
         self.note, self.measures = note, note.measures
-        self.zone_files = [ZoneFile(os.path.basename(path), count_lines(path), sum_of(path))
+        self.zone_files = [ZoneFile(os.path.basename(path), count_lines(path))
                            for path in zone_paths]
         self.volume = float(plan.grid.volume)
         self.values = outline.values

@@ -34,6 +34,7 @@ def read_zone_file(path: str) -> pd.DataFrame:
     Columns are found by name, in any order and in upper or lower case; others are ignored. It
     raises UserError for a missing column or a cell that is no number, with its row, and OSError."""
     refuse_pipe(path)
+    outputs.reads(path)
     chunks: list[pd.DataFrame] = []
     try:
         # Without a header, a row with more cells than the first is a fault and not an index.
@@ -107,6 +108,7 @@ def append_rows(file: IO[bytes], rows: pd.DataFrame) -> None:
 def count_lines(path: str) -> int:
     """How many lines a zone file has below its header, blank ones left out."""
     refuse_pipe(path)
+    outputs.reads(path)
     with open(path, "rb") as file:
         return max(sum(1 for line in file if line.strip()) - 1, 0)
 

@@ -275,7 +275,7 @@ def test_an_export_that_was_changed_since_is_refused(base, tmp_path, capsys, cha
             str(tmp_path / "out")]
     written(tmp_path / "export.csv", change(lines))
     assert main(onto) == 2 and not (tmp_path / "out").exists()
-    assert "another file than the one that `import` read" in capsys.readouterr().err
+    assert "export.csv: it is not the file, or no longer, of which" in capsys.readouterr().err
     written(tmp_path / "export.csv", lines)
     assert main(onto) == 0
 

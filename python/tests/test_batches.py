@@ -17,7 +17,8 @@ from pit_tools import batch_build, batch_engines
 from pit_tools.batch_build import Way, sum_of_modules
 from pit_tools.batch_engines import by_processes, in_turn
 from pit_tools.batch_list import Part, read_list
-from pit_tools.batch_lock import LOCK
+from pit_tools.locks import LOCK
+from pit_tools.records import read_record
 from pit_tools.batch_making import make
 from pit_tools.batches import Batch
 from pit_tools.cli import main
@@ -141,7 +142,10 @@ def test_a_list_without_a_last_line_end_loses_nothing(here):
     assert told["cpit_bound"] == told["pcpsp_bound"] == "606965.00" and told["rate"] == "0.08"
     assert int(told["bytes"]) == sum(os.path.getsize(f"two.{text}") for text in TEXTS)
     assert is_accepted() and left_of() == []
-    names = [line.rstrip("\n").split("  ", 1)[1] for line in open("MANIFEST")]
+    record = read_record("MANIFEST")
+    assert [file.name for file in record.inputs] == ["LIST", "one.plan", "six blocks.csv",
+                                                     "two.plan"]
+    names = [file.name for file in (*record.outputs, *record.inputs)]
     assert sorted(names) == sorted(["BUILD", "SIZES", "LIST", "six blocks.csv",
                                     *(f"{name}.{text}" for name in ("one", "two")
                                       for text in ("plan", *TEXTS))])
@@ -174,7 +178,7 @@ def test_a_name_with_a_space_or_a_backslash_is_one_name(here):
     for name in ("o ne", "o\\ne"):
         shutil.copy("one.plan", f"{name}.plan")
     _, whole = run_batch("'o ne.plan' 'six blocks.csv'\n'o\\ne.plan' 'six blocks.csv'\n")
-    assert whole and is_accepted() and read().count("\n") == 16
+    assert whole and is_accepted() and read().count("\n") == 17
     with open("SIZES", newline="") as file:
         assert [row[0] for row in csv.reader(file, delimiter=" ")] == ["name", "o ne", "o\\ne"]
 

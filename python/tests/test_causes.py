@@ -283,15 +283,16 @@ def test_a_workbook_that_grows_beyond_all_measure_is_refused(here, capsys, monke
     ("grid", {"origin": ["0", "0", "0"], "size": ["NaN", "1", "1"], "blocks": [1, 1, 1]}),
     ("grid", {"origin": ["0", "0", "0"], "size": ["1", "0", "1"], "blocks": [1, 1, 1]}),
     ("grid", {"origin": ["0", "0", "0"], "size": ["1", "1", "1"], "blocks": ["a", 1, 1]}),
-    ("frame", {"lengths": [1, 1], "turn": None, "unit": "m"}), ("told", 7), ("sums", [1])])
+    ("frame", {"lengths": [1, 1], "turn": None, "unit": "m"}), ("told", 7)])
 def test_a_record_of_an_import_that_was_changed_is_told(here, capsys, key, value):
     assert main(["import", "export.csv", *WORDS, "--base", "from"]) == 0
     told = json.loads((here / "from.json").read_text())
     told[key] = value
     (here / "from.json").write_text(json.dumps(told))
     capsys.readouterr()
-    error = refused(["plan", "from.json", "--price", "58 USD/g", "--mill", "recovery 90 %, cost 15 "
-                     "USD/t"], capsys)
+    words = ["plan", "from.json", "--price", "58 USD/g", "--mill", "recovery 90 %, cost 15 USD/t"]
+    assert "from.json: it is not the file that from.json.sums names" in refused(words, capsys)
+    error = refused([*words, "--edited"], capsys)
     assert "from.json: it is not what `pit-tools import` writes" in error or "grid: `NaN`" in error
 
 

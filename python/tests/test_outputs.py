@@ -1,17 +1,20 @@
 """The door for all that is written: old or new files, all of them or none, and nothing that is
 read."""
 import errno
+import hashlib
 import os
 import signal
 import stat
 import subprocess
 import sys
+from dataclasses import replace
 
 import pytest
 
 from pit_tools import outputs
 from pit_tools.cli import main
 from pit_tools.errors import UserError
+from pit_tools.records import File, read_record
 
 HERE = os.path.dirname(os.path.dirname(os.path.abspath(__file__)))
 
@@ -254,7 +257,12 @@ def versions(here):
     """The new files of `deposit`, and older ones of their kinds."""
     assert main(DEPOSIT) == 0
     new = files_of(here)
-    return {name: content + content[-20:] for name, content in new.items()}, new
+    old = {name: content + content[-20:] for name, content in new.items()}
+    record = read_record("LIST.sums")
+    old["LIST.sums"] = replace(record, outputs=tuple(
+        File(file.name, len(old[file.name]), hashlib.sha256(old[file.name]).hexdigest())
+        for file in record.outputs)).text.encode()
+    return old, new
 
 
 def fail():

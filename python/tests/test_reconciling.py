@@ -240,7 +240,7 @@ def test_plan_compares_and_tells_what_zones_are_worth(tmp_path, monkeypatch, cap
     path = tmp_path / "from-west.csv"
     path.write_text(path.read_text().replace(",2700,", ",2970,"))
     (tmp_path / "mine.plan").unlink()
-    assert main(PLAN) == 2
+    assert main([*PLAN, "--edited"]) == 2
     assert "zone files: west has tonnes of 162,000 t, and the model 178,200" in capsys.readouterr().err
     assert not (tmp_path / "mine.plan").exists()
 

@@ -246,13 +246,13 @@ def test_a_turned_export_has_its_pit_at_its_own_coordinates(tmp_path, monkeypatc
     wanted = [1000 + place.real, 2000 + place.imag, 0]
     assert [float(cell) for cell in row[:3]] == pytest.approx(wanted, abs=0.01)
     (tmp_path / "mine.plan").write_text(text.replace("rate,0.08", "rate,0.09"))
-    assert main([*SHELL, "a.pit", "--turned", "from.json", "--out", "b.obj"]) == 0
+    assert main([*SHELL, "a.pit", "--turned", "from.json", "--out", "b.obj", "--edited"]) == 0
     assert (tmp_path / "a.obj").read_bytes() == (tmp_path / "b.obj").read_bytes()
     capsys.readouterr()
-    assert main([*SHELL, "a.pit", "--out", "c.obj"]) == 0
+    assert main([*SHELL, "a.pit", "--out", "c.obj", "--edited"]) == 0
     assert "NOTE: mine.plan.json was written for another plan" in capsys.readouterr().err
     older = json.loads((tmp_path / "from.json").read_text())
     older["turn"] = older.pop("frame")["turn"]
     (tmp_path / "older.json").write_text(json.dumps(older))
-    assert main([*SHELL, "a.pit", "--turned", "older.json", "--out", "d.obj"]) == 2
+    assert main([*SHELL, "a.pit", "--turned", "older.json", "--out", "d.obj", "--edited"]) == 2
     assert "older.json: an older pit-tools wrote it" in capsys.readouterr().err

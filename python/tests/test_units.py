@@ -2,12 +2,14 @@
 plan."""
 import json
 import re
+from dataclasses import replace
 
 import pytest
 
 import mines
 from pit_tools.cli import main
 from pit_tools.plan_note import read_note
+from pit_tools.records import File, read_record
 
 #: A copper mine: one block of 2 % copper under a block of waste, 10 x 10 x 10 m.
 EXPORT = ("x,y,z,t,cu,zone\n"
@@ -58,10 +60,13 @@ def test_money_and_grades_are_told_as_the_planner_said_them(planned, capsys):
 def test_a_note_that_no_longer_fits_is_told_and_not_used(planned, capsys):
     plan = (planned / "mine.plan").read_text()
     (planned / "mine.plan").write_text(plan.replace("rate,0.08", "rate,0.1"))
-    survey = told(capsys, "survey", "mine.plan", "mine", "from-por.csv")
+    assert main(["survey", "mine.plan", "mine", "from-por.csv"]) == 2
+    assert "mine.plan: it is not the file that mine.plan.sums names" in capsys.readouterr().err
+    survey = told(capsys, "survey", "mine.plan", "mine", "from-por.csv", "--edited")
     assert "- FILES: mine.plan.json was written for another plan than mine.plan is now" in survey
+    assert "- FILES: mine.plan: it is not the file that mine.plan.sums names" in survey
     assert "g/t" in survey and "USD" not in survey
-    assert main(["pit", "mine"]) == 0
+    assert main(["pit", "mine", "--edited"]) == 0
     out, error = capsys.readouterr()
     assert "USD" not in out and "mine.plan.json was written for another plan" in error
     (planned / "mine.plan").write_text(plan)
@@ -69,14 +74,17 @@ def test_a_note_that_no_longer_fits_is_told_and_not_used(planned, capsys):
                  json.dumps({**json.loads((planned / "mine.plan.json").read_text()),
                              "measures": {"parts": 0}})):
         (planned / "mine.plan.json").write_text(text)
+        record = read_record("mine.plan.sums")
+        (planned / "mine.plan.sums").write_text(replace(record, outputs=tuple(
+            File.of(file.name, ".") for file in record.outputs)).text)
         assert "is not what `pit-tools plan` writes" in read_note("mine.plan").why_not
 
 
 def test_zone_files_that_are_not_those_of_the_plan_are_told(planned, capsys):
     text = (planned / "from-por.csv").read_text()
     (planned / "from-por.csv").write_text(text + "\n")
-    assert "- ROCK: from-por.csv is not the file that it was when `plan` was called" in told(
-        capsys, "survey", "mine.plan", "mine", "from-por.csv")
+    assert main(["survey", "mine.plan", "mine", "from-por.csv"]) == 2
+    assert "from-por.csv: it is not the file that from.json.sums names" in capsys.readouterr().err
     (planned / "other.csv").write_text(text)
     assert "- ROCK: zone files are other.csv, and those of the plan from-por.csv" in told(
         capsys, "survey", "mine.plan", "mine", "other.csv")

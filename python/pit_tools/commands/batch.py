@@ -27,8 +27,8 @@ NAME. Then there are
                 destinations, resources, rate, tonnes; blocks, tonnes and value of the ultimate pit;
                 by --relax what the relaxations of CPIT and PCPSP are worth, which are bounds; and
                 by --thin the arcs of NAME.thin
-    MANIFEST    the SHA-256 sums of BUILD, SIZES, LIST, plans, zone files and instances, as
-                `sha256sum -c` reads them
+    MANIFEST    the record of the SHA-256 sums of BUILD, SIZES, LIST, plans, zone files and
+                instances, as `sha256sum -c` reads them
     RECORD      a line for each instance that is whole, from which --continue goes on
 
 It replaces these files and those of instances, and files of another kind by --force alone; what an

@@ -41,9 +41,11 @@ def run(args: argparse.Namespace) -> int:
         parts.append(([number for number in numbers if number is not None],
                       read_instance(base, ("blocks", "upit", "pcpsp", "cpit"))))
     made = by_zone(parts)
-    with outputs.together():
+    with outputs.together(record=args.out):
         write_instance(made, args.out)
-        outputs.copied(args.parts[0].rpartition(":")[0] + ".prec", args.out + ".prec", "prec")
+        first = args.parts[0].rpartition(":")[0] + ".prec"
+        outputs.reads(first)
+        outputs.copied(first, args.out + ".prec", "prec")
     for text, (zones, _) in zip(args.parts, parts):
         count = int(np.isin(present(made.blocks, "block file").zone, zones).sum())
         print(f"{count:,} blocks of {text.rpartition(':')[0]}")

@@ -10,8 +10,9 @@ written.
     pit-tools compile --plan mine.plan --out mine from-west.csv from-east.csv from-oxide.csv
 
 What pitc prints and the status with which it ends are its own. Files at BASE are replaced by pitc;
-as where it is called alone, no file is begun before all rows are read. Where pitc is in no folder
-of the PATH, --pitc names it.
+as where it is called alone, no file is begun before all rows are read. Then it writes BASE.sums,
+the sums of these files, of the plan and of the zone files, by which other commands know that they
+belong together. Where pitc is in no folder of the PATH, --pitc names it.
 """
 
 
@@ -27,12 +28,22 @@ def add_arguments(parser: argparse.ArgumentParser) -> None:
 
 
 def run(args: argparse.Namespace) -> int:
+    from contextlib import nullcontext
+
+    from pit_tools import outputs
     from pit_tools.batch_build import found_program
     from pit_tools.compiling import compile_shown
+    from pit_tools.instance import TEXTS
+    from pit_tools.locks import held
 
     words = [found_program(args.pitc or "pitc", "--pitc"), "compile"]
     for name in ("plan", "out", "valuers", "capacity"):
         if (value := getattr(args, name)) is not None:
             words += [f"--{name}", value]
     reads = [path for path in (args.plan, *args.zones) if path]
-    return compile_shown([*words, "--", *args.zones], reads, args.out or "")
+    outputs.reads(*reads)
+    with held(args.out) if args.out else nullcontext():
+        status = compile_shown([*words, "--", *args.zones], reads, args.out or "")
+        if args.out and not status:
+            outputs.record_of(args.out, [f"{args.out}.{text}" for text in TEXTS])
+    return status

@@ -60,6 +60,8 @@ def _seeds(text: str) -> list[int]:
 
 
 def run(args: argparse.Namespace) -> int:
+    import os
+
     from pit_tools import outputs
     from pit_tools.deposits import Deposit
     from pit_tools.errors import UserError
@@ -72,13 +74,15 @@ def run(args: argparse.Namespace) -> int:
     seeds: list[Optional[int]] = [None] if args.seed is None else [*_seeds(args.seed)]
     is_one = len(seeds) == len(shapes) == 1
     lines = []
-    with outputs.together():
+    with outputs.together(record=args.list or ""):
         for seed in seeds:
             for shape in shapes:
                 name = ((args.name or "deposit") if is_one
                         else f"{args.name or ''}{shape}{'' if seed is None else seed}")
-                lines.append(" ".join(Deposit(name, seed, (wide, deep, high),
-                                              shape).write(args.folder)))
+                record = args.list or os.path.join(args.folder, name + ".plan")
+                with outputs.together(record=record):
+                    lines.append(" ".join(Deposit(name, seed, (wide, deep, high),
+                                                  shape).write(args.folder)))
         if args.list:
             with outputs.opened(args.list, "list", "ascii") as file:
                 file.write("".join(line + "\n" for line in lines))

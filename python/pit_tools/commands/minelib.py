@@ -88,7 +88,7 @@ def _bring_in(args: argparse.Namespace, files: dict[str, str]) -> int:
     mine, identifiers = read_published(files, columns, args.order, args.without_general, told)
     if args.immediate:
         mine = replace(mine, precedence=immediate(mine.precedence))
-    with outputs.together():
+    with outputs.together(record=args.out):
         write_instance(mine, args.out)
         write_identifiers(identifiers, f"{args.out}.ids")
     for line in told.lines:

@@ -48,7 +48,8 @@ def run(args: argparse.Namespace) -> int:
     with progress.shown("nested", len(factors)):
         pits = list(nested_pits(facts, factors))[::-1]
     print(text(pits, facts.plan, facts.measures), end="")
-    with outputs.together():
+    record = f"{args.out}.pits" if args.out else args.csv or args.workbook or ""
+    with outputs.together(record=record):
         for pit in pits if args.out else ():
             write_pit(pit.in_pit, f"{args.out}{pit.name}.pit")
         if args.csv:

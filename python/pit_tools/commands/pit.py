@@ -74,18 +74,18 @@ def run(args: argparse.Namespace) -> int:
 def _note(plan_path: str, name: str) -> PlanNote:
     """The note of the plan of an instance of this name; where one is there and does not fit, that
     is told."""
-    import os
     import sys
 
     from pit_tools.plan_file import read_plan
     from pit_tools.plan_note import PlanNote, read_note
+    from pit_tools.records import status_of
 
-    if not os.path.exists(plan_path):
+    if status_of(plan_path) is None:
         return PlanNote()
     note = read_note(plan_path)
     if note.why_not:
         print(f"NOTE: {note.why_not}", file=sys.stderr)
-    return note if note.plan and read_plan(plan_path).name == name else PlanNote()
+    return note if note.is_used and read_plan(plan_path).name == name else PlanNote()
 
 
 def _by_plan(args: argparse.Namespace) -> int:
@@ -106,7 +106,8 @@ def _by_plan(args: argparse.Namespace) -> int:
     for K in benches:
         if K != "plan" and not 1 <= (whole_of(K) or 0) <= 20:
             raise UserError(f"--K: `{K}` is neither 1 to 20 nor `plan`")
-    with outputs.together(), progress.shown("pit", len(benches)):
+    with outputs.together(record=f"{args.out}.pits" if args.out else ""), \
+            progress.shown("pit", len(benches)):
         _pits_by_K(args, plan, mine, benches, note)
     return 0
 

@@ -65,6 +65,7 @@ def add_arguments(parser: argparse.ArgumentParser) -> None:
 
 def run(args: argparse.Namespace) -> int:
     from dataclasses import fields
+    from stat import S_ISREG
 
     from pit_tools import outputs
     from pit_tools.errors import UserError
@@ -72,6 +73,7 @@ def run(args: argparse.Namespace) -> int:
     from pit_tools.imported import read_imported
     from pit_tools.plan_note import write_note
     from pit_tools.plan_words import Spoken, plan_from
+    from pit_tools.records import status_of
 
     if args.K is not None and not 1 <= args.K <= 20:
         raise UserError(f"--K: {args.K} is not from 1 to 20")
@@ -80,6 +82,7 @@ def run(args: argparse.Namespace) -> int:
     if not 0 <= args.benches <= MOST_HEIGHT:
         raise UserError(f"--benches: {args.benches} is no height of a mine")
     imported = read_imported(args.imported)
+    outputs.reads(*imported.files)
     known = {field.name for field in fields(Spoken)}
     told = {key: value for key, value in vars(args).items() if key in known}
     words = Spoken(**told, grade_unit=imported.grade_unit, x_bearing=imported.x_bearing,
@@ -94,11 +97,12 @@ def run(args: argparse.Namespace) -> int:
     if not args.out:
         print(plan.text(), end="")
         return 0
-    is_file = os.path.isfile(args.out) or not os.path.exists(args.out)
-    with outputs.together():
+    status = status_of(args.out)
+    is_file = status is None or S_ISREG(status.st_mode)
+    with outputs.together(record=args.out):
         with outputs.opened(args.out, "plan", "ascii") as file:
             file.write(plan.text())
-        note = write_note(_note(plan.text(), imported, explained,
+        note = write_note(_note(args.imported, imported, explained,
                                 words.benches or imported.rock_benches),
                           args.out) if is_file else None
     if note:
@@ -126,8 +130,9 @@ class _Blocks:
         """Where zones of unlike slopes meet, where the zone files are there."""
         from pit_tools.cones import Places, size_in_millimetres
         from pit_tools.contacts import Contacts, contacts_of, differ
+        from pit_tools.records import status_of
 
-        if not differ(zones) or not all(map(os.path.exists, self.imported.files)):
+        if not differ(zones) or None in map(status_of, self.imported.files):
             return Contacts()
         return contacts_of(self.blocks, zones, size_in_millimetres(self.imported.grid),
                            Places(self.blocks))
@@ -149,15 +154,14 @@ class _Blocks:
         yield ""
 
 
-def _note(plan_text: str, imported: ImportedFile, explained: Told, benches: int) -> PlanNote:
-    import hashlib
+def _note(path: str, imported: ImportedFile, explained: Told, benches: int) -> PlanNote:
+    """The note beside a plan, of what `import` left at a path."""
+    from pit_tools.plan_note import PlanNote, ZoneSeen
+    from pit_tools.records import ENDING, read_record
 
-    from pit_tools.plan_note import PlanNote, ZoneSeen, sum_or_none
-
-    plan_sum = hashlib.sha256(plan_text.encode("ascii")).hexdigest()
-
-    zones = [ZoneSeen(name, os.path.basename(path), sum_or_none(path))
+    record = read_record(path + ENDING)
+    zones = [ZoneSeen(name, os.path.basename(path))
              for name, path in zip(imported.zones, imported.files)]
-    return PlanNote(plan_sum, explained.measures, zones, explained.lines, explained.notes,
-                    [(path, sum_or_none(path)) for path in imported.exports], imported.told,
-                    imported.doubts, imported.frame, imported.reconciled, benches)
+    return PlanNote(True, explained.measures, zones, explained.lines, explained.notes,
+                    [file.line.rstrip() for file in record.inputs] if record else [],
+                    imported.told, imported.doubts, imported.frame, imported.reconciled, benches)

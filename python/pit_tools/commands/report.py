@@ -41,7 +41,7 @@ def run(args: argparse.Namespace) -> int:
         print(f"NOTE: {facts.note.why_not}\n")
     report = Report(facts, read_mined(args.mined, facts.plan, len(facts)))
     print(report.text(), end="")
-    with outputs.together():
+    with outputs.together(record=args.csv or ""):
         if args.csv:
             write_csv(report.table(), args.csv, "table of a report")
         if args.workbook:

@@ -100,6 +100,7 @@ def _write_pictures(facts: Facts, planes: Sequence[Plane], folder: str) -> None:
     from pit_tools.pictures import all_of_them, png_of
 
     outputs.folder(folder)
-    for name, _, drawn in all_of_them(facts, planes):
-        with outputs.opened(os.path.join(folder, name + ".png"), "PNG picture") as file:
-            file.write(png_of(drawn))
+    with outputs.together(record=os.path.join(folder, "pictures")):
+        for name, _, drawn in all_of_them(facts, planes):
+            with outputs.opened(os.path.join(folder, name + ".png"), "PNG picture") as file:
+                file.write(png_of(drawn))

@@ -29,7 +29,7 @@ def run(args: argparse.Namespace) -> int:
     from pit_tools.instance import TEXTS
 
     found: list[_Section] = []
-    with outputs.together(), ExitStack() as files:
+    with outputs.together(record=args.base), ExitStack() as files:
         for line in sys.stdin.buffer:
             if line.startswith(b"== "):
                 name = line[3:].strip().decode("ascii", "replace")

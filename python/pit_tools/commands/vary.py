@@ -54,7 +54,7 @@ def run(args: argparse.Namespace) -> int:
     if not args.set:
         raise UserError("give a cell by --set, as --set K=2,4")
     changes, lines = [Change.of(one) for one in args.set], []
-    with outputs.together():
+    with outputs.together(record=args.list or os.path.join(args.folder, f"{plan.name}-varied")):
         for name, varied in variations(text, args.name or plan.name, changes):
             plan_of(varied, name)
             with outputs.opened(os.path.join(args.folder, name + ".plan"), "plan", "ascii") as file:
