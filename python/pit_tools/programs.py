@@ -16,6 +16,7 @@ from typing import IO, Iterable, Iterator, Optional, Sequence, Union
 import numpy as np
 from scipy import optimize, sparse
 
+from pit_tools.ended import within
 from pit_tools.errors import UserError
 from pit_tools.instance import Problem, UltimatePit, arcs_of
 from pit_tools.schedules import Schedule, schedule_of_shares
@@ -320,6 +321,9 @@ def _row_texts(program: Program, names: list[str]) -> Iterator[str]:
 
 # Solving
 
+#: Seconds that HiGHS may take after its time to return what it has found.
+GRACE = 2.0
+
 
 @dataclass(frozen=True)
 class Answer:
@@ -336,11 +340,19 @@ class Answer:
 
 def solve(program: Program, seconds: Optional[float] = None, ratio: float = 0.0,
           bounds: Optional[optimize.Bounds] = None) -> Answer:
-    """Solves a program by scipy's HiGHS, up to so many seconds and up to a ratio of the best.
-    Bounds of the variables may be closer than 0 and 1.
+    """Solves a program by scipy's HiGHS, up to a ratio of the best, in at most `seconds` and GRACE:
+    then its process is ended, and nothing is known of what it found. Bounds of the variables may
+    be closer than 0 and 1.
 
-    Raises UserError where HiGHS says that the program is unbounded or it came to no end.
+    Raises UserError if HiGHS says that the program is unbounded, or ends without an answer.
     """
+    answer = within(lambda: _solved(program, seconds, ratio, bounds),
+                    None if seconds is None else seconds + GRACE)
+    return answer or Answer("stopped", None, None, None, "none was found so far")
+
+
+def _solved(program: Program, seconds: Optional[float], ratio: float,
+            bounds: Optional[optimize.Bounds]) -> Answer:
     options = {"mip_rel_gap": ratio, **({"time_limit": seconds} if seconds else {})}
     scale = max(1.0, float(np.abs(program.objective).max(initial=1)))
     constraints = optimize.LinearConstraint(program.rows, program.lower,

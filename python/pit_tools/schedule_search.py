@@ -16,6 +16,8 @@ import numpy as np
 from scipy import optimize, sparse
 
 from pit_tools.closure import ultimate_pit
+from pit_tools.ended import within
+from pit_tools.errors import UserError
 from pit_tools.instance import Blocks, Problem, arcs_of
 from pit_tools.programs import Program, program_of, schedule_of, solve
 from pit_tools.schedules import Schedule, check
@@ -51,13 +53,32 @@ def shells(tonnes: np.ndarray, values: np.ndarray, precedence: sparse.csr_matrix
     return shell
 
 
-def from_shells(problem: Problem, blocks: Blocks, precedence: sparse.csr_matrix) -> Schedule:
+def start_of(problem: Problem, precedence: sparse.spmatrix,
+             seconds: float) -> tuple[Optional[Schedule], Optional[float]]:
+    """A schedule from shells and the value of the ultimate pit, which no schedule is worth more
+    than; None for what was not found in so many seconds, and for a schedule that breaks a lower
+    limit. The tonnes of a block are what it uses most of, or 1."""
+    def start() -> tuple[Optional[Schedule], Optional[float]]:
+        best = problem.values.max(axis=1)
+        bound = float(best[ultimate_pit(best, precedence)].sum())
+        tonnes = np.zeros(len(best))
+        np.maximum.at(tonnes, problem.uses.block, problem.uses.amount)
+        schedule = from_shells(problem, np.where(tonnes > 0, tonnes, 1), precedence)
+        return schedule if check(schedule, problem, precedence).holds else None, bound
+
+    try:
+        return within(start, seconds) or (None, None)
+    except UserError:
+        return None, None
+
+
+def from_shells(problem: Problem, tonnes: np.ndarray, precedence: sparse.spmatrix) -> Schedule:
     """Blocks shell by shell, those that others wait for first, each into the first period in which
     no upper limit is passed, at the destination of most value that there is room for. Predecessors
     have to come behind their block, as in files of `pitc`. Lower limits are not looked at: `check`
     tells."""
     precedence = arcs_of(precedence)
-    shell = shells(blocks.tonnes, problem.values.max(axis=1), precedence)
+    shell = shells(tonnes, problem.values.max(axis=1), precedence)
     order = [block
              for block in np.lexsort((-np.arange(len(shell)), shell)) if shell[block] <= SHELLS]
     uses = np.stack([problem.use_matrix(resource).toarray()
@@ -100,13 +121,13 @@ class Search:
         self.begun, self.seconds = time.monotonic(), seconds
         self.best: Optional[Schedule] = None
         self.worth, self.bound, self.how = -np.inf, np.inf, "none"
-        self.blocks, self.size = blocks, float(BLOCKS_OF_A_PART)
+        self.tonnes, self.size = blocks.tonnes, float(BLOCKS_OF_A_PART)
 
     def run(self, *starts: Schedule) -> Found:
         """Takes a tenth of the time for the whole program, three fifths for parts of it, and the
         rest for the whole program above what was found. Schedules of another hand may be given as
         starts."""
-        for number, start in enumerate([from_shells(self.problem, self.blocks, self.precedence),
+        for number, start in enumerate([from_shells(self.problem, self.tonnes, self.precedence),
                                         *starts]):
             self._take(start, "given" if number else "shells")
         self._whole(self.seconds / 10)

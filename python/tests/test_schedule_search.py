@@ -1,10 +1,18 @@
 """A search for schedules: its start from shells, and what it finds of programs whose best is
 known."""
+import itertools
+import os
+import time
+
 import numpy as np
 import pytest
 from scipy import sparse
 
 import mines
+from pit_tools import programs
+from pit_tools.cli import main
+from pit_tools.ended import Beside, within
+from pit_tools.errors import UserError
 from pit_tools.instance import Blocks, Limit, Problem, Uses, read_instance
 from pit_tools.programs import program_of, solve
 from pit_tools.schedule_search import SHELLS, STEP, Search, from_shells, shells
@@ -42,7 +50,7 @@ def test_the_richest_shell_comes_first():
     """The column worth 90 in period 0, that worth 20 in period 1, and the one that is worth less
     than nothing never."""
     problem, blocks, arcs = columns([30, 100, 5, -10, -10, -10])
-    start = from_shells(problem, blocks, arcs)
+    start = from_shells(problem, blocks.tonnes, arcs)
     assert sorted(zip(start.block.tolist(), start.period.tolist())) == [(0, 1), (1, 0), (3, 1),
                                                                         (4, 0)]
     assert start.worth(problem) == pytest.approx(90 + 20 / 1.5) and check(start, problem,
@@ -54,7 +62,7 @@ def test_the_richest_shell_comes_first():
 def test_a_start_from_shells_keeps_order_and_upper_limits(tmp_path, kind, shape):
     mine = mine_of(tmp_path, shape=shape)
     problem = getattr(mine, kind)
-    start = from_shells(problem, mine.blocks, mine.precedence)
+    start = from_shells(problem, mine.blocks.tonnes, mine.precedence)
     assert not [line
                 for line in check(start, problem, mine.precedence).broken if " t of I" not in line]
     used = start.used(problem)
@@ -75,7 +83,7 @@ def test_a_search_finds_what_is_best(tmp_path, kind):
 def test_a_part_never_makes_a_schedule_worse_and_leaves_what_it_holds(tmp_path):
     mine = mine_of(tmp_path)
     search = Search(mine.cpit, mine.blocks, mine.precedence, 36000)
-    start = from_shells(mine.cpit, mine.blocks, mine.precedence)
+    start = from_shells(mine.cpit, mine.blocks.tonnes, mine.precedence)
     assert search._take(start, "shells")
     free = np.zeros(len(mine.blocks), dtype=bool)
     search._some = lambda _: free
@@ -93,3 +101,40 @@ def test_a_schedule_that_does_not_hold_is_not_taken():
     search = Search(problem, blocks, arcs, 10)
     alone = Schedule(np.array([0]), np.array([0]), np.array([0]), np.ones(1))
     assert alone.worth(problem) == 100 and not search._take(alone, "given") and search.best is None
+
+
+@pytest.mark.parametrize("hang", [lambda *_, **__: time.sleep(1000),
+                                  lambda *_, **__: [sum(range(10**6)) for _ in itertools.count()]],
+                         ids=["sleeps", "computes"])
+@pytest.mark.parametrize("kind", ["cpit", "pcpsp"])
+def test_a_solver_that_never_ends_is_ended_and_a_start_is_left(tmp_path, monkeypatch, capsys, kind,
+                                                               hang):
+    base = mines.six_blocks(tmp_path, ("limit,fleet,0,I,0,120000\n", ""))
+    files = [f"{base}.{kind}", base + ".prec"]
+    assert main(["solve", *files, "--seconds", "0"]) == 0
+    best = float(capsys.readouterr().out.split()[2].rstrip(","))
+    monkeypatch.setattr(programs.optimize, "milp", hang)
+    begun = time.monotonic()
+    assert main(["solve", *files, "--seconds", "2", "--out", base + ".schedule"]) == 0
+    assert time.monotonic() - begun < 30
+    said = capsys.readouterr().out
+    worth, bound = (float(word.rstrip(",")) for word in (said.split()[2], said.split()[4]))
+    assert said.startswith("stopped: worth ") and 0 < worth <= best <= bound
+    assert main(["check-schedule", *files, base + ".schedule"]) == 0
+    assert f"worth {worth:.2f}" in capsys.readouterr().out
+    assert main(["solve", *files, "--seconds", "1", "--relaxed"]) == 1
+    assert capsys.readouterr().out == "stopped: none was found so far\n"
+
+
+def test_what_a_step_in_a_process_raises_is_raised():
+    def refuse():
+        raise UserError("no")
+    with pytest.raises(UserError, match="no"):
+        within(refuse, 10)
+    with pytest.raises(UserError, match="ended without an answer"):
+        within(lambda: os.kill(os.getpid(), 9), 10)
+    assert within(lambda: np.arange(10**6), 60).sum() == 499999500000
+    assert within(lambda: time.sleep(100), 0.1) is None
+    beside = Beside(lambda: np.arange(10**6))
+    time.sleep(1)
+    assert beside.result(0.0).sum() == 499999500000

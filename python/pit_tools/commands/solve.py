@@ -14,7 +14,8 @@ by HiGHS, which comes with scipy; or the bound of the relaxation.
     pit-tools solve deposit.pcpsp deposit.prec --relaxed
 
 It prints how it ended (best; within the ratio; stopped; none), the value, and the bound that no
-schedule is worth more than. A line of the schedule is a block and its period, and for a PCPSP its
+schedule is worth more than. When the time is up, HiGHS is ended: if it has found nothing better,
+the schedule is one from shells, pits nested in one another. A line of the schedule is a block and its period, and for a PCPSP its
 destination and the share, where that is not 1. The status is 1 where no schedule was found. Whether
 period 0 is discounted is for the solver to say: here it is not.
 """
@@ -33,29 +34,40 @@ def add_arguments(parser: argparse.ArgumentParser) -> None:
     parser.add_argument("--all-arcs", action="store_true",
                         help="all arcs of the file, also those that pitc_thin drops")
     parser.add_argument("--seconds", type=from_zero, default=60, metavar="N",
-                        help="stops after so many (60); 0 for never")
+                        help="time limit in seconds; 0 means none [default: 60]")
     parser.add_argument("--ratio", type=from_zero, default=0.0, metavar="R",
                         help="stops once no schedule can be better by more, as 0.01")
 
 
 def run(args: argparse.Namespace) -> int:
+    import time
+
     from pit_tools import outputs
     from pit_tools.commands.lp import fewer_arcs
     from pit_tools.instance import read_precedence, read_problem
     from pit_tools.programs import program_of, schedule_of, solve
+    from pit_tools.schedule_search import start_of
     from pit_tools.schedules import write_schedule
 
     problem = read_problem(args.problem)
     precedence = fewer_arcs(read_precedence(args.precedence, len(problem.values)), args.all_arcs)
     outputs.judged(args.out)
+    begun, start, bound = time.monotonic(), None, None
+    if args.seconds and not args.relaxed:
+        start, bound = start_of(problem, precedence, args.seconds / 4)
     program = program_of(problem, precedence, args.relaxed, args.whole)
-    answer = solve(program, args.seconds or None, args.ratio)
-    if answer.values is None:
+    left = max(0.1, begun + args.seconds - time.monotonic())
+    answer = solve(program, left if args.seconds else None, args.ratio)
+    found = (None if answer.values is None
+             else schedule_of(answer.values, problem, program.names))
+    value = answer.value
+    if answer.status == "stopped" and start and start.worth(problem) > (value or 0.0):
+        found, value = start, start.worth(problem)
+    if found is None:
         print(f"{answer.status}: {answer.told}")
         return 1
-    bound = "" if answer.bound is None else f", bound {answer.bound:.2f}"
-    print(f"{answer.status}: worth {answer.value:.2f}{bound}")
+    bounds = [one for one in (answer.bound, bound) if one is not None]
+    print(f"{answer.status}: worth {value:.2f}{f', bound {min(bounds):.2f}' if bounds else ''}")
     if args.out:
-        write_schedule(schedule_of(answer.values, problem, program.names), args.out,
-                       problem.kind == "PCPSP")
+        write_schedule(found, args.out, problem.kind == "PCPSP")
     return 0
