@@ -10,7 +10,7 @@ import signal
 import sys
 import time
 import warnings
-from typing import Callable, Optional, TypeVar
+from typing import Callable, Generic, Optional, TypeVar
 
 from pit_tools.errors import UserError
 from pit_tools.interrupts import SIGNALS
@@ -21,36 +21,46 @@ Made = TypeVar("Made")
 _PR_SET_PDEATHSIG = 1
 
 
-def within(step: Callable[[], Made], seconds: Optional[float] = None) -> Optional[Made]:
-    """What a step returns; None if it takes more seconds, and is ended. What it changes in memory
-    is lost. It returns what can be pickled.
+class Beside(Generic[Made]):
+    """A step that runs in a process of its own. What it changes in memory is lost, and it returns
+    what can be pickled."""
 
-    Raises the UserError or MemoryError that the step raises, and UserError if its process ends
-    otherwise.
-    """
-    end = None if seconds is None else time.monotonic() + seconds
-    reader, writer = os.pipe()
-    with warnings.catch_warnings():
-        # The threads of numpy's library, of which Python warns, take no lock that is needed here.
-        warnings.simplefilter("ignore", DeprecationWarning)
-        child = os.fork()
-    if not child:
-        _run(step, writer)
-    try:
+    def __init__(self, step: Callable[[], Made]) -> None:
+        self.reader, writer = os.pipe()
+        with warnings.catch_warnings():
+            # The threads of numpy's library, of which Python warns, take no lock that it needs.
+            warnings.simplefilter("ignore", DeprecationWarning)
+            self.child = os.fork()
+        if not self.child:
+            _run(step, writer)
         os.close(writer)
-        content = _read_until(reader, end)
-    finally:
-        os.close(reader)
-        os.kill(child, signal.SIGKILL)
-        os.waitpid(child, 0)
-    if content is None:
-        return None
-    if not content:
-        raise UserError("the solver's process has ended without an answer: was memory refused?")
-    found, error = pickle.loads(content)
-    if error is not None:
-        raise error
-    return found
+
+    def result(self, seconds: Optional[float] = None) -> Optional[Made]:
+        """What the step returns; None if that takes more seconds. Its process is ended.
+
+        Raises the UserError or MemoryError that the step raises, and UserError if its process ends
+        otherwise.
+        """
+        try:
+            content = _read_until(self.reader,
+                                  None if seconds is None else time.monotonic() + seconds)
+        finally:
+            os.close(self.reader)
+            os.kill(self.child, signal.SIGKILL)
+            os.waitpid(self.child, 0)
+        if content is None:
+            return None
+        if not content:
+            raise UserError("the solver's process ended without an answer: was memory refused?")
+        found, error = pickle.loads(content)
+        if error is not None:
+            raise error
+        return found
+
+
+def within(step: Callable[[], Made], seconds: Optional[float] = None) -> Optional[Made]:
+    """What a step returns in so many seconds, as `Beside.result` says."""
+    return Beside(step).result(seconds)
 
 
 def _run(step: Callable[[], object], writer: int) -> None:

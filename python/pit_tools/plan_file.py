@@ -1,18 +1,22 @@
 """Reads and writes a plan of `pitc` (docs/formats.md): decimals exact, in the units of the plan.
 
-`pitc` judges a plan; `read_plan` refuses what it cannot understand, and lets ranges be."""
+`read_plan` refuses what `pitc` refuses, with the same record and kind."""
 from __future__ import annotations
 
 import csv
+import io
 from dataclasses import dataclass, field
 from decimal import Decimal
-from typing import Iterable, Optional, Sequence, Tuple
+from typing import Optional, Sequence, Tuple
 
 from pit_tools import outputs
-from pit_tools.decimals import decimal_of, plain
+from pit_tools.decimals import MOST_DIGITS, plain
 from pit_tools.errors import UserError
-from pit_tools.formats import (MOST_HEIGHT, MOST_PERIODS, MOST_PLAN_BYTES, NAME,
-                               WHAT_A_NAME_IS)
+from pit_tools.formats import (MOST_DESTINATIONS, MOST_PERIODS, MOST_PLAN_BYTES, MOST_RESOURCES,
+                               MOST_ZONE, NAME, WHAT_A_NAME_IS)
+
+# A cell of a plan may be as long as the plan.
+csv.field_size_limit(max(csv.field_size_limit(), MOST_PLAN_BYTES))
 
 KEYS = ("name", "grid", "zone", "mill", "leach", "dump", "periods", "rate", "resource", "limit")
 
@@ -178,8 +182,51 @@ def destination_record(one: Destination) -> list[str]:
     return ["dump", one.name, str(one.cost)]
 
 
+class PlanError(UserError):
+    """A plan that `pitc` refuses too: `kind` is the word that pitc has for it, and `row` the number
+    of the record, counted from 1."""
+
+    def __init__(self, source: str, row: int, kind: str, told: str) -> None:
+        super().__init__(f"{source}: record {row}: {told} ({kind})")
+        self.row, self.kind = row, kind
+
+
+@dataclass(frozen=True)
+class _Range:
+    """What a cell of numbers may have: how many decimals, and from where to where."""
+
+    what: str
+    decimals: int
+    least: Decimal
+    most: Decimal
+
+    @classmethod
+    def of(cls, what: str, decimals: int, least: str, most: str) -> _Range:
+        return cls(what, decimals, Decimal(least), Decimal(most))
+
+    @property
+    def told(self) -> str:
+        return f"{self.what} is from {self.least:,} to {self.most:,}"
+
+
+_ORIGIN = _Range.of("an origin", 3, "-1000000000", "1000000000")
+_SIZE = _Range.of("a size of the grid", 3, "0.001", "100")
+_SLOPE, _BENCHES = _Range.of("a rise or a run", 0, "1", "1000"), _Range.of("K", 0, "1", "20")
+_RECOVERY = _Range.of("a recovery in per mille", 0, "0", "1000")
+_PRICE, _COST = _Range.of("a price", 0, "0", "1E8"), _Range.of("a cost", 0, "0", "1E7")
+_START = _Range.of("the start of a band", 6, "0", "1000000")
+_PERIODS = _Range.of("the number of periods", 0, "1", str(MOST_PERIODS))
+_RATE = _Range.of("a rate for one period", 6, "0", "1")
+_TONNES = _Range.of("a limit in tonnes", 6, "0", "1E12")
+
+# How many records a plan has, and how many of a key or of a band.
+_MOST_RECORDS, _MOST_ZONES, _MOST_BANDS = 10_000, MOST_ZONE + 1, 16
+
+
 class _Reader:
-    """Takes the records of a plan one after the other. Faults name the record, counted from 1."""
+    """Takes the records of a plan one after the other, and refuses what `pitc` refuses, in its
+    order: the key, the number of cells, the cells from left to right, what stands twice, falls, or
+    is one too many."""
 
     def __init__(self, source: str) -> None:
         self.source, self.row, self.key = source, 0, ""
@@ -188,127 +235,171 @@ class _Reader:
         self.zones: list[Zone] = []
         self.destinations: list[Destination] = []
         self.resources: list[Resource] = []
-        self.limits: list[Limit] = []
+        self.limits: dict[tuple[int, int], Limit] = {}
 
-    def fault(self, told: str) -> UserError:
-        return UserError(f"{self.source}: record {self.row}: {told}")
+    def fault(self, kind: str, told: str) -> PlanError:
+        return PlanError(self.source, self.row, kind, told)
 
-    def number(self, at: int) -> Decimal:
-        """The decimal of the cell `at`, the key being cell 0."""
-        return decimal_of(self.cells[at], f"{self.source}: record {self.row}")
+    def judge(self, holds: bool, kind: str, told: str) -> None:
+        """Refuses the record unless something holds of it."""
+        if not holds:
+            raise self.fault(kind, told)
 
-    def whole(self, at: int) -> int:
-        value = self.number(at)
-        if value != value.to_integral_value():
-            raise self.fault(f"`{self.cells[at]}` is no whole number")
-        return int(value)
+    def number(self, at: int, within: _Range) -> Decimal:
+        """The decimal of the cell `at`, the key being cell 0: digits with a point, or none."""
+        text = self.cells[at]
+        shown, bare = f"`{text[:60]}`", text[1:] if text[:1] in ("+", "-") else text
+        whole, _, rest = bare.partition(".")
+        self.judge((whole + rest).isdecimal() and text.isascii(), "Number",
+                   f"{shown} is no number, as 12 or -0.5")
+        whole, rest = whole.lstrip("0"), rest.rstrip("0")
+        self.judge(len(rest) <= within.decimals, "TooFine",
+                   f"{shown} has more decimals: {within.what} has {within.decimals} at the most"
+                   if within.decimals else f"{shown} is no whole number")
+        self.judge(len(whole) <= MOST_DIGITS, "Range", f"{shown}: {within.told}")
+        value = Decimal(f"{'-' if text[:1] == '-' else ''}{whole or '0'}.{rest or '0'}")
+        self.judge(within.least <= value <= within.most, "Range", f"{shown}: {within.told}")
+        return value
+
+    def whole(self, at: int, within: _Range) -> int:
+        return int(self.number(at, within))
 
     def name(self) -> str:
         """The name in cell 1."""
-        if not NAME.fullmatch(self.cells[1]):
-            raise self.fault(f"`{self.cells[1][:60]}` is no name: it has {WHAT_A_NAME_IS}")
+        self.judge(NAME.fullmatch(self.cells[1]) is not None, "Name",
+                   f"`{self.cells[1][:60]}` is no name: it has {WHAT_A_NAME_IS}")
         return self.cells[1]
 
     def take(self, record: list[str]) -> None:
-        """Takes a record; the empty ones of spreadsheets are skipped."""
+        """Takes a record; the empty ones of spreadsheets are counted and skipped."""
         self.row += 1
+        self.judge(self.row <= _MOST_RECORDS, "TooMany",
+                   f"a plan has {_MOST_RECORDS:,} records at the most")
         self.cells = [cell.strip(" \t") for cell in record]
         while self.cells and not self.cells[-1]:
             self.cells.pop()
         if not self.cells:
             return
-        self.key = self.cells[0].lower()
-        if self.key not in KEYS:
-            raise self.fault(f"`{self.cells[0]}` is no key of a plan")
-        try:
-            getattr(self, "take_" + self.key)()
-        except IndexError:
-            raise self.fault(f"`{self.key}` has too few cells") from None
+        self.key = self.cells[0].lower() if self.cells[0].isascii() else ""
+        self.judge(self.key in KEYS, "Key", f"`{self.cells[0][:60]}` is no key of a plan")
+        getattr(self, "take_" + self.key)()
 
-    def state(self, values: list) -> None:
-        if self.key in self.once:
-            raise self.fault(f"`{self.key}` stands twice")
-        self.once[self.key] = values
+    def width(self, *counts: int) -> None:
+        """Refuses the record unless it has one of these numbers of cells."""
+        told = " or ".join(str(count - 1) for count in counts)
+        self.judge(len(self.cells) in counts, "Width",
+                   f"{len(self.cells) - 1} cells after `{self.key}`, which takes {told}")
+
+    def state(self, *values: object) -> None:
+        """Keeps the values of a record that stands once."""
+        self.judge(self.key not in self.once, "Twice", f"`{self.key}` stands twice")
+        self.once[self.key] = list(values)
 
     def take_name(self) -> None:
-        self.state([self.name()])
+        self.width(2)
+        self.state(self.name())
 
     def take_grid(self) -> None:
-        numbers = [self.number(at) for at in range(1, 7)]
-        if min(numbers[3:]) < Decimal("0.001"):
-            raise self.fault("a size of the grid is below 0.001")
-        self.state(numbers)
+        self.width(7)
+        self.state(*(self.number(at, _ORIGIN if at < 4 else _SIZE) for at in range(1, 7)))
 
     def take_zone(self) -> None:
         """Takes a record `zone`, of one slope or of four."""
-        if len(self.cells) not in (4, 10):
-            raise self.fault("a zone has p, q, K, or p and q of +x, -x, +y and -y, and K")
-        numbers = [self.whole(at) for at in range(1, len(self.cells))]
-        if min(numbers) < 1:
-            raise self.fault("a rise, a run and K are at least 1")
-        if numbers[-1] > MOST_HEIGHT:
-            raise self.fault(f"K is {numbers[-1]}, and a mine has {MOST_HEIGHT:,} benches at the "
-                             "most")
-        pairs = [Slope(*numbers[at:at + 2]) for at in range(0, len(numbers) - 1, 2)]
+        self.judge(len(self.cells) in (4, 10), "Width",
+                   "a zone has p, q, K, or p and q of +x, -x, +y and -y, and K")
+        numbers = [self.whole(at, _SLOPE) for at in range(1, len(self.cells) - 1)]
+        benches = self.whole(len(self.cells) - 1, _BENCHES)
+        pairs = [Slope(*numbers[at:at + 2]) for at in range(0, len(numbers), 2)]
         four = pairs * 4 if len(pairs) == 1 else pairs
-        self.zones.append(Zone((four[0], four[1], four[2], four[3]), numbers[-1]))
+        self.judge(len(self.zones) < _MOST_ZONES, "TooMany",
+                   f"a plan has {_MOST_ZONES} zones at the most")
+        self.zones.append(Zone((four[0], four[1], four[2], four[3]), benches))
+
+    def keep(self, one: Destination) -> None:
+        """Keeps a destination whose name no other one has."""
+        self.judge(one.name not in (other.name for other in self.destinations), "Twice",
+                   f"the destination `{one.name}` stands twice")
+        starts = [start for start, _ in one.bands]
+        self.judge(all(low < high for low, high in zip(starts, starts[1:])), "Order",
+                   "the starts of bands do not rise")
+        self.judge(len(self.destinations) < MOST_DESTINATIONS, "TooMany",
+                   f"a plan has {MOST_DESTINATIONS} destinations at the most")
+        self.judge(len(starts) <= _MOST_BANDS, "TooMany",
+                   f"a leach has {_MOST_BANDS} bands at the most")
+        self.destinations.append(one)
 
     def take_mill(self) -> None:
-        bands = ((Decimal(0), self.whole(2)),)
-        self.destinations.append(Destination("mill", self.name(), self.whole(3), self.whole(4),
-                                             bands))
+        self.width(5)
+        name, bands = self.name(), ((Decimal(0), self.whole(2, _RECOVERY)),)
+        self.keep(Destination("mill", name, self.whole(3, _PRICE), self.whole(4, _COST), bands))
 
     def take_leach(self) -> None:
-        if len(self.cells) < 6 or len(self.cells) % 2:
-            raise self.fault("a leach has a name, a price, a cost, and pairs of a start and a "
-                             "recovery")
-        bands = tuple((self.number(at), self.whole(at + 1)) for at in range(4, len(self.cells), 2))
-        self.destinations.append(Destination("leach", self.name(), self.whole(2), self.whole(3),
-                                             bands))
+        self.judge(len(self.cells) >= 6 and len(self.cells) % 2 == 0, "Width",
+                   "a leach has a name, a price, a cost, and pairs of a start and a recovery")
+        name, price, cost = self.name(), self.whole(2, _PRICE), self.whole(3, _COST)
+        bands = tuple((self.number(at, _START), self.whole(at + 1, _RECOVERY))
+                      for at in range(4, len(self.cells), 2))
+        self.keep(Destination("leach", name, price, cost, bands))
 
     def take_dump(self) -> None:
-        self.destinations.append(Destination("dump", self.name(), 0, self.whole(2)))
+        self.width(3)
+        self.keep(Destination("dump", self.name(), 0, self.whole(2, _COST)))
 
     def take_periods(self) -> None:
-        if not 1 <= self.whole(1) <= MOST_PERIODS:
-            raise self.fault(f"a plan has 1 to {MOST_PERIODS} periods")
-        self.state([self.whole(1)])
+        self.width(2)
+        self.state(self.whole(1, _PERIODS))
 
     def take_rate(self) -> None:
-        self.state([self.number(1)])
+        self.width(2)
+        self.state(self.number(1, _RATE))
 
-    def place_of(self, name: str, among: Iterable) -> int:
+    def place_of(self, name: str, among: Sequence) -> int:
+        """The place of an earlier destination or resource, by its name."""
         found = [at for at, one in enumerate(among) if one.name == name]
-        if not found:
-            raise self.fault(f"`{name}` stands in no earlier record")
+        self.judge(bool(found), "Name", f"`{name[:64]}` stands in no earlier record")
         return found[0]
 
     def take_resource(self) -> None:
-        covers = tuple(self.place_of(name, self.destinations) for name in self.cells[2:])
-        self.resources.append(Resource(self.name(), covers))
+        """Takes a record `resource`."""
+        self.judge(len(self.cells) >= 3, "Width",
+                   "a resource has a name, and the destinations that it covers")
+        name = self.name()
+        covers = tuple(self.place_of(cell, self.destinations) for cell in self.cells[2:])
+        self.judge(name not in (other.name for other in self.resources), "Twice",
+                   f"the resource `{name}` stands twice")
+        self.judge(len(set(covers)) == len(covers), "Twice", "a destination is covered twice")
+        self.judge(len(self.resources) < MOST_RESOURCES, "TooMany",
+                   f"a plan has {MOST_RESOURCES} resources at the most")
+        self.resources.append(Resource(name, covers))
 
     def take_limit(self) -> None:
         """Takes a record `limit`."""
-        letter = self.cells[3]
-        if letter not in ("L", "G", "I"):
-            raise self.fault(f"`{letter}` is none of L, G and I")
-        first = self.number(4)
-        lower = None if letter == "L" else first
-        upper = {"L": first, "G": None}.get(letter, self.number(5) if letter == "I" else None)
+        self.width(6 if self.cells[3:4] == ["I"] else 5)
         resource = self.place_of(self.cells[1], self.resources)
-        self.limits.append(Limit(resource, self.whole(2), letter, lower, upper))
+        last = self.once.get("periods", [0])[0] - 1
+        period = self.whole(2, _Range.of("a period, after the record `periods`,", 0, "0",
+                                         str(last)))
+        letter = self.cells[3]
+        self.judge(letter in ("L", "G", "I"), "Name", f"`{letter[:60]}` is none of L, G and I")
+        ends = [self.number(at, _TONNES) for at in range(4, len(self.cells))]
+        self.judge((resource, period) not in self.limits, "Twice",
+                   f"`{self.cells[1]}` has a limit in period {period} already")
+        self.judge(ends[0] <= ends[-1], "Order", "the ends of the limit fall")
+        self.limits[resource, period] = Limit(resource, period, letter,
+                                              None if letter == "L" else ends[0],
+                                              None if letter == "G" else ends[-1])
 
     def plan(self) -> Plan:
         """The plan, once all records were taken."""
         lacking = [key for key in ("name", "grid", "periods", "rate") if key not in self.once]
         lacking += [] if self.zones else ["zone"]
         lacking += [] if self.destinations else ["mill, leach or dump"]
-        if lacking:
-            raise UserError(f"{self.source}: no record {', '.join(lacking)}")
+        self.row += 1
+        self.judge(not lacking, "Missing", f"the plan ends without a record {', '.join(lacking)}")
         return Plan(
             self.once["name"][0], Grid.of(self.once["grid"]), tuple(self.zones),
             tuple(self.destinations), self.once["periods"][0], self.once["rate"][0],
-            tuple(self.resources), tuple(self.limits))
+            tuple(self.resources), tuple(self.limits.values()))
 
 
 def read_text(path: str) -> str:
@@ -319,14 +410,15 @@ def read_text(path: str) -> str:
         content = file.read(MOST_PLAN_BYTES + 1)
     if len(content) > MOST_PLAN_BYTES:
         raise UserError(f"{path}: it has more than {MOST_PLAN_BYTES:,} bytes, and so it is no plan")
-    return content.decode("utf-8", "replace").lstrip("\ufeff")
+    return content.decode("utf-8", "replace").removeprefix("\ufeff")
 
 
 def _taken(text: str, source: str) -> _Reader:
     """The records of a text, taken one after the other."""
     reader = _Reader(source)
     try:
-        for record in csv.reader(text.lstrip("\ufeff").splitlines()):
+        # Older Pythons read no zero byte, which no cell of a plan may have.
+        for record in csv.reader(io.StringIO(text.replace("\0", "\ufffd"), newline="")):
             if record:
                 reader.take(record)
     except csv.Error as error:
@@ -335,15 +427,15 @@ def _taken(text: str, source: str) -> _Reader:
 
 
 def plan_of(text: str, source: str = "plan") -> Plan:
-    """The plan that a text states. It raises UserError, which names the record."""
+    """The plan that a text states. It raises PlanError, which names the record."""
     return _taken(text, source).plan()
 
 
 def read_plan(path: str) -> Plan:
     """The plan of a file; lengths in metres, money in cents, tonnes and g/t, all exact.
 
-    It raises UserError for a plan that it does not understand, OSError for a file that cannot be
-    read."""
+    It raises PlanError for a plan that `pitc` refuses, UserError for one of too many bytes, OSError
+    for a file that cannot be read."""
     return plan_of(read_text(path), path)
 
 

@@ -16,8 +16,6 @@ import numpy as np
 from scipy import optimize, sparse
 
 from pit_tools.closure import ultimate_pit
-from pit_tools.ended import within
-from pit_tools.errors import UserError
 from pit_tools.instance import Blocks, Problem, arcs_of
 from pit_tools.programs import Program, program_of, schedule_of, solve
 from pit_tools.schedules import Schedule, check
@@ -53,23 +51,15 @@ def shells(tonnes: np.ndarray, values: np.ndarray, precedence: sparse.csr_matrix
     return shell
 
 
-def start_of(problem: Problem, precedence: sparse.spmatrix,
-             seconds: float) -> tuple[Optional[Schedule], Optional[float]]:
-    """A schedule from shells and the value of the ultimate pit, which no schedule is worth more
-    than; None for what was not found in so many seconds, and for a schedule that breaks a lower
-    limit. The tonnes of a block are what it uses most of, or 1."""
-    def start() -> tuple[Optional[Schedule], Optional[float]]:
-        best = problem.values.max(axis=1)
-        bound = float(best[ultimate_pit(best, precedence)].sum())
-        tonnes = np.zeros(len(best))
-        np.maximum.at(tonnes, problem.uses.block, problem.uses.amount)
-        schedule = from_shells(problem, np.where(tonnes > 0, tonnes, 1), precedence)
-        return schedule if check(schedule, problem, precedence).holds else None, bound
-
-    try:
-        return within(start, seconds) or (None, None)
-    except UserError:
-        return None, None
+def start_of(problem: Problem, precedence: sparse.spmatrix) -> Found:
+    """A schedule from shells, None if it breaks a lower limit, and the value of the ultimate pit,
+    which no schedule is worth more than. The tonnes of a block are what it uses most of, or 1."""
+    best = problem.values.max(axis=1)
+    bound = float(best[ultimate_pit(best, precedence)].sum())
+    tonnes = np.zeros(len(best))
+    np.maximum.at(tonnes, problem.uses.block, problem.uses.amount)
+    schedule = from_shells(problem, np.where(tonnes > 0, tonnes, 1), precedence)
+    return Found(schedule if check(schedule, problem, precedence).holds else None, bound, "shells")
 
 
 def from_shells(problem: Problem, tonnes: np.ndarray, precedence: sparse.spmatrix) -> Schedule:

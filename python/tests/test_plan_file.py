@@ -46,13 +46,13 @@ def test_a_plan_is_read_with_its_units_and_written_as_it_was():
 
 @pytest.mark.parametrize("edit, told", [
     (("zone,1,1,9", "zone,1,1"), "record 3: a zone has p, q, K"),
-    (("rate,0.08\n", ""), "no record rate"),
+    (("rate,0.08\n", ""), "record 12: the plan ends without a record rate"),
     (("mill,mill,920", "mill,mill,0.92"), "record 5: `0.92` is no whole number"),
     (("resource,fleet,mill", "resource,fleet,plant"), "`plant` stands in no earlier record"),
     (("name,pit", "x,y,z"), "record 1: `x` is no key of a plan"),
-    (("20,20,10", "20,0,10"), "a size of the grid is below 0.001"),
-    (("zone,1,1,9", "zone,1,1,99999"), "record 3: K is 99999"),
-    (("dump ,180", "dump ,1e18"), "`1e18` is too great or too small a number"),
+    (("20,20,10", "20,0,10"), "`0`: a size of the grid is from 0.001 to 100"),
+    (("zone,1,1,9", "zone,1,1,99999"), "record 3: `99999`: K is from 1 to 20"),
+    (("dump ,180", "dump ,1e18"), "`1e18` is no number"),
     (("mill,mill", "mill,a mill"), "record 5: `a mill` is no name"),
     (("name,pit", "name,pit\nname,pit"), "record 2: `name` stands twice"),
 ])

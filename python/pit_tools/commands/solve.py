@@ -3,7 +3,13 @@ from __future__ import annotations
 
 import argparse
 
+from typing import TYPE_CHECKING, Optional
+
 from pit_tools.commands import PRECEDENCE, from_zero
+
+if TYPE_CHECKING:
+    from pit_tools.ended import Beside
+    from pit_tools.schedule_search import Found
 
 HELP = """\
 Finds the best schedule of a CPIT or a PCPSP of about a hundred blocks, or a good one of some thousand,
@@ -43,31 +49,48 @@ def run(args: argparse.Namespace) -> int:
     import time
 
     from pit_tools import outputs
+    from pit_tools.ended import Beside
     from pit_tools.commands.lp import fewer_arcs
     from pit_tools.instance import read_precedence, read_problem
-    from pit_tools.programs import program_of, schedule_of, solve
+    from pit_tools.programs import GRACE, program_of, schedule_of, solve
     from pit_tools.schedule_search import start_of
     from pit_tools.schedules import write_schedule
 
     problem = read_problem(args.problem)
     precedence = fewer_arcs(read_precedence(args.precedence, len(problem.values)), args.all_arcs)
     outputs.judged(args.out)
-    begun, start, bound = time.monotonic(), None, None
-    if args.seconds and not args.relaxed:
-        start, bound = start_of(problem, precedence, args.seconds / 4)
-    program = program_of(problem, precedence, args.relaxed, args.whole)
-    left = max(0.1, begun + args.seconds - time.monotonic())
-    answer = solve(program, left if args.seconds else None, args.ratio)
+    end = time.monotonic() + args.seconds
+    # A schedule that is known while HiGHS has none yet.
+    beside = (Beside(lambda: start_of(problem, precedence))
+              if args.seconds and not args.relaxed else None)
+    try:
+        program = program_of(problem, precedence, args.relaxed, args.whole)
+        left = max(0.1, end - time.monotonic())
+        answer = solve(program, left if args.seconds else None, args.ratio)
+    finally:
+        start = _start_in(beside, end + GRACE - time.monotonic())
     found = (None if answer.values is None
              else schedule_of(answer.values, problem, program.names))
-    value = answer.value
-    if answer.status == "stopped" and start and start.worth(problem) > (value or 0.0):
-        found, value = start, start.worth(problem)
+    value, bounds = answer.value, [answer.bound]
+    if answer.status == "stopped" and start:
+        bounds.append(start.bound)
+        if start.schedule and start.schedule.worth(problem) > (value or 0.0):
+            found, value = start.schedule, start.schedule.worth(problem)
     if found is None:
         print(f"{answer.status}: {answer.told}")
         return 1
-    bounds = [one for one in (answer.bound, bound) if one is not None]
-    print(f"{answer.status}: worth {value:.2f}{f', bound {min(bounds):.2f}' if bounds else ''}")
+    known = [bound for bound in bounds if bound is not None]
+    print(f"{answer.status}: worth {value:.2f}{f', bound {min(known):.2f}' if known else ''}")
     if args.out:
         write_schedule(found, args.out, problem.kind == "PCPSP")
     return 0
+
+
+def _start_in(beside: Optional[Beside[Found]], seconds: float) -> Optional[Found]:
+    """The start that is found beside, if it is found in so many seconds."""
+    from pit_tools.errors import UserError
+
+    try:
+        return beside.result(max(0.0, seconds)) if beside else None
+    except UserError:
+        return None
