@@ -15,7 +15,8 @@ from pit_tools.formula_values import code_name
 from pit_tools.formulas import Formula, Lacking, formula_of, plain_name
 from pit_tools.source import closest_separator
 from pit_tools.unnamed_columns import Unnamed, unnamed_in
-from pit_tools.units import factor_of, is_factor, is_money_a_tonne, named_in
+from pit_tools.units import (AMBIGUOUS_GRADES, LENGTHS, METALS_A_TONNE, factor_of, grade_unit_in,
+                             is_factor, is_money_a_tonne, metal_in, named_in)
 
 # What each word is in, for the unit behind it.
 KINDS = {"x": "length", "y": "length", "z": "length", "i": "", "j": "", "k": "", "tonnes": "mass",
@@ -157,6 +158,7 @@ class Words:
             raise UserError("give --x-bearing or --y-azimuth, not both")
         if not all(math.isfinite(angle or 0) for angle in (self.x_bearing, self.y_azimuth)):
             raise UserError("--x-bearing, --y-azimuth: give degrees, as 62.5")
+        self._judge_feet()
         if self.parents and self.regularise:
             raise UserError("give --parents or --regularise, not both")
         if self.rotation and (self.is_turned or not self.regularise):
@@ -167,6 +169,17 @@ class Words:
                             "--y-azimuth or --rotation")
         self._judge_masses()
         self._judge_signs()
+
+    def _judge_feet(self) -> None:
+        """Refuses densities and volumes in cubic feet beside lengths whose unit is not given."""
+        lengths = self.x.split() or ["X"]
+        if self.in_feet or self.volume or lengths[-1] in LENGTHS:
+            return
+        unit = (self.density.split() or [""])[-1]
+        if "/" in unit and ("ft3" in unit or "yd3" in unit):
+            raise UserError(f"--density is in {unit}, and the lengths have no unit: give "
+                            f"--x '{self.x or 'X'} ft' and the like, or --in-feet where all "
+                            f"lengths are in feet; '{self.x or 'X'} m' where they are metres")
 
     def _judge_signs(self) -> None:
         """The same of the signs by which an export is written."""
@@ -374,7 +387,7 @@ def unit_doubts(columns: Columns, names: Sequence[str],
     doubts = []
     for key, measure in columns.measures.items():
         at, kind = measure.plain_column, KINDS[key]
-        if at is None or not kind or measure.unit:
+        if at is None or not kind or measure.unit or key == "grade":
             continue
         texts = [names[at], *(row[at] for row in units if at < len(row))]
         for text in texts:
@@ -391,6 +404,38 @@ def unit_doubts(columns: Columns, names: Sequence[str],
                               f"'{names[at]} {unit}'")
                 break
     return doubts
+
+
+def grade_units(columns: Columns, names: Sequence[str], units: Sequence[Sequence[str]],
+                path: str) -> list[str]:
+    """Lines that tell where a header or a row of units names another unit than the one that is
+    given with --grade. It raises UserError where none is given and the named one is no g/t: the
+    metal would be another."""
+    measure = columns.measures["grade"]
+    at = measure.formula.plain_column
+    if at is None or columns.is_money:
+        return []
+    name = " ".join(names[at].split())
+    for text in [names[at], *(row[at] for row in units if at < len(row))]:
+        metal = metal_in(text)
+        if metal and not measure.unit:
+            raise UserError(f"{path}: the column {name} seems to be metal in {metal}, and no "
+                            f"grade: divide it by the tonnes, as --grade '{name}/TONNES "
+                            f"{METALS_A_TONNE[metal]}', or give its unit, as '{name} g/t'")
+        unit = grade_unit_in(text)
+        if not unit:
+            continue
+        ways = AMBIGUOUS_GRADES.get(unit, [unit])
+        if not measure.unit and ways != [unit]:
+            raise UserError(f"{path}: the column {name} says `{unit}`, which is read in two ways: "
+                            f"give --grade '{name} {ways[0]}' or '{name} {ways[1]}'")
+        factors = [factor_of(way, "grade") for way in ways]
+        if not measure.unit and factors != [1]:
+            raise UserError(f"{path}: the column {name} says `{unit}`, and is read as grams a "
+                            f"tonne: give --grade '{name} {unit}', or '{name} g/t' where it is g/t")
+        if measure.factor not in factors:
+            return [f"the column {name} says `{unit}`, and --grade reads it as {measure.unit}"]
+    return []
 
 
 TAKEN = {"length": "metres", "mass": "tonnes", "density": "tonnes a cubic metre",

@@ -11,6 +11,9 @@ WHAT_A_NAME_IS = "1 to 64 letters, digits, `_`, `-` and `.`"
 #: Bytes of a plan.
 MOST_PLAN_BYTES = 1 << 20
 
+#: Rows of a zone file.
+MOST_ROWS = 1_000_000
+
 #: Blocks of an instance, the greatest index along an axis, and the greatest number of a zone.
 MOST_BLOCKS, MOST_INDEX, MOST_ZONE = 64_000_000, 9999, 63
 

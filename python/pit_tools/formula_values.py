@@ -58,6 +58,12 @@ def listed(node: ast.expr) -> list[ast.expr]:
     return node.elts
 
 
+def is_constant(node: ast.AST) -> bool:
+    """Whether a part of the code has no column."""
+    return not any(isinstance(one, ast.Name) and one.id.startswith("_at")
+                   for one in ast.walk(node))
+
+
 class Rows:
     """Columns by their names in code: `known` has NaN where a cell says that nothing is known,
     `standing` the numbers as they stand."""
@@ -69,6 +75,32 @@ class Rows:
         """What a part of the code gives: an array, or one number or text."""
         with np.errstate(all="ignore"):
             return self._of(node)
+
+    def summed(self, node: ast.AST) -> tuple[Any, Any]:
+        """The same, where a missing term of an outermost sum adds nothing to the others, also of a
+        sum that is multiplied with or divided by a number; and where such a term is missing beside
+        one that is not."""
+        if isinstance(node, ast.UnaryOp) and isinstance(node.op, ast.USub):
+            found, lacks = self.summed(node.operand)
+            return -found, lacks
+        if isinstance(node, ast.BinOp) and isinstance(node.op, (ast.Mult, ast.Div)):
+            is_left = not is_constant(node.left)
+            if is_constant(node.right) == is_left and (is_left or isinstance(node.op, ast.Mult)):
+                found, lacks = self.summed(node.left if is_left else node.right)
+                with np.errstate(all="ignore"):
+                    other = self._of(node.right if is_left else node.left)
+                    return OPERATORS[type(node.op)](found, other), lacks
+        if not isinstance(node, ast.BinOp) or not isinstance(node.op, (ast.Add, ast.Sub)):
+            return self.value(node), False
+        left, left_lacks = self.summed(node.left)
+        right, right_lacks = self.summed(node.right)
+        right = -right if isinstance(node.op, ast.Sub) else right
+        lacks = left_lacks | right_lacks
+        if is_constant(node.left) or is_constant(node.right):
+            return left + right, lacks
+        no_left, no_right = np.isnan(left), np.isnan(right)
+        return (np.where(no_left, right, np.where(no_right, left, left + right)),
+                lacks | (no_left ^ no_right))
 
     def holds(self, node: ast.AST) -> np.ndarray:
         """Whether a condition holds: numbers are as they stand, but where it asks whether they are

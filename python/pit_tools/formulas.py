@@ -122,19 +122,22 @@ class Formula:
         where one is missing; `standing` has them as they stand, for conditions. A term of its
         outermost sum that is missing adds nothing to the others; where all are missing, so is the
         sum."""
-        terms = [self._one(code, table, table if standing is None else standing)
-                 for code in _terms(self.code)]
-        return terms[0] if len(terms) == 1 else pd.concat(terms, axis=1).sum(axis=1, min_count=1)
+        return self.summed(table, standing)[0]
+
+    def summed(self, table: pd.DataFrame,
+               standing: Optional[pd.DataFrame] = None) -> tuple[pd.Series, np.ndarray]:
+        """The same, and where a term is missing and another is not, bool."""
+        def summed(rows: Rows) -> tuple[np.ndarray, Any]:
+            found, lacks = rows.summed(_body(self.code))
+            return np.asarray(found, float), lacks
+        found, lacks = self._computed(summed, table, table if standing is None else standing)
+        return (pd.Series(np.broadcast_to(found, len(table)), index=table.index),
+                np.broadcast_to(np.asarray(lacks, bool), len(table)))
 
     def holds(self, table: pd.DataFrame, standing: pd.DataFrame) -> Any:
         """Whether it holds of each row, as an array; texts of the tables are those of
         `code_name`."""
         return self._computed(lambda rows: rows.holds(_body(self.code)), table, standing)
-
-    def _one(self, code: str, table: pd.DataFrame, standing: pd.DataFrame) -> pd.Series:
-        found = self._computed(lambda rows: np.asarray(rows.value(_body(code)), float), table,
-                               standing)
-        return pd.Series(np.broadcast_to(found, len(table)), index=table.index)
 
     def _computed(self, of: Callable[[Rows], Any], table: pd.DataFrame,
                   standing: pd.DataFrame) -> Any:
@@ -148,17 +151,6 @@ class Formula:
 
 def _body(code: str) -> ast.expr:
     return ast.parse(code, mode="eval").body
-
-
-def _terms(code: str) -> list[str]:
-    """The terms of the outermost sum."""
-    tree = _body(code)
-    terms: list[str] = []
-    while isinstance(tree, ast.BinOp) and isinstance(tree.op, (ast.Add, ast.Sub)):
-        sign = "-" if isinstance(tree.op, ast.Sub) else ""
-        terms.append(f"{sign}({ast.unparse(tree.right)})")
-        tree = tree.left
-    return [ast.unparse(tree), *reversed(terms)]
 
 
 def formula_of(text: str, names: Sequence[str]) -> Formula:

@@ -212,7 +212,10 @@ def _size_in_noise(unique: np.ndarray) -> Optional[int]:
         if size < 1 or index.max() + 1 > len(centres) / 0.9:
             continue
         off = (unique - unique[0] + size // 2) % size - size // 2
-        if np.ptp(off) <= 1.2 * beside + 2.1 * spread + 1 and np.ptp(off) <= BESIDE * size:
+        # A size as 25/3 m is not whole in thousandths, and moves off by up to a half at each place.
+        drift = index.max() / 2 if unit == 1 else 0
+        if (np.ptp(off) <= 1.2 * beside + 2.1 * spread + 1 + drift
+                and np.ptp(off) <= BESIDE * size):
             return size
     return None
 

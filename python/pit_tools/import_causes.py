@@ -41,6 +41,16 @@ def judge_ends(values: Sequence[np.ndarray], with_cells: Callable[[int], str]) -
                                 "or means, and no blocks? Take them out of the export")
 
 
+def judge_degrees(values: Sequence[np.ndarray], with_cells: Callable[[int], str]) -> None:
+    """Stops at x and y that are degrees of longitude and latitude: a mine spans less than one, in
+    steps that three decimals cannot hold."""
+    level = np.array(values[:2])
+    if (len(level[0]) > 8 and np.ptp(level, axis=1).max() < 1000 <= np.ptp(values[2])
+            and np.abs(level).max() <= 180_000):
+        raise UserError(f"{with_cells(0)}: x and y are degrees, or all blocks lie within one "
+                        "metre: export them in metres of a projection, as UTM")
+
+
 def causes(values: Sequence[np.ndarray], with_cells: Callable[[int], str]) -> Iterable[str]:
     """What may be behind coordinates that lie on no grid."""
     marked = _marks_in(values)

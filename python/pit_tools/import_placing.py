@@ -11,25 +11,31 @@ import pandas as pd
 from pit_tools.decimals import plain, shortest
 from pit_tools.errors import UserError
 from pit_tools.export_words import Measure, columns_of
+from pit_tools.formats import MOST_ROWS
 from pit_tools.gridding import (Axis, Frame, Turn, axis_of, box_told, counts_of, indices,
                                 rotation_of, sizes_of, thousandths, turn_of, turn_told, turned_by)
 from pit_tools.holdings import Holdings
-from pit_tools.import_causes import (causes, dip_of, dip_told, judge_ends, judge_neighbours,
-                                     likelier_order)
+from pit_tools.import_causes import (causes, dip_of, dip_told, judge_degrees, judge_ends,
+                                     judge_neighbours, likelier_order)
 from pit_tools.import_doubts import Doubts
 from pit_tools.import_masses import Masses
-from pit_tools.import_reading import COORDINATES, Reading
+from pit_tools.import_reading import COORDINATES, NINES_ABOVE, Reading
 from pit_tools.import_repeats import Repeats, is_again
 from pit_tools.import_report import Report, figure
 from pit_tools.import_sizes import (Parts, Sizes, judge_own_grid, judge_sizes, parts_of, scattered,
                                     sizes_of_axes, sizes_told)
-from pit_tools.imported_blocks import Imported
+from pit_tools.imported_blocks import Imported, cut_zones
 from pit_tools.plan_file import Grid
 from pit_tools.reconciling import Circumstances, Wanted, compared, statement_of
 from pit_tools.resource_report import Known
 from pit_tools.source import Source
 from pit_tools.units import Measures, grade_unit_of
 from pit_tools.walls import MOST_BENCHES
+
+# Where northings and eastings of UTM are, on land: farther from the equator than 1,000 km, and in a
+# zone. Coordinates in metres of no other grid in wide use have their first number in the former and
+# their second in the latter.
+NORTHINGS, EASTINGS = (1e6, 1e7), (1e5, 9e5)
 
 # The most that pitc takes: kilograms a block, millionths of g/t, zones, the greatest index.
 MOST_KILOGRAMS, MOST_GRADE, MOST_ZONES, MOST_INDEX = 10 ** 9, 10 ** 12, 64, 9999
@@ -91,8 +97,13 @@ class Placing:
         report.facts += ["", *held.table(self.measures())]
         self.tell_grid(rows, axes)
         Doubts(rows, air, axes, self.factors, zones, report, self.reading, self.with_cells).look()
-        rows = rows[["ix", "iy", "iz", "tonnes", "grade", "zone"]]
-        found = Imported(self.words, self.sources, grid, axes, self.frame, zones,
+        rows, files = cut_zones(rows[["ix", "iy", "iz", "tonnes", "grade", "zone"]], zones)
+        if len(files) > len(zones):
+            report.facts.append(f"a zone file has {MOST_ROWS:,} rows at most: "
+                                + ", ".join(f"{name} becomes {files.count(name)} files"
+                                            for name in zones if files.count(name) > 1)
+                                + ", each a zone of the plan with the same record")
+        found = Imported(self.words, self.sources, grid, axes, self.frame, files,
                          rows.reset_index(drop=True), records, report, benches, self.part_of)
         self.reconcile(found, held)
         return found
@@ -154,6 +165,9 @@ class Placing:
                              "row": np.arange(len(tonnes)), "volume": masses.rock_volume()})
         if other is not None:
             rows["other"] = other
+        zero = self.taken("zero")
+        if zero is not None:
+            rows["zero"] = zero
         if self.spot is None and self.words.is_merged:
             fraction = masses.share
             if fraction is None and (self.words.volume or self.sizes is not None):
@@ -205,6 +219,9 @@ class Placing:
             return axes, places
         values = [self.reading.column(key) for key in COORDINATES]
         judge_ends(values, self.with_cells)
+        if self.factors[0] == 1:
+            judge_degrees(values, self.with_cells)
+        self.tell_exchange(values)
         if words.is_turned:
             values[:2] = self.turned(values)
         self.sizes = self.sizes_of_rows()
@@ -242,9 +259,18 @@ class Placing:
                             "--thousands .")
         return axes
 
+    def tell_exchange(self, values: Sequence[np.ndarray]) -> None:
+        """Tells where x is in the range of northings of UTM, and y in that of eastings."""
+        x, y = (float(np.median(value)) / 1000 for value in values[:2])
+        if (self.factors[0] == 1 and not self.words.in_feet
+                and NORTHINGS[0] <= x <= NORTHINGS[1] and EASTINGS[0] <= y <= EASTINGS[1]):
+            self.report.facts.append(f"x is {x:,.0f} and y {y:,.0f} in the middle: in UTM that is "
+                                     "a northing as x and an easting as y, and the mine is "
+                                     "mirrored. If so, exchange --x and --y")
+
     def cause(self, values: Sequence[np.ndarray]) -> str:
         """What may be behind coordinates that lie on no grid."""
-        why = self.turn_hint(values)
+        why = self.turn_hint(values) or self.feet_hint(values)
         if why:
             return why
         if self.sizes is not None:
@@ -255,6 +281,19 @@ class Placing:
                     "and cuts greater ones")
         return "" if self.words.size else "".join(f". {cause}"
                                                   for cause in causes(values, self.with_cells))
+
+    def feet_hint(self, values: Sequence[np.ndarray]) -> str:
+        """Whether coordinates of a later export are those of the first in feet."""
+        for number in range(1, len(self.sources)):
+            middles = [[float(np.median(value[self.file == one])) for one in (0, number)]
+                       for value in values[:2]]
+            ratios = [later / first for first, later in middles if first]
+            for ratio, one in ((1 / 0.3048, number), (0.3048, 0)):
+                if ratios and all(abs(found / ratio - 1) < 0.05 for found in ratios):
+                    return (f". Coordinates of {self.sources[number].path} are {ratios[0]:.3g} "
+                            f"times those of {self.sources[0].path}: is {self.sources[one].path} "
+                            "in feet? Export both in one unit")
+        return ""
 
     def of_one_size(self, values: Sequence[np.ndarray]) -> list[np.ndarray]:
         """The coordinates of the rows of the size that most have, since neighbours of one size lie
@@ -563,8 +602,20 @@ class Placing:
         metres = [axis.step * factor / 1000 for axis, factor in zip(axes, self.factors)]
         return metres[0] * metres[1] * metres[2] * foot
 
+    def judge_nines(self) -> None:
+        """Stops at grades and densities of nines alone, as 999, far above all others."""
+        for name, found in self.reading.nines.items():
+            for mark, (count, line) in found.items():
+                most = self.reading.largest[name]
+                if mark > NINES_ABOVE * most > 0:
+                    raise UserError(f"{line}: {name} is {mark:.10g} there, as in {count:,} rows, "
+                                    f"and else {most:.10g} at most: if it stands for what is not "
+                                    f"known, give --missing {mark:.10g}; else leave such rows out "
+                                    "by --where")
+
     def tell_rows(self) -> None:
         """Tells how many rows were read, what was left out, and how cells were read."""
+        self.judge_nines()
         counts, facts = self.reading.counts, self.report.facts
         facts.append(f"{counts['rows'] + counts['filtered']:,} rows read")
         for what in ("empty lines", "headers that stand again",
@@ -583,6 +634,8 @@ class Placing:
             if len(spelled) > 1:
                 facts.append(f"in {name} a filter takes for one: "
                              f"{', '.join(f'`{text}`' for text in sorted(spelled))}")
+        for what, (count, line) in self.reading.lacking.items():
+            facts.append(f"grade {self.words.grade}: in {count:,} rows, as {line}, {what}")
         if self.reading.unknown_densities:
             told = ", ".join(f"`{key}` ({many:,} rows)"
                              for key, many in self.reading.unknown_densities.most_common(5))
@@ -627,6 +680,7 @@ class Placing:
         if rows.empty:
             raise UserError("no row has tonnes: " + self.no_tonnes_told())
         self.report.facts.append(f"left out: {len(air):,} rows without tonnes (air, holes)")
+        self.tell_zeros(rows, air)
         barren = (rows["grade"] < 0).to_numpy()
         if self.reading.counts["money"]:
             self.report.facts.append(f"kept with a return of 0: {int(barren.sum()):,} rows whose "
@@ -637,6 +691,19 @@ class Placing:
         rows["is_graded"] = ~barren
         rows.loc[barren, "grade"] = 0
         return rows, air
+
+    def tell_zeros(self, rows: pd.DataFrame, air: pd.DataFrame) -> None:
+        """Tells of rows below rock that were left out since they have 0, which may be waste."""
+        if "zero" not in air:
+            return
+        tops = rows.groupby(["ix", "iy"])["iz"].max()
+        top = tops.reindex(pd.MultiIndex.from_frame(air[["ix", "iy"]])).to_numpy()
+        below = ((air["iz"].to_numpy() < top) & air["zero"].to_numpy())
+        if below.any():
+            what = "density" if self.words.density else "tonnes"
+            self.report.facts.append(f"of these {int(below.sum()):,} lie below rock with a {what} "
+                                     f"of 0, as {self.line(int(air['row'].to_numpy()[below][0]))}: "
+                                     "voids? Waste needs its density, or digging it costs nothing")
 
     def no_tonnes_told(self) -> str:
         """Why no row may have tonnes."""

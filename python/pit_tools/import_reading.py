@@ -12,18 +12,27 @@ from pit_tools import progress
 from pit_tools.cells import Marks, Spelled, marks_of
 from pit_tools.decimals import LONGEST, is_decimal, is_number_like
 from pit_tools.errors import UserError
-from pit_tools.export_words import Columns, Measure, Table, Words, columns_of, unit_doubts
+from pit_tools.export_words import (Columns, Measure, Table, Words, columns_of, grade_units,
+                                    unit_doubts)
 from pit_tools.formula_values import code_name
-from pit_tools.formulas import Formula, column_name
+from pit_tools.formulas import Formula, column_name, plain_name
 from pit_tools.import_report import Report
+from pit_tools.last_lines import last_line_told
 from pit_tools.source import SHOWN, Source, sources_of
 from pit_tools.unnamed_columns import Unnamed
-from pit_tools.workbook import UNCOMPUTED
+from pit_tools.workbook import UNCOMPUTED, hidden_rows
 
 # Decimals that tonnes and grades keep until several rows of one block are summed.
 FINE = {"tonnes": 6, "grade": 9}
 
 COORDINATES = ("x", "y", "z")
+
+# Numbers of nines alone, which often say that nothing is known.
+NINES = [float("9" * digits) for digits in range(2, 9)]
+
+# How many times the greatest other number such a one has to be, to be taken for a mark: ore is
+# never that far above all other ore, and a cut of grades leaves the others just below it.
+NINES_ABOVE = 5
 
 # A number of a formula that is greater than this is a mistake, in metres, tonnes or g/t, and could
 # not be held.
@@ -51,6 +60,13 @@ class Reading:
         self.unnamed = Unnamed()
         # a number whose point may stand between thousands
         self.unclear_point = ""
+        # rows whose grade lacks a term, and rows that have some of its columns and no grade, each
+        # with the first line
+        self.lacking: dict[str, tuple[int, str]] = {}
+        # by the name of a column of grades or densities, how often it has marks as 999, with the
+        # first line, and the greatest of its other numbers
+        self.nines: dict[str, dict[float, tuple[int, str]]] = {}
+        self.largest: dict[str, float] = {}
 
     def keep(self, **columns: np.ndarray) -> None:
         for name, values in columns.items():
@@ -105,6 +121,8 @@ def read_source(source: Source, columns: Columns, reading: Reading, report: Repo
             reading.unclear_point = reading.unclear_point or marks.unclear_point
             report.facts.append(source.told())
             report.doubts += unit_doubts(columns, source.names, source.units)
+            report.facts += grade_units(columns, source.names, source.units, source.path)
+            report.facts += [*last_line_told(source), *hidden_told(source)]
         Piece(table, source, columns, marks, reading).take()
         progress.tell(f"{reading.counts['rows']:,} rows of {source.path}")
     if marks is not None:
@@ -113,6 +131,16 @@ def read_source(source: Source, columns: Columns, reading: Reading, report: Repo
             report.facts.append(_columns_told(columns, source.names))
         reading.counts["money"] += columns.is_money
     reading.source_at += 1
+
+
+def hidden_told(source: Source) -> list[str]:
+    """A line about rows of a sheet that are hidden, or none."""
+    if source.sheet is None:
+        return []
+    rows = hidden_rows(source.path, source.sheet_name)
+    return ([f"{source.path}: sheet `{source.sheet_name}` has {len(rows):,} hidden rows, as row "
+             f"{rows[0]}, and they are read too: delete them if they are no part of the model"]
+            if rows else [])
 
 
 def _key_column(columns: Columns) -> int:
@@ -215,6 +243,7 @@ class Piece:
         key = _key_column(self.columns)
         again = (self.table[key] == self.source.names[key]).to_numpy()
         if again.any():
+            self.judge_header(int(np.flatnonzero(again)[0]))
             self.reading.counts["headers that stand again"] += int(again.sum())
             self.table = self.table[~again]
         total = np.zeros(len(self.table), bool)
@@ -228,6 +257,15 @@ class Piece:
         if total.any():
             self.reading.counts["lines behind the last row, as totals"] += int(total.sum())
             self.table = self.table[~total]
+
+    def judge_header(self, at: int) -> None:
+        """Stops at a header that stands again with its columns in another order."""
+        for column in self.table.columns:
+            text, name = self.table[column].iloc[at].strip(), self.source.names[column]
+            if plain_name(text) != plain_name(name):
+                raise UserError(f"{self.line(at)}: a header stands again, with `{text}` where the "
+                                f"first one has `{name}`: its rows have other columns. Import them "
+                                "as a file of their own, with the same names")
 
     def filter(self) -> None:
         """Leaves out the rows that a filter does not let through."""
@@ -249,6 +287,8 @@ class Piece:
             if counted:
                 self.refuse(cells.wrong, at)
                 self.note_percent(cells, at)
+            if counted and not has_negatives:
+                self.note_nines(at, cells.floats)
             numbers = cells.floats
             missing = np.isnan(numbers) if has_negatives else ~(numbers >= 0)
             if counted and not has_negatives:
@@ -290,11 +330,37 @@ class Piece:
         measure are marks, as -99."""
         known, standing = self.values(measure.formula, what in COORDINATES or what in "ijk",
                                       measure.is_percent, counted=True)
-        found = measure.formula.value(known, standing).to_numpy(float).copy()
+        values, lacks = measure.formula.summed(known, standing)
+        found = values.to_numpy(float).copy()
+        if what == "grade":
+            self.note_lacking("a term is missing, and adds nothing", lacks & ~np.isnan(found))
+            some = ~known[[column_name(at) for at in measure.formula.numbers]].isna().all(axis=1)
+            self.note_lacking("columns are missing, so there is no grade",
+                              np.isnan(found) & some.to_numpy())
         if not measure.formula.divides:
             self.refuse_vast(np.isinf(found), what)
         found[np.isinf(found)] = np.nan
         return found
+
+    def note_lacking(self, what: str, lacks: np.ndarray) -> None:
+        """Counts rows of which something is missing, and keeps the first line."""
+        if lacks.any():
+            count, line = self.reading.lacking.get(what, (0, ""))
+            self.reading.lacking[what] = (count + int(lacks.sum()), line or self.line(
+                int(np.flatnonzero(lacks)[0])))
+
+    def note_nines(self, column: int, floats: np.ndarray) -> None:
+        """Keeps how often a column has numbers of nines alone, as 999, and its greatest other."""
+        name = " ".join(self.source.names[column].split())
+        is_nine = np.isin(floats, NINES)
+        others = floats[~is_nine & np.isfinite(floats)]
+        self.reading.largest[name] = max(self.reading.largest.get(name, 0.0),
+                                         float(others.max(initial=0)))
+        found = self.reading.nines.setdefault(name, {})
+        for mark in np.unique(floats[is_nine]):
+            at = int(np.flatnonzero(floats == mark)[0])
+            count, line = found.get(float(mark), (0, ""))
+            found[float(mark)] = (count + int((floats == mark).sum()), line or self.line(at))
 
     def refuse_vast(self, vast: np.ndarray, what: str) -> None:
         """Stops at the first number of a formula that is too great to be held."""
@@ -309,8 +375,15 @@ class Piece:
         at = int(np.flatnonzero(wrong)[0])
         text = self.table[column].iloc[at].strip()
         name = " ".join(self.source.names[column].split())
-        raise UserError(f"{self.line(at, column)}: the column {name} has "
-                        f"`{text[:SHOWN]}`{_hint(text, self.marks)}")
+        if plain_name(text) in map(plain_name, self.source.names):
+            why = (", a name of the header: a header that stands again, with columns in another "
+                   "order? Import its rows as a file of their own")
+        elif wrong.mean() > 0.5 and re.fullmatch(r"[^\d.,-]+-?\d[\d.,]*", text):
+            why = (f", and {int(wrong.sum()):,} rows so: a word before each number. Take it out of "
+                   "the export")
+        else:
+            why = _hint(text, self.marks)
+        raise UserError(f"{self.line(at, column)}: the column {name} has `{text[:SHOWN]}`{why}")
 
     def count_missing(self, column: int, missing: np.ndarray) -> None:
         """Counts the texts that stand for what is missing."""
@@ -343,6 +416,8 @@ class Piece:
             cells = self.marks.spelled(self.table[at])
             self.refuse(cells.wrong, at)
             self.refuse_percent(cells, key, at)
+            if key in ("grade", "density"):
+                self.note_nines(at, cells.floats)
             parts = cells.parts(places)
             missing = cells.missing | (parts < 0)
             self.count_missing(at, missing)
@@ -402,6 +477,7 @@ class Piece:
         is known."""
         if "tonnes" in self.columns.measures:
             tonnes, missing = self.measure("tonnes", self.reading.fine["tonnes"])
+            self.reading.keep(zero=~missing & (tonnes == 0))
             if "share" not in self.columns.measures:
                 self.reading.keep(tonnes=np.where(missing | (tonnes == 0), -1, tonnes))
                 return
@@ -409,7 +485,8 @@ class Piece:
             self.reading.keep(density=np.where(missing | (tonnes == 0), np.nan,
                                                tonnes / 10.0 ** self.reading.fine["tonnes"]))
         else:
-            self.reading.keep(density=self.densities())
+            found = self.densities()
+            self.reading.keep(density=np.where(found > 0, found, np.nan), zero=found == 0)
         for key in ("volume", "share", "ore_share", "waste_share", "waste_density"):
             if key in self.columns.measures:
                 self.reading.keep(**{key: self.in_pitc_units(key)})
@@ -437,7 +514,7 @@ class Piece:
 
     def densities(self) -> np.ndarray:
         """Tonnes a cubic metre, by the column and, where that is missing, by the table of rock
-        codes."""
+        codes; NaN where there is none."""
         values = np.full(len(self.table), np.nan)
         if "density" in self.columns.measures:
             values = self.in_pitc_units("density")
@@ -450,7 +527,7 @@ class Piece:
             self.reading.unknown_densities.update(
                 self.keys_of(self.columns.densities.columns)[unknown].value_counts().to_dict())
             values = np.where(lacking, numbers, values)
-        return np.where(values > 0, values, np.nan)
+        return values
 
     def keys_of(self, columns: Sequence[int]) -> pd.Series:
         """The texts of some columns, as one text each row."""
@@ -508,6 +585,9 @@ def _hint(text: str, marks: Marks) -> str:
     if text.startswith("#"):
         return (f", an error of a spreadsheet: mend it there, or give --missing '{text}' where it "
                 "stands for what is not known")
+    if re.fullmatch(r"[-+]?\d[\d.,]*\s*[^\W\d_][\w/³^]*", text):
+        return (": a unit in the cell. Take units out of the cells, and give theirs after the "
+                "column, as --density 'SG t/m3'")
     if re.match(r"(?i)(bench|level|rl|elevation|z)\b", text):
         return ", a heading between rows and no row: take such lines out"
     if text.startswith("<"):

@@ -5,7 +5,7 @@ import json
 import os
 import re
 from dataclasses import asdict, dataclass, field
-from typing import Optional
+from typing import Optional, Sequence
 
 import numpy as np
 import pandas as pd
@@ -14,6 +14,7 @@ from pit_tools import VERSION, outputs, progress
 from pit_tools.decimals import plain
 from pit_tools.errors import UserError
 from pit_tools.export_words import Words
+from pit_tools.formats import MOST_ROWS, MOST_ZONE
 from pit_tools.gridding import Axis, Frame
 from pit_tools.import_report import Report
 from pit_tools.plan_file import Grid, Slope, Zone, zone_record
@@ -23,12 +24,28 @@ from pit_tools.source import Source
 from pit_tools.zone_files import write_zone_file
 
 
+def cut_zones(rows: pd.DataFrame, zones: Sequence[str],
+              most: int = MOST_ROWS) -> tuple[pd.DataFrame, list[str]]:
+    """Rows with zones of at most so many of them, and the names of these: a greater zone becomes
+    several of one name, one behind the other. It raises UserError for more than a plan has."""
+    counts = np.bincount(rows["zone"], minlength=len(zones))
+    parts = np.maximum(1, -(-counts // most))
+    if parts.sum() > MOST_ZONE + 1:
+        raise UserError(f"{len(rows):,} rows in {len(zones):,} zones would be {parts.sum():,} "
+                        f"files of at most {most:,} rows, and a plan has {MOST_ZONE + 1} zones: "
+                        "regularise the model to greater blocks, or leave rows out by --where")
+    first = np.cumsum(parts) - parts
+    zone = first[rows["zone"]] + rows.groupby("zone").cumcount().to_numpy() // most
+    return rows.assign(zone=zone), [name for name, many in zip(zones, parts) for _ in range(many)]
+
+
 @dataclass
 class Imported:
     """An export as blocks of a grid.
 
     `rows` has a row for each block: ix, iy, iz, places of the grid from 0; tonnes in kilograms and
-    grade in millionths of g/t, int64; zone, a number of `zones`. Its order is that of the export.
+    grade in millionths of g/t, int64; zone, a number of `zones`, where one of more rows than a
+    zone file may have stands several times. Its order is that of the export.
     `places` has a row for each record of the export that was read, with its file, its record (the
     header being 0) and its ix, iy, iz, so that a pit finds the export's rows again. `grid` is in
     metres, or in feet where the lengths stay in feet. `benches` has the K of zones that are so many
@@ -75,10 +92,13 @@ class Imported:
                         for name in self.zones)]
 
     def file_names(self, base: str) -> list[str]:
-        """The path of each zone's file. It raises UserError where two zones would have one."""
+        """The path of each zone's file, with a number where a zone has several. It raises
+        UserError where two zones would have one."""
         names: dict[str, str] = {}
-        for zone in self.zones:
-            name = f"{base}-{re.sub('[^A-Za-z0-9_.-]', '_', zone)}.csv"
+        for at, zone in enumerate(self.zones):
+            number = f"-{self.zones[:at].count(zone) + 1}" if self.zones.count(zone) > 1 else ""
+            name = re.sub(r"[^\w.-]", "_", zone)
+            name = f"{base}-{name}{number}.csv"
             if name in names:
                 raise UserError(f"the zones `{names[name]}` and `{zone}` would have one file, "
                                 f"{name}: rename one by --zones")

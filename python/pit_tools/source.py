@@ -10,6 +10,7 @@ import gzip
 import io
 import lzma
 import os
+import re
 import stat
 import struct
 import zipfile
@@ -47,6 +48,9 @@ MOST_TIMES, LEAST_UNPACKED = 200, 1 << 24
 LOOKED_AT, SHOWN = 1000, 60
 
 csv.field_size_limit(MOST_LINE)
+
+# Four letters beyond ASCII in a row, as Cyrillic words have in its encodings of one byte.
+CYRILLIC = re.compile(rb"[\xc0-\xff]{4}")
 
 # Among how many lines the header is looked for.
 HEAD_LINES = 100
@@ -175,9 +179,11 @@ def encoding_of(path: str) -> tuple[str, str]:
         name, told = "utf-8-sig" if front.startswith(codecs.BOM_UTF8) else "utf-8", "UTF-8"
     try:
         judge_text(path, name, "strict" if name == "utf-8" else "replace")
-    except UnicodeDecodeError:
-        name, told = ("cp1252", "no UTF-8, and read as cp1252 (Western Windows); --encoding names "
-                                "another")
+    except UnicodeDecodeError as error:
+        # Of Cyrillic words cp1252 makes such as Âîñòîê.
+        like = (": its words look Cyrillic, so is it --encoding cp1251?"
+                if CYRILLIC.search(error.object) else "; --encoding names another")
+        name, told = "cp1252", f"no UTF-8, and read as cp1252 (Western Windows){like}"
         judge_text(path, name, "replace")
     return name, told
 
@@ -345,6 +351,8 @@ class Source:
         """What a line with too few cells may be, by its text."""
         with self.handle() as text:
             line = next(islice(text, number - self.above - 1, None), "").strip()
+        if line == "\x1a":
+            return "it is Ctrl-Z, the end mark of DOS, and no row: take it out"
         shown = f"`{line[:SHOWN]}{'..' if line[SHOWN:] else ''}`"
         words = line[:LOOKED_AT].translate(BLANKED).split()
         if self.separator == " " and any(word.count(".") > 1 for word in words):
@@ -354,7 +362,8 @@ class Source:
                    for one, other in zip(words, words[1:])):
             return (f"{shown} is a heading between rows, as of a bench, and no row: take such "
                     "lines out")
-        return f"{shown}: is the file cut short, or are these rows of another kind?"
+        return (f"{shown}: is the file cut short, or are these rows of another kind, as parcels of "
+                "blocks in a model of Whittle?")
 
     def place_of(self, record: int, column: Optional[int] = None) -> str:
         """Where a record, or a cell of it, stands, as `a.csv: line 12`."""
@@ -525,6 +534,7 @@ def text_of(path: str, resolve: Callable[[Sequence[str]], object], encoding: str
                           - 500 * (sum(map(is_number_like, row)) > len(row) / 2))
                 if shared > closest[0]:
                     closest = shared, f"{lacking} in line {line}, which has {_names_told(row)}"
+    judge_kind(path, head)
     judge_turns(path, head, separator)
     first = records_of(head, separator or closest_separator(head))[0][0]
     if len(first) > 3 and sum(map(is_number_like, first)) > len(first) / 2:
@@ -561,6 +571,18 @@ def closest_separator(head: str) -> str:
     lines = [line for line in head.splitlines() if line.strip()][:20]
     return max(SEPARATORS, key=lambda one: min(len(line.split() if one == " " else line.split(one))
                                                for line in lines) - (one == " "))
+
+
+def judge_kind(path: str, head: str) -> None:
+    """Stops at texts that are no tables: files of Micromine and Surpac in their own form."""
+    lines = [*head.splitlines()[:3], "", ""]
+    if re.match(r"\s*THIS\b.*|\s*\d+\s+VARIABLES\b", lines[0]) and re.search(
+            r"(?i)\bvariables\b", " ".join(lines)):
+        raise UserError(f"{path}: it is a file of Micromine in its own form (.DAT): export it as "
+                        "CSV")
+    if re.match(r"\s*0,\s*0\.0+,\s*0\.0+,\s*0\.0+,", lines[1]):
+        raise UserError(f"{path}: it is a string file of Surpac (.str), of lines and points and no "
+                        "blocks: export the block model's centroids as CSV")
 
 
 def judge_turns(path: str, head: str, separator: str) -> None:

@@ -5,6 +5,7 @@ the units of `pitc`.
 and is refused."""
 from __future__ import annotations
 
+import re
 from dataclasses import dataclass
 from decimal import Decimal
 from typing import TYPE_CHECKING, Optional, TypeVar
@@ -43,7 +44,7 @@ DENSITIES = {"t/m3": Decimal(1), "g/cm3": Decimal(1), "g/cc": Decimal(1), "kg/m3
 GRADES = {"g/t": Decimal(1), "gpt": Decimal(1), "ppm": Decimal(1), "g/tonne": Decimal(1),
           "ppb": Decimal("0.001"), "mg/t": Decimal("0.001"), "kg/t": Decimal(1000),
           "%": Decimal(10_000), "pct": Decimal(10_000), "oz/st": TROY_OUNCE / SHORT_TON,
-          "oz/tonne": TROY_OUNCE, "lb/st": POUND * 1000 / SHORT_TON}
+          "oz/tonne": TROY_OUNCE, "lb/tonne": POUND * 1000, "lb/st": POUND * 1000 / SHORT_TON}
 
 # Parts of a whole.
 SHARES = {"%": Decimal("0.01"), "pct": Decimal("0.01"), "share": Decimal(1)}
@@ -58,8 +59,8 @@ AMBIGUOUS = {
     "mt": "a tonne is `t`, a million of them 1000 `kt`",
     "ton": "a tonne is `t`, a short ton `st`, a long ton `lt`",
     "tons": "a tonne is `t`, a short ton `st`, a long ton `lt`",
-    "lb/t": "a pound a short ton is `lb/st`; a pound a tonne is 453.59237 g/t",
-    "lb/ton": "a pound a short ton is `lb/st`; a pound a tonne is 453.59237 g/t",
+    "lb/t": "a pound a short ton is `lb/st`, a pound a tonne `lb/tonne`",
+    "lb/ton": "a pound a short ton is `lb/st`, a pound a tonne `lb/tonne`",
 }
 
 TABLES = {"length": LENGTHS, "mass": MASSES, "volume": VOLUMES, "density": DENSITIES,
@@ -141,6 +142,58 @@ def is_money_a_tonne(name: str) -> bool:
     """Whether it is money a tonne, as `USD/t`: then a grade is a net smelter return."""
     money, _, mass = plain_name(name).partition("/")
     return money in MONEY and mass == "t"
+
+
+# Names of grades that are read in two ways, with the units that they may be.
+AMBIGUOUS_GRADES = {**dict.fromkeys(("oz/t", "opt", "ozt", "oz/ton"), ["oz/st", "oz/tonne"]),
+                    **dict.fromkeys(("lb/t", "lb/ton"), ["lb/st", "lb/tonne"])}
+
+# How units of grades are written at the end of a column's name.
+GRADE_ENDINGS = {"%": "%", "pct": "%", "perc": "%", "percent": "%", "pc": "%", "ppm": "ppm",
+                 "ppb": "ppb", "gpt": "g/t", "gt": "g/t", "kgt": "kg/t", "opt": "opt", "ozt": "ozt",
+                 "ozst": "oz/st"}
+
+# Endings that are parts of other words: they are units behind an element alone.
+AFTER_ELEMENTS = ("pc", "gt", "kgt", "opt", "ozt", "ozst")
+
+ELEMENT = ("ag|al|as|au|b|ba|bi|c|ca|cd|ce|co|cr|cs|cu|f|fe|ga|ge|hg|in|k|la|li|mg|mn|mo|na|nb|nd|"
+           "ni|p|pb|pd|pr|pt|rb|re|rh|s|sb|sc|se|si|sn|sr|ta|te|th|ti|tl|u|v|w|y|zn|zr|"
+           "[a-z]{1,2}2?o[2358]?|gold|silver|copper|zinc|lead|nickel|iron")
+
+# The unit of such a mass divided by tonnes.
+METALS_A_TONNE = {"oz": "oz/tonne", "lb": "lb/tonne", "kg": "kg/t"}
+
+# Masses of metal that a column of no grade has.
+METALS = {"oz": "oz", "ozs": "oz", "ounces": "oz", "lb": "lb", "lbs": "lb", "pounds": "lb",
+          "kg": "kg", "kgs": "kg"}
+
+
+def grade_unit_in(text: str) -> str:
+    """The unit of a grade that a header's cell names at its end, as `AU_PPB`, `Fe%`, `CUPC` or `Cu
+    (%)`, a key of GRADES or AMBIGUOUS_GRADES; else an empty text."""
+    unit = named_in(text, "grade")
+    if unit:
+        return unit
+    words = re.split(r"[\s_()\[\].-]+", text.strip().casefold().rstrip(")]"))
+    last = words[-1]
+    if len(words) > 1 and last in GRADE_ENDINGS:
+        return GRADE_ENDINGS[last]
+    for ending in sorted(GRADE_ENDINGS, key=len, reverse=True):
+        front = last[:-len(ending)]
+        if front and last.endswith(ending) and (ending not in AFTER_ELEMENTS
+                                                or re.fullmatch(ELEMENT, front)):
+            return GRADE_ENDINGS[ending]
+    return ""
+
+
+def metal_in(text: str) -> str:
+    """The mass of metal that a header's cell names, as `AU_OZ`, or an empty text."""
+    words = re.split(r"[\s_()\[\].-]+", text.strip().casefold().rstrip(")]"))
+    found = METALS.get(words[-1], "")
+    if len(words) > 1 and found:
+        return found
+    attached = re.fullmatch(rf"({ELEMENT})(ozs?|lbs?)", words[-1])
+    return METALS[attached[2]] if attached else ""
 
 
 def named_in(text: str, kind: str) -> Optional[str]:

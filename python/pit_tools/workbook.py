@@ -129,6 +129,25 @@ def _without_value(page: Any, path: str) -> Iterator[tuple[int, int]]:
                 node.clear()
 
 
+def hidden_rows(path: str, sheet: str) -> list[int]:
+    """The rows of a sheet that are hidden, as by a filter. It raises UserError for cells below the
+    first row that are merged over several rows: of these one alone has a value."""
+    import openpyxl
+
+    with _telling(f"{path}: the sheet `{sheet}`"), open(path, "rb") as file:
+        book = openpyxl.load_workbook(file, read_only=True)
+        part = book[sheet]._worksheet_path  # pylint: disable=protected-access
+        with zipfile.ZipFile(path) as archive:
+            text = archive.read(part.lstrip("/"))
+    for merged in re.findall(rb'<mergeCell ref="([A-Z]+\d+:[A-Z]+\d+)"', text):
+        first, last = (int(number) for number in re.findall(rb"\d+", merged))
+        if last > first > 1:
+            raise UserError(f"{path}: sheet `{sheet}`: cells {merged.decode()} are merged, and the "
+                            "first one alone has a value: unmerge them, and fill each row")
+    return [int(row) for tag in re.findall(rb"<row [^>]*>", text)
+            if re.search(rb'hidden="(1|true)"', tag) for row in re.findall(rb' r="(\d+)"', tag)]
+
+
 def _column_number(letters: str) -> int:
     from openpyxl.utils import column_index_from_string
 

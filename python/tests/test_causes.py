@@ -5,6 +5,7 @@ import io
 import json
 import os
 import random
+import re
 
 import openpyxl
 import pytest
@@ -178,7 +179,7 @@ def test_a_table_of_zones_may_be_cut_by_any_separator(here, capsys):
     for sign in ",;\t|":
         (here / "zones").write_text(f"ZONE{sign}zone\n\nwest{sign}left\n*{sign}'right'\n")
         assert main(["import", "export.csv", *WORDS, "--zones", "zones"]) == 0
-        assert "zone left " in capsys.readouterr().out
+        assert re.search("^left +[0-9]", capsys.readouterr().out, re.M)
 
 
 def test_a_text_of_another_encoding_than_is_named_is_not_read_with_holes(here, capsys):
@@ -186,7 +187,7 @@ def test_a_text_of_another_encoding_than_is_named_is_not_read_with_holes(here, c
     told = refused(["import", "latin.csv", *WORDS, "--encoding", "utf-8", "--zone", "ZONE"], capsys)
     assert "latin.csv: it is not written in utf-8: 'utf-8' codec can't decode byte 0xe9" in told
     assert main(["import", "latin.csv", *WORDS, "--encoding", "LATIN1", "--zone", "ZONE"]) == 0
-    assert "zone ouést" in capsys.readouterr().out
+    assert re.search("^ouést +[0-9]", capsys.readouterr().out, re.M)
 
 
 def test_an_encoding_goes_by_any_of_its_names(here, capsys, monkeypatch):

@@ -101,7 +101,9 @@ STOPS = [
     (lambda: mapped(3, lambda text: "0.0001"), {"merge": True},
      "no block has half a kilogram: is --tonnes the right column"),
     (lambda: mapped(0, lambda text: f"{int(text) * 4321}"), {"size": "10,10,10"},
-     "more than the 10,000 of pitc")]
+     "more than the 10,000 of pitc"),
+    (lambda: [rows()[0], ["m", "m", "m", "t", "oz/st", ""], *rows()[1:]], {},
+     "the column AU says `oz/st`, and is read as grams a tonne: give --grade 'AU oz/st'")]
 
 
 @pytest.mark.parametrize("lines, changed, told", STOPS, ids=[told for _, _, told in STOPS])
@@ -120,10 +122,6 @@ DOUBTS = [(lambda: mapped(3, lambda text: "2.7"), {}, "are they densities"),
           (lambda: with_cell(30, 3, "-99"), {}, "1 places between rows of a column have none"),
           (lambda: with_cell(30, 5, "West "), {}, "zones `west` and `West` differ by case"),
           (lambda: with_cell(30, 3, "99900"), {}, "1 blocks weigh more than 10 t a cubic metre"),
-          (lambda: [["X", "Y", "Z", "T", "AU PPB", "ZONE"], *rows()[1:]], {"grade": "AU PPB"},
-           "the column AU PPB says `ppb`, and is read as grams a tonne"),
-          (lambda: [rows()[0], ["m", "m", "m", "t", "oz/st", ""], *rows()[1:]], {},
-           "the column AU says `oz/st`"),
           (lambda: [line if line[5] != "east" or line[4] == "-99" else [*line[:4], "4000", "east"]
                     for line in rows()], {}, "in another unit"),
           (lambda: [line if line[3] != "-99" else [*line[:3], "2700", "0", line[5]]

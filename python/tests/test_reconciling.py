@@ -109,7 +109,7 @@ WRONG = [
      "24 rows of west are left out, since they have no tonnes"),
     ("rows of a filter", None, {"where": ["X > 10"]}, "40 rows are left out by --where"),
     ("a missing second metal", lambda row: [*row[:5], -99 if row[0] < 20 else 0.0, row[6]],
-     {"grade": "(AU*58+CU*82)/58"}, "a second metal: CU is missing in 24 rows"),
+     {"grade": "AU*(58+CU*82)/58"}, "a second metal: CU is missing in 24 rows"),
     ("a zone that is lost", lambda row: [*row[:3], -99 if row[6] == "east" else row[3], *row[4:]], {},
      "east has tonnes of 100,000 t, and the model 0, -100.00 %: 40 rows of east are left out"),
 ]

@@ -14,7 +14,7 @@ Columns are named as in the header, in any case, or are formulas with + - * / **
 min, max, where(CONDITION, THIS, THAT), also written if(..), and missing(COLUMN); a unit may stand
 behind: --grade 'AU oz/st', --tonnes 'TONS st', --z=-DEPTH. A condition sees numbers as they stand,
 -99 too; texts are compared without case and blanks, and 10.0 is 10. What a missing cell is
-multiplied with is missing; a term of the outermost sum adds nothing. A cell without a formula goes
+multiplied with is missing; a term of the outermost sum adds nothing, and is counted. A cell without a formula goes
 through digit for digit, and is rounded as a decimal; a formula is computed in double precision.
 
 Separators, the header, rows of units, the encoding, decimal and thousands marks, workbooks, GSLIB
@@ -22,7 +22,7 @@ and packed files are found. Rows without tonnes are air and left out; tonnes wit
 waste. Negative tonnes, densities and grades, as -99, are missing."""
 
 UNITS = """units: m ft; t kt kg st lt lb; m3 ft3 yd3; t/m3 kg/m3 lb/ft3 ft3/st; g/t ppm ppb % kg/t
-oz/st oz/tonne lb/st; USD/t of a grade is a net smelter return"""
+oz/st oz/tonne lb/st lb/tonne; USD/t of a grade is a net smelter return"""
 
 WRITES = "zone files and BASE.json"
 
@@ -124,9 +124,9 @@ def _add_contents(parser: argparse.ArgumentParser) -> None:
                       help="keep rows without tonnes that lie below rock, with 0 tonnes")
     beside = parser.add_argument_group("what it is compared with")
     beside.add_argument("--reconcile", action="append", default=[], metavar="REPORT",
-                        help="the package's resource report, as CSV: columns zone, cut-off, tonnes, "
-                        "grade, metal, volume, blocks and extents (xmin, xmax, ..); may be given "
-                        "again")
+                        help="the package's resource report, as CSV: columns zone, cut-off, "
+                        "tonnes, grade, metal, volume, blocks and extents (xmin, xmax, ..); may be "
+                        "given again")
     beside.add_argument("--expect", action="append", default=[], metavar="WORDS",
                         help="or in words, of a zone or the total: 'west: 1.975 Mt at 0.226 g/t, "
                         "14.35 koz above 0.1 g/t'; may be given again")
