@@ -6,7 +6,7 @@ use Rattle.devices.specs.declared.feeds.slurp.TheConstants.{GREATEST_LIMIT}
 use Rattle.devices.specs.feeds.ReadWhole.{FailsAsFed}
 use Rattle.text_lines.specs.declared.text_fault.TextFault.{TextFault}
 use Rattle.text_lines.specs.declared.text_fault.TextFile.{TextFile}
-use Rattle.check_command.specs.Checked.{AreReadBefore, FailsIn, IsCheckStatus, IsFoundIn, IsMissing, path_of}
+use Rattle.check_command.specs.Checked.{AreReadBefore, FailsIn, IsCheckStatus, IsFoundIn, IsMissing, IsNotAsked, path_of}
 use Rattle.check_command.specs.inner.CheckSteps.{CountsAll, CountsFile}
 use Rattle.check_command.specs.inner.CountSteps.{counted_on, no_counts}
 use Rattle.check_command.proofs.CountedAll.{counted_all}
@@ -82,7 +82,7 @@ module _ (base : List ℕ) {F T : Type 0} (left : F → Option (List ℕ)) (give
       → new ≡ old ++ Opened asked told ∷ [] → (opened : T) × (path opened ≡ asked) → given_old ≡ 0 → failures_old ≡ 0
       → left feed ≡ left_after (given feed - given_old) told
       → FailsAsFed told GREATEST_LIMIT given_old (given feed) failures_old (failures feed) fault → why ≡ unread (source.Text file) fault
-      → FailsIn base left given failures path file old new why ⊎ (why ≡ Run OutOfMemory)
+      → FailsIn base left given failures path file old new why ⊎ IsNotAsked old new why
   unread_file file asked told old new feed given_old failures_old fault why at opened there none works stands fails e =
       let all : given feed - given_old ≡ given feed = omega (arith, none) in inl (
         told,
@@ -103,16 +103,17 @@ module _ (base : List ℕ) {F T : Type 0} (left : F → Option (List ℕ)) (give
   module _ (old new : List Opening) where
     -- a fault of one file behind those that were read is one of all files
     pub found_in_file : (file : TextFile) (mid : List Opening) (why : Refused) → AreReadBefore base left given failures path file old mid
-        → FailsIn base left given failures path file mid new why ⊎ (why ≡ Run OutOfMemory) → IsFoundIn base left given failures path old new why
+        → FailsIn base left given failures path file mid new why ⊎ IsNotAsked mid new why → IsFoundIn base left given failures path old new why
     found_in_file file mid why read (inl h) = inl (file, record { mid = mid; before = read; fails = inl h })
-    found_in_file file mid why read (inr h) = inr (inr h)
+    found_in_file file mid why read (inr h) =
+        inr (inr (h.0, inl (file, subst (λ n. AreReadBefore base left given failures path file old n) (sym h.1) read)))
 
     pub found_or_gone : (file : TextFile) (mid : List Opening) (why : Refused) → AreReadBefore base left given failures path file old mid
-        → FailsIn base left given failures path file mid new why ⊎ (IsMissing base file mid new why ⊎ (why ≡ Run OutOfMemory))
+        → FailsIn base left given failures path file mid new why ⊎ (IsMissing base file mid new why ⊎ IsNotAsked mid new why)
         → IsFoundIn base left given failures path old new why
     found_or_gone file mid why read (inl h) = inl (file, record { mid = mid; before = read; fails = inl h })
     found_or_gone file mid why read (inr (inl h)) = inl (file, record { mid = mid; before = read; fails = inr h })
-    found_or_gone file mid why read (inr (inr h)) = inr (inr h)
+    found_or_gone file mid why read (inr (inr h)) = found_in_file file mid why read (inr h)
 
     -- what a refusal of a check ends with
     unread_listed : (file : TextFile) (fault : SlurpFault) → IsCheckStatus (status_of (unread (source.Text file) fault))
@@ -128,7 +129,7 @@ module _ (base : List ℕ) {F T : Type 0} (left : F → Option (List ℕ)) (give
     listed : (why : Refused) → IsFoundIn base left given failures path old new why → IsCheckStatus (status_of why)
     listed why (inl h) = fails_listed h.0 h.1.mid why h.1.fails
     listed why (inr (inl h)) = subst (λ w. IsCheckStatus (status_of w)) (sym h.1) (inr (inl refl))
-    listed why (inr (inr h)) = subst (λ w. IsCheckStatus (status_of w)) (sym h) (inr (inr (inr refl)))
+    listed why (inr (inr h)) = subst (λ w. IsCheckStatus (status_of w)) (sym h.0) (inr (inr (inr refl)))
 
     -- a check ends with the status of its refusal
     pub status_listed : (why : Refused) (err_old err_new : List ℕ) (status : ℕ) → IsFoundIn base left given failures path old new why
@@ -151,7 +152,7 @@ module _ (base : List ℕ) {F T : Type 0} (left : F → Option (List ℕ)) (give
     memory : (why : Refused) → IsFoundIn base left given failures path old new why → status_of why ≡ 4 → why ≡ Run OutOfMemory
     memory why (inl h) four = fails_memory h.0 h.1.mid why h.1.fails four
     memory why (inr (inl h)) four = let one : 1 ≡ 4 = ap status_of (sym h.1) ∙ four in absurd (omega (arith, one))
-    memory why (inr (inr h)) four = h
+    memory why (inr (inr h)) four = h.0
 
     -- where that is refused memory, no line stands
     pub no_memory : (why : Refused) (err_old err_new : List ℕ) (status : ℕ) → IsFoundIn base left given failures path old new why

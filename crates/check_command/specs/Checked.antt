@@ -21,6 +21,10 @@ use Rattle.command_io.specs.declared.refused.source.Source.TheVariants as source
 abbrev pub path_of : List ℕ → TextFile → List ℕ
 path_of base file = path_to base (file_ending file)
 
+-- memory was refused, and nothing was opened
+abbrev pub IsNotAsked : (old new : List Opening) → Refused → Type 0
+IsNotAsked old new refused = (refused ≡ Run OutOfMemory) × (new ≡ old)
+
 module _ (base : List ℕ) where
   -- the file could not be opened, which is no fault of a `cpit`
   abbrev pub IsMissing : TextFile → (old new : List Opening) → Refused → Type 0
@@ -93,13 +97,17 @@ module _ (base : List ℕ) where
       pub before : AreReadBefore file old mid
       pub fails : FailsIn file mid new refused ⊎ IsMissing file mid new refused
 
+    -- memory was refused where the files before this one were read, or all of them were, and no other was opened
+    abbrev pub IsStopped : (old new : List Opening) → Type 0
+    IsStopped old new = ((file : TextFile) × AreReadBefore file old new) ⊎ ((texts : Texts) × AreTexts texts old new)
+
     -- why the files are not counted: a file is not read, whatever stands in those before it; or all are read, and this is the first faulty
-    -- line of the texts; or memory was refused
+    -- line of the texts; or memory was refused, behind files that were read
     abbrev pub IsFoundIn : (old new : List Opening) → Refused → Type 0
     IsFoundIn old new refused =
         ((file : TextFile) × IsUnreadAt file old new refused)
         ⊎ (((fault : TextFault) × (refused ≡ refusal.Text fault) × ((texts : Texts) × AreTexts texts old new × (counted texts ≡ Err fault)))
-        ⊎ (refused ≡ Run OutOfMemory))
+        ⊎ ((refused ≡ Run OutOfMemory) × IsStopped old new))
 
     -- the files were opened one after the other, no other, and the line of the counts of their texts was appended
     abbrev pub TellsFiles : (old new : List Opening) → (out_old out_new : List ℕ) → Type 0

@@ -1,7 +1,7 @@
 //! The check of the files of an instance.
 
 ghost use Rattle.std.specs.Prelude.{◌≡◌, ◌≢◌, ◌≤◌, ◌⊎◌, IfErr, IfOk, IfSome, OnErr, OnOk};
-ghost use Rattle.check_command.specs.Checked.{FailsIn, IsCheckStatus, IsFoundIn, IsFoundInOpenedFiles, IsMissing, TellsFiles, TellsOpenedFiles};
+ghost use Rattle.check_command.specs.Checked.{FailsIn, IsCheckStatus, IsFoundIn, IsFoundInOpenedFiles, IsMissing, IsNotAsked, TellsFiles, TellsOpenedFiles};
 ghost use Rattle.check_command.specs.inner.CheckSteps.{CountsAll, CountsFile, CountsIfThere};
 ghost use Rattle.refusals.specs.declared.refusal.Refusal.TheVariants.{OutOfMemory};
 ghost use Rattle.plan_parts.specs.declared.ranges.TheConstants.{MAX_BLOCKS};
@@ -129,7 +129,7 @@ fn count_file<O: Opener>(
     ensures fault { IfErr result (λ refused. FailsIn base.now O.Opened.left O.Opened.given O.Opened.failures
         O.File.path file (O.opened files.old) (O.opened files.new) refused
         ⊎ (IsMissing base.now file (O.opened files.old) (O.opened files.new) refused
-        ⊎ (refused ≡ Run OutOfMemory))) }
+        ⊎ IsNotAsked (O.opened files.old) (O.opened files.new) refused)) }
 {
     match count_if_there(alloc, base, file, files, so_far)? {
         Some(answer) => Ok(answer),
@@ -153,7 +153,8 @@ fn count_if_there<O: Opener>(
     ensures few { IfOk result (λ found. IfSome found (λ answer. IfOk answer
         (λ counts. counts.blocks ≤ MAX_BLOCKS))) }
     ensures fault { IfErr result (λ refused. FailsIn base.now O.Opened.left O.Opened.given O.Opened.failures
-        O.File.path file (O.opened files.old) (O.opened files.new) refused ⊎ (refused ≡ Run OutOfMemory)) }
+        O.File.path file (O.opened files.old) (O.opened files.new) refused
+        ⊎ IsNotAsked (O.opened files.old) (O.opened files.new) refused) }
 {
     let path = format!(in alloc; "{base}.{file}")?;
     match files.open(path.as_str()) {
