@@ -59,10 +59,6 @@ def causes(values: Sequence[np.ndarray], with_cells: Callable[[int], str]) -> It
         yield (f"{AXES[axis]} is {shortest(int(values[axis][at]), 3)} in {with_cells(at)}: a mark "
                "of what is missing? Leave such rows out by --where")
         return
-    dip = dip_of(values)
-    if dip is not None:
-        yield dip_told(dip)
-        return
     levels = len(np.unique(values[2]))
     if levels > 0.2 * len(values[2]) and levels > 100:
         yield (f"z has {levels:,} values in {len(values[2]):,} rows, as {with_cells(0)}: are these "

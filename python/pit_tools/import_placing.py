@@ -189,7 +189,8 @@ class Placing:
         sums = np.bincount(codes, np.where(again, 0, np.nan_to_num(sized)))
         whole = (axes[0].step * axes[1].step * axes[2]
                  .step / 1e9 * self.factors[0] * self.factors[1] * self.factors[2])
-        over = np.flatnonzero(sums > 1.02 * whole)
+        # Points that fill blocks are not exactly as many in each level block.
+        over = np.flatnonzero(sums > (1.1 if self.words.rotation else 1.02) * whole)
         if len(over):
             within = np.flatnonzero((codes == over[0]) & ~again)
             raise UserError(f"the sub-blocks of {len(over):,} parents have more than their volume, "
@@ -270,15 +271,16 @@ class Placing:
 
     def cause(self, values: Sequence[np.ndarray]) -> str:
         """What may be behind coordinates that lie on no grid."""
+        dip = dip_of(self.of_one_size(values))
+        if dip is not None:
+            return f". {dip_told(dip)}"
         why = self.turn_hint(values) or self.feet_hint(values)
         if why:
             return why
         if self.sizes is not None:
-            dip = dip_of(self.of_one_size(values))
-            return (f". {dip_told(dip)}" if dip is not None else
-                    f". {self.sizes.names} has sizes along x of {sizes_told(self.sizes.along[0])}: "
-                    "--parents X,Y,Z, with the size that blocks are to have, sums up smaller ones "
-                    "and cuts greater ones")
+            return (f". {self.sizes.names} has sizes along x of "
+                    f"{sizes_told(self.sizes.along[0])}: --parents X,Y,Z, with the size that "
+                    "blocks are to have, sums up smaller ones and cuts greater ones")
         return "" if self.words.size else "".join(f". {cause}"
                                                   for cause in causes(values, self.with_cells))
 
