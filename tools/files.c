@@ -2,7 +2,8 @@
  * files of a folder, or raises a signal before it, for tools/refused-files.
  *
  * `refuse_at` says which call, which signal (0 for a refusal), the folder, and a descriptor on which
- * the name of that call is told. Standard output is one of the files. */
+ * the name of that call is told. Standard output is one of the files. `refuse_more` says whether all
+ * calls behind the Nth are refused too, and whether the folder's file system has no hard links. */
 #define _GNU_SOURCE
 #include <dlfcn.h>
 #include <errno.h>
@@ -13,7 +14,7 @@
 #include <unistd.h>
 
 static long calls, nth;
-static int number, told = -1;
+static int number, told = -1, all_behind, no_links;
 static char below[4096];
 static char ours[4096];
 
@@ -24,6 +25,11 @@ void refuse_at(long n, int signal, const char *folder, int descriptor) {
     told = descriptor;
     strncpy(below, folder, sizeof below - 1);
     ours[1] = 1;
+}
+
+void refuse_more(int behind, int links) {
+    all_behind = behind;
+    no_links = links;
 }
 
 /* How many calls were counted since. */
@@ -40,8 +46,8 @@ static ssize_t plainly(int fd, const char *text) {
 
 /* Whether this call is refused; `code` is what the system answers then. */
 static int refused(const char *what, int code) {
-    if (!nth || ++calls != nth) return 0;
-    plainly(told, what);
+    if (!nth || ++calls < nth || (calls > nth && !all_behind)) return 0;
+    if (calls == nth) plainly(told, what);
     if (number) {
         kill(getpid(), number);
         return 0;
@@ -100,6 +106,10 @@ int rename(const char *from, const char *to) {
 }
 int link(const char *from, const char *to) {
     NEXT(link);
+    if (nth && is_ours(to) && no_links) {
+        errno = EPERM;
+        return -1;
+    }
     return nth && is_ours(to) && refused("link", EIO) ? -1 : next(from, to);
 }
 int fchmod(int fd, mode_t mode) {

@@ -645,7 +645,8 @@ def together(reading: Iterable[str] = (), record: str = "",
 @contextmanager
 def _recorded(group: _Group, record: str, others: Optional[Iterable[str]]) -> Iterator[None]:
     """Has files be of a record, of a command alone: a program in Python has none."""
-    before, path = group.record, os.path.realpath(record + records.ENDING)
+    above, name = os.path.split(record + records.ENDING)
+    before, path = group.record, os.path.join(os.path.realpath(above), name)
     if record and before in ("", path) and _Command.now is not None:
         group.record = path
         if others is not None:
@@ -749,7 +750,7 @@ def opened_or_printed(place: Optional[str], kind: str, encoding: str,
 
 def record_of(base: str, paths: Iterable[str]) -> None:
     """Writes the record of files that another program wrote for the command that runs."""
-    path, command = os.path.realpath(base + records.ENDING), _Command.now
+    path, command = os.path.abspath(base + records.ENDING), _Command.now
     assert command is not None
     with looking():
         files = tuple(File.of(one, os.path.dirname(path)) for one in paths)
