@@ -6,11 +6,13 @@ import difflib
 import errno
 import importlib
 import io
+import logging
 import os
 import re
 import sys
 import traceback
-from typing import Any, Optional, Sequence
+from contextlib import contextmanager
+from typing import Any, Iterator, Optional, Sequence
 
 from pit_tools import VERSION, outputs
 from pit_tools.errors import UserError
@@ -254,9 +256,15 @@ def main(words: Optional[Sequence[str]] = None) -> int:
     try:
         _ready_streams()
         _judge_words(words)
-        status = run([word for word in words if word != DEBUG] if words[:1] != ["python"]
-                     else words)
+        with _collected() as warned:
+            status = run([word for word in words if word != DEBUG] if words[:1] != ["python"]
+                         else words)
         _flush()
+        if warned:
+            told = warned if DEBUG in words else [f"{warned[0]} ({len(warned)} in all: --debug "
+                                                  "prints each)"]
+            print(*(f"{name}: a package of Python warns: {one}" for one in told), sep="\n",
+                  file=sys.stderr)
         return status
     except SystemExit as ended:
         status = ended.code if isinstance(ended.code, int) else int(ended.code is not None)
@@ -271,6 +279,28 @@ def main(words: Optional[Sequence[str]] = None) -> int:
         print(f"{name}: {_told(error)}", file=sys.stderr)
         status = 3 if _is_own(error) else 2
     return _with_nothing_left_to_print(status)
+
+
+@contextmanager
+def _collected() -> Iterator[list[str]]:
+    """Collects, in a line each, what packages warn of and log, which would stand before the one
+    line that says what is wrong."""
+    warned: list[str] = []
+
+    class Collecting(logging.Handler):
+        """Keeps what is logged."""
+
+        def emit(self, record: logging.LogRecord) -> None:
+            warned.append(" ".join(record.getMessage().split()))
+
+    collecting = Collecting(logging.WARNING)
+    logging.getLogger().addHandler(collecting)
+    logging.captureWarnings(True)
+    try:
+        yield warned
+    finally:
+        logging.captureWarnings(False)
+        logging.getLogger().removeHandler(collecting)
 
 
 def _with_nothing_left_to_print(status: int) -> int:

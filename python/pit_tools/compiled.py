@@ -9,11 +9,9 @@ the program is compiled for this run alone.
 from __future__ import annotations
 
 import ctypes
-import grp
 import hashlib
 import os
 import platform
-import pwd
 import shutil
 import stat
 import subprocess
@@ -24,6 +22,7 @@ from typing import Optional
 
 from pit_tools import interrupts, outputs
 from pit_tools.errors import UserError
+from pit_tools.owners import is_own, nobody_moves
 
 SOURCE = os.path.join(os.path.dirname(__file__), "closure.cpp")
 
@@ -41,40 +40,6 @@ def compiler() -> Optional[str]:
     return next((found for name in names if name and (found := shutil.which(name))), None)
 
 
-def is_own(path: str, kind: int) -> bool:
-    """Whether a path is a folder or a file of this user, no link, which nobody else may write."""
-    try:
-        status = os.lstat(path)
-    except OSError:
-        return False
-    return (stat.S_IFMT(status.st_mode) == kind and status.st_uid == os.geteuid()
-            and not status.st_mode & 0o022)
-
-
-def _lets_others(status: os.stat_result) -> bool:
-    """Whether others than its owner may write in a folder: all, or a group that is not the user's
-    own, which has the user's name."""
-    if status.st_mode & 0o002:
-        return True
-    try:
-        is_own_group = grp.getgrgid(status.st_gid).gr_name == pwd.getpwuid(os.geteuid()).pw_name
-    except KeyError:
-        is_own_group = False
-    return bool(status.st_mode & 0o020) and not is_own_group
-
-
-def _nobody_moves(folder: str) -> bool:
-    """Whether no folder above lets others put another one in the place of this one."""
-    while True:
-        status = os.stat(folder)
-        if status.st_uid not in (0, os.geteuid()) or (_lets_others(status)
-                                                      and not status.st_mode & stat.S_ISVTX):
-            return False
-        if folder == os.path.dirname(folder):
-            return True
-        folder = os.path.dirname(folder)
-
-
 def cache() -> Optional[str]:
     """The folder where the program is kept, made where it is not there; None where there is
     none."""
@@ -90,7 +55,7 @@ def cache() -> Optional[str]:
         folder = os.path.join(home, "pit-tools")
         if not os.path.lexists(folder):
             os.mkdir(folder, 0o700)
-        is_safe = is_own(folder, stat.S_IFDIR) and _nobody_moves(home)
+        is_safe = is_own(folder, stat.S_IFDIR) and nobody_moves(home)
         return folder if is_safe and os.access(folder, os.W_OK) else None
     except OSError:
         return None

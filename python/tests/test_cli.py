@@ -176,3 +176,45 @@ def test_a_mistyped_command_is_told_the_nearest_one(capsys, words, told):
     assert main(words) == 2
     assert capsys.readouterr().err == (f"pit-tools: no command `{words[-1]}`{told}`pit-tools "
                                        "--help` lists all\n")
+
+
+@pytest.mark.parametrize("status, words", [(0, []), (2, []), (0, ["--debug"]), (2, ["--debug"])])
+def test_what_packages_warn_of_is_told_once_and_never_before_an_error(monkeypatch, capfd, status,
+                                                                      words):
+    def run(_):
+        import logging
+        import warnings
+
+        for number in range(3):
+            warnings.warn(f"{words} overflow {number}\nencountered {status}", RuntimeWarning)
+        logging.getLogger("matplotlib.font_manager").warning("findfont: %s", "none")
+        if status:
+            raise cli.UserError("no depth")
+        return 0
+
+    monkeypatch.setattr("pit_tools.commands.bounds.run", run)
+    assert main(["bounds", "mine", *words]) == status
+    told = capfd.readouterr().err
+    assert told.count("a package of Python warns") == (0 if status else 4 if words else 1)
+    assert "no depth" in told if status else "overflow 0 encountered" in told
+    assert words or told.count("\n") == 1 and ("(4 in all" in told) == (status == 0)
+
+
+@pytest.mark.skipif(os.geteuid() != 0, reason="only root can make files of another user")
+@pytest.mark.parametrize("owner, mode, is_run", [
+    (0, 0o755, True), (65534, 0o755, False), (0, 0o777, False), (0, 0o775, True)])
+@pytest.mark.parametrize("of_file", [False, True])
+def test_the_launcher_runs_no_code_of_another_owner(tmp_path, owner, mode, is_run, of_file):
+    """The folder above is the test's own; a `.pth` in it, or the folder of users' packages in HOME,
+    is another's, or others may write there."""
+    env = {**os.environ, "HOME": str(tmp_path), "PATH": "/usr/bin:/bin"}
+    where = subprocess.run(["/usr/bin/python3", "-c", "import site; print(site.getusersitepackages())"],
+                           env=env, text=True, capture_output=True).stdout.strip()
+    os.makedirs(where)
+    path = os.path.join(where, "a.pth")
+    with open(path, "w") as file:
+        file.write(f"import os; open({str(tmp_path / 'ran')!r}, 'w').close()\n")
+    os.chown(path if of_file else where, owner, 0)
+    os.chmod(path if of_file else where, mode)
+    assert ran("--version", env=env).returncode == 0
+    assert (tmp_path / "ran").exists() == is_run
