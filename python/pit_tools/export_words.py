@@ -172,14 +172,13 @@ class Words:
 
     def _judge_feet(self) -> None:
         """Refuses densities and volumes in cubic feet beside lengths whose unit is not given."""
-        lengths = self.x.split() or ["X"]
-        if self.in_feet or self.volume or lengths[-1] in LENGTHS:
+        if not self.x or self.in_feet or self.volume or self.x.split()[-1] in LENGTHS:
             return
         unit = (self.density.split() or [""])[-1]
         if "/" in unit and ("ft3" in unit or "yd3" in unit):
             raise UserError(f"--density is in {unit}, and the lengths have no unit: give "
-                            f"--x '{self.x or 'X'} ft' and the like, or --in-feet where all "
-                            f"lengths are in feet; '{self.x or 'X'} m' where they are metres")
+                            f"--x '{self.x} ft' and the like, or --in-feet where all lengths are "
+                            f"in feet; '{self.x} m' where they are metres")
 
     def _judge_signs(self) -> None:
         """The same of the signs by which an export is written."""

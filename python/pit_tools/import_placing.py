@@ -32,9 +32,9 @@ from pit_tools.source import Source
 from pit_tools.units import Measures, grade_unit_of
 from pit_tools.walls import MOST_BENCHES
 
-# Where northings and eastings of UTM are, on land: farther from the equator than 1,000 km, and in a
-# zone. Coordinates in metres of no other grid in wide use have their first number in the former and
-# their second in the latter.
+# Where northings and eastings of UTM are: farther from the equator than 1,000 km, and in a zone.
+# Some grids of a country have eastings in the former and northings in the latter, so this is told
+# and stops nothing.
 NORTHINGS, EASTINGS = (1e6, 1e7), (1e5, 9e5)
 
 # The most that pitc takes: kilograms a block, millionths of g/t, zones, the greatest index.

@@ -14,8 +14,9 @@ Columns are named as in the header, in any case, or are formulas with + - * / **
 min, max, where(CONDITION, THIS, THAT), also written if(..), and missing(COLUMN); a unit may stand
 behind: --grade 'AU oz/st', --tonnes 'TONS st', --z=-DEPTH. A condition sees numbers as they stand,
 -99 too; texts are compared without case and blanks, and 10.0 is 10. What a missing cell is
-multiplied with is missing; a term of the outermost sum adds nothing, and is counted. A cell without a formula goes
-through digit for digit, and is rounded as a decimal; a formula is computed in double precision.
+multiplied with is missing; a missing term of the outermost sum adds nothing, and is counted. A cell
+without a formula goes through digit for digit, and is rounded as a decimal; a formula is computed
+in double precision.
 
 Separators, the header, rows of units, the encoding, decimal and thousands marks, workbooks, GSLIB
 and packed files are found. Rows without tonnes are air and left out; tonnes without a grade are
