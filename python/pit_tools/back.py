@@ -14,11 +14,13 @@ import numpy as np
 import pandas as pd
 
 from pit_tools import outputs, progress
+from pit_tools.decimals import floats_of
 from pit_tools.errors import UserError
 from pit_tools.gridding import Frame
 from pit_tools.imported_blocks import Imported
 from pit_tools.instance import Blocks
 from pit_tools.plan_file import Plan
+from pit_tools.schedules import table_of
 from pit_tools.spelling import lines_of
 
 #: The columns behind the block, by how many fields lines have.
@@ -60,17 +62,13 @@ def read_mined(path: str, plan: Plan, blocks: int) -> Mined:
 
     Raises UserError where lines have not as many fields, or one is no block, period or destination.
     """
-    outputs.reads(path)
-    with open(path, encoding="utf-8", errors="replace") as file:
-        lines = pd.Series(file.read().splitlines(), dtype=str)
-    lines = lines[lines.str.strip() != ""]
-    if lines.empty:
+    table = table_of(path, len(FIELDS) + 1)
+    if table.empty:
         return Mined(np.empty(0, dtype=np.int64))
-    table = lines.str.split(expand=True)
     if table.shape[1] == len(FIELDS) + 1:
         table = table.fillna({len(FIELDS): "1"})
     lacking = table.isna().any(axis=1)
-    numbers = table.apply(pd.to_numeric, errors="coerce")
+    numbers = table.apply(lambda column: pd.Series(floats_of(column), column.index))
     ends = [blocks, plan.periods, len(plan.destinations)]
     bad = lacking | numbers.isna().any(axis=1) | (table.shape[1] > 4)
     for column, end in zip(numbers.columns, ends):
@@ -79,8 +77,9 @@ def read_mined(path: str, plan: Plan, blocks: int) -> Mined:
         bad |= ~(numbers[column].abs() <= MOST_SHARE)
     if bad.any():
         at = int(np.flatnonzero(bad)[0])
-        raise UserError(f"{path}: line {table.index[at] + 1}: no line of a pit or a schedule of "
-                        f"these blocks: `{lines.iloc[at].strip()}`")
+        shown = " ".join(table.iloc[at].dropna())
+        raise UserError(f"{path}: line {table.index[at]}: no line of a pit or a schedule of these "
+                        f"blocks: `{shown[:60]}`")
     columns = [numbers[at].to_numpy(np.int64 if at < 3 else float) for at in numbers.columns]
     return Mined(*columns)
 

@@ -14,7 +14,7 @@ from typing import Iterable, Optional, Sequence
 import numpy as np
 import pandas as pd
 
-from pit_tools.decimals import LONGEST, MOST_EXACT, is_decimal, is_held, parts_of
+from pit_tools.decimals import LONGEST, MOST_EXACT, floats_of, is_decimal, is_held, parts_of
 from pit_tools.decimals import plain as plain_decimal
 from pit_tools.errors import UserError
 
@@ -27,8 +27,6 @@ MISSING = ("", "na", "n/a", "nan", "null", "nil", "none", "-", "--", "---", "*",
 BLANKS = " \u00a0\u2007\u2009\u202f"
 APOSTROPHES = "'’"
 
-# An exponent that is too long for the fast reader, which takes it for another one.
-LONG_EXPONENT = re.compile(r"[eE][-+]?\d{4}")
 
 
 @dataclass
@@ -81,10 +79,8 @@ class Marks:
             # A point is none of these numbers' marks, or stands between thousands.
             texts = cells.str.replace(",", ".",
                                       regex=False).where(~cells.str.contains(".", regex=False), "")
-        floats = pd.to_numeric(texts, errors="coerce").to_numpy(float).copy()
+        floats = floats_of(texts)
         odd = ~np.isfinite(floats) | (floats == 0) | (np.abs(floats) >= MOST_EXACT)
-        if LONG_EXPONENT.search("\n".join(texts)):
-            odd |= texts.str.contains(LONG_EXPONENT).to_numpy()
         missing, wrong, percent = np.zeros(count,
                                            bool), np.zeros(count, bool), np.zeros(count, bool)
         if odd.any():
@@ -92,7 +88,7 @@ class Marks:
             percent[odd] = found.str.rstrip().str.endswith("%").to_numpy()
             found = found.map({text: self.plain(text, as_percent) for text in found.unique()})
             missing[odd], wrong[odd] = (found == "").to_numpy(), found.isna().to_numpy()
-            floats[odd] = pd.to_numeric(found, errors="coerce").to_numpy(float)
+            floats[odd] = floats_of(found)
             texts = texts.copy()
             texts[odd] = found
         if self.missing_numbers:

@@ -29,6 +29,9 @@ LONGEST = 400
 # time.
 PLAIN = re.compile(r"[-+]?(\d+(\.\d*)?|\.\d+)([eE][-+]?\d+)?", re.ASCII)
 
+# An exponent that is too long for the fast reader.
+LONG_EXPONENT = re.compile(r"[eE][-+]?\d{4}")
+
 # The integers up to which each one is a double, and the digits that a double always holds.
 MOST_EXACT, DIGITS = 2.0 ** 53, 15
 
@@ -71,6 +74,15 @@ def rounded(text: Union[str, Decimal, int], places: int) -> int:
         raise ValueError(f"`{text}` is no number") from None
 
 
+def floats_of(texts: pd.Series) -> np.ndarray:
+    """The floats of decimals, off by two of the last places at the most. It gives NaN for a text
+    that is none, and for an exponent that the fast reader takes for another one."""
+    floats = pd.to_numeric(texts, errors="coerce").to_numpy(np.float64, na_value=np.nan).copy()
+    if LONG_EXPONENT.search("\n".join(texts.dropna())):
+        floats[texts.str.contains(LONG_EXPONENT, na=False).to_numpy()] = np.nan
+    return floats
+
+
 def parts_of(texts: pd.Series, places: int,
              floats: Optional[np.ndarray] = None) -> tuple[np.ndarray, np.ndarray]:
     """Decimals, as texts with a point, as whole numbers of 10**-places, rounded half away from
@@ -84,7 +96,7 @@ def parts_of(texts: pd.Series, places: int,
     first is 0; a missing text, as None, is none too). `floats` are those of the texts, where these
     are known already; where one is NaN, the text is taken for none."""
     if floats is None:
-        floats = pd.to_numeric(texts, errors="coerce").to_numpy(np.float64, na_value=np.nan)
+        floats = floats_of(texts)
     scaled = floats * 10.0 ** places
     wrong = ~np.isfinite(scaled)
     scaled[wrong] = 0

@@ -27,8 +27,8 @@ from scipy import sparse
 
 from pit_tools import outputs, spelling
 from pit_tools.errors import UserError
-from pit_tools.formats import (MOST_AMOUNT, MOST_DESTINATIONS, MOST_INDEX, MOST_PERIODS,
-                               MOST_RESOURCES, MOST_ZONE, NAME, WHAT_A_NAME_IS)
+from pit_tools.formats import (MOST_AMOUNT, MOST_BLOCKS, MOST_DESTINATIONS, MOST_INDEX,
+                               MOST_PERIODS, MOST_RESOURCES, MOST_ZONE, NAME, WHAT_A_NAME_IS)
 from pit_tools.records import status_of
 
 TEXTS = ("blocks", "prec", "upit", "pcpsp", "cpit")
@@ -722,7 +722,8 @@ def read_instance(base: str, texts: Sequence[str] = TEXTS,
 def write_blocks(blocks: Blocks, path: str, remark: str = "") -> None:
     """A block file, which begins with the remark if there is one."""
     columns = [(np.arange(len(blocks)), 0), (blocks.x, 0), (blocks.y, 0), (blocks.z, 0),
-               (spelling.scaled(blocks.tonnes, 3), 3), (spelling.scaled(blocks.grade, 6), 6),
+               (spelling.multiples_of(blocks.tonnes, [3])[0], 3),
+               (spelling.multiples_of(blocks.grade, [6])[0], 6),
                (blocks.zone, 0)]
     _write(path, "blocks", spelling.lines_of(columns), remark)
 
@@ -794,15 +795,69 @@ def _write(path: str, kind: str, pieces: Iterable[bytes], remark: str) -> None:
         raise BadInstance(f"cannot write {path}: {error.strerror}") from None
 
 
-def write_instance(instance: Instance, base: str, end: bytes = b"", remark: str = "") -> None:
+def _judge(holds: bool, told: str) -> None:
+    if not holds:
+        raise BadInstance(f"{told}: pitc check would refuse it, and nothing was written")
+
+
+def _judge_for_pitc(instance: Instance) -> None:
+    """Refuses an instance that `pitc check` would refuse."""
+    problems = [problem for problem in (instance.pcpsp, instance.cpit) if problem]
+    counts = [len(part.values) for part in (*problems, instance.upit) if part]
+    counts += [len(instance.blocks)] if instance.blocks else []
+    counts += [instance.precedence.shape[0]] if instance.precedence is not None else []
+    _judge(len(set(counts)) < 2, f"the parts are not of as many blocks: {counts}")
+    _judge(all(0 < count <= MOST_BLOCKS for count in counts), f"there are {max(counts, default=0)} "
+           "blocks")
+    if instance.blocks:
+        for (name, most), column in zip(_MOST_OF_A_BLOCK.items(), vars(instance.blocks).values()):
+            _judge(bool(((column >= 0) & (column <= most)).all()),
+                   f"{name} is not from 0 to {most:,} in each block")
+    if instance.precedence is not None:
+        _judge(not instance.precedence.diagonal().any(), "a block is its own predecessor")
+    for name in [part.name for part in problems] + ([instance.upit.name] if instance.upit else []):
+        _judge(NAME.fullmatch(name) is not None,
+               f"the name is `{name[:64]}`, and has {WHAT_A_NAME_IS}")
+    for problem in problems:
+        _judge_problem(problem)
+
+
+def _judge_problem(problem: Problem) -> None:
+    """Refuses a PCPSP or a CPIT that `pitc check` would refuse."""
+    _judge(0 <= problem.rate <= 1 and round(problem.rate, 6) == problem.rate,
+           f"the rate is {problem.rate!r}, and no number from 0 to 1 with 6 decimals")
+    _judge(1 <= problem.periods <= MOST_PERIODS, f"there are {problem.periods} periods")
+    _judge(0 <= problem.resources <= MOST_RESOURCES, f"there are {problem.resources} resources")
+    _judge(1 <= problem.destinations <= (MOST_DESTINATIONS if problem.kind == "PCPSP" else 1),
+           f"there are {problem.destinations} destinations")
+    _look_at_ranges(problem, f"the {problem.kind}")
+    uses = problem.uses
+    places = ((uses.block.astype(np.int64) * MOST_DESTINATIONS + uses.destination)
+              * MOST_RESOURCES + uses.resource)
+    _judge(bool((places[1:] > places[:-1]).all()), "coefficients do not rise")
+    order = [(limit.resource, limit.period) for limit in problem.limits]
+    _judge(order == sorted(set(order)), "limits do not rise by resource and period")
+    for limit in problem.limits:
+        wanted = {"L": (False, True), "G": (True, False), "I": (True, True)}.get(limit.letter)
+        finite = np.isfinite([limit.least, limit.most])
+        _judge(wanted == tuple(finite) and limit.least <= limit.most,
+               f"a limit {limit.letter} from {limit.least:g} to {limit.most:g}")
+        spelling.nearest(np.array(limit.ends), 6)
+
+
+def write_instance(instance: Instance, base: str, end: bytes = b"", remark: str = "",
+                   as_published: bool = False) -> None:
     """Writes the parts of an instance that are there to BASE.blocks and so on: the bytes of `pitc`.
     They come together, or none does. Each file begins with the remark, one line, if there is one,
     as a comment; `end` follows each model. In a command other files of an instance at BASE go, or
     are refused (outputs.together).
 
-    Raises UserError where a number is infinite, NaN or too great for its decimals, and where a file
-    cannot be written.
+    Raises UserError for what `pitc check` refuses: a name, number or order that no file of `pitc`
+    has, parts of other numbers of blocks. `as_published` leaves ranges and orders to others. Raises
+    it also for a number that has more decimals than its file, and where a file cannot be written.
     """
+    if not as_published:
+        _judge_for_pitc(instance)
     with outputs.together(record=base, others=[f"{base}.{text}" for text in TEXTS]):
         if instance.blocks is not None:
             write_blocks(instance.blocks, base + ".blocks", remark)

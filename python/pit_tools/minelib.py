@@ -325,4 +325,4 @@ def write_published(mine: Instance, base: str, order: str = "bdr", with_end: boo
     """
     swapped = replace(mine, pcpsp=_with_fields(mine.pcpsp, order),
                       cpit=_with_fields(mine.cpit, order))
-    write_instance(swapped, base, b"EOF\n" if with_end else b"")
+    write_instance(swapped, base, b"EOF\n" if with_end else b"", as_published=True)

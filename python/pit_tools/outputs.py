@@ -132,6 +132,26 @@ def _hook(event: str, arguments: tuple[Any, ...]) -> None:
             command.note(path)
 
 
+class _Program:
+    """A program that calls this package and runs no command: what it has read, and what it has
+    written, which it may write anew."""
+
+    reads: dict[Identity, str] = {}
+    written: dict[Identity, str] = {}
+
+    @classmethod
+    def note(cls, paths: Iterable[str]) -> None:
+        for path in paths:
+            found = _identity(path)
+            if found and cls.written.get(found) != os.path.realpath(path):
+                cls.reads[found] = os.path.abspath(path)
+
+    @classmethod
+    def has_read(cls, found: Optional[Identity]) -> bool:
+        """Whether it has read a file, which is still there under its name."""
+        return bool(found) and found in cls.reads and _identity(cls.reads[found]) == found
+
+
 @contextmanager
 def of_command(force: bool = False, is_edited: bool = False, name: str = "") -> Iterator[None]:
     """Within it each file that is opened to read is one that nothing may be written over, and a
@@ -167,7 +187,9 @@ def reads(*paths: str) -> None:
 
     Raises UserError where records say that they are of different runs."""
     command = _Command.now
-    if command is not None and not command.is_looking:
+    if command is None:
+        _Program.note(paths)
+    elif not command.is_looking:
         for path in paths:
             command.note(path)
             with looking():
@@ -323,6 +345,9 @@ class _Group:
 
     def refuse_read(self, place: str, found: Optional[Identity]) -> None:
         """Refuses to write over a file that is read."""
+        if _Command.now is None and _Program.has_read(found):
+            raise UserError(f"{place}: this program has read it, and it would be written over: "
+                            "give another name")
         known = {**self.reads, **(_Command.now.reads if _Command.now else {})}
         read = known.get(found) if found else None
         if read is not None:
@@ -458,6 +483,9 @@ class _Group:
                 self.refuse_read(one.place, _identity(one.target))
             with interrupts.held():
                 self._rename()
+                if _Command.now is None:
+                    _Program.written |= {found: one.target for one in self.files
+                                         if (found := _identity(one.target))}
                 for above in self._folders():
                     _sync_folder(above)
                 self.files.clear()

@@ -14,6 +14,7 @@ import pandas as pd
 from scipy import sparse
 
 from pit_tools import outputs
+from pit_tools.decimals import floats_of
 from pit_tools.errors import UserError
 from pit_tools.instance import Limit, Problem, arcs_of
 from pit_tools.spelling import shortest
@@ -84,6 +85,19 @@ class Schedule:
         return used
 
 
+def table_of(path: str, fields: int) -> pd.DataFrame:
+    """The fields of a file's lines as texts, `fields` of them and what stands after them; the index
+    is the number of the line. A byte order mark, blank lines and lines of `%` are passed over, as
+    in the files of an instance."""
+    outputs.reads(path)
+    with open(path, encoding="utf-8-sig", errors="replace") as file:
+        # Readers of numbers end a text at a zero byte.
+        lines = pd.Series(file.read().replace("\0", "\ufffd").split("\n"), dtype=str)
+    lines.index += 1
+    begins = lines.str.lstrip().str[:1]
+    return lines[(begins != "") & (begins != "%")].str.split(n=fields, expand=True)
+
+
 def read_schedule(path: str, problem: Problem) -> Schedule:
     """A schedule's file for a problem: lines (m,), shares from 0 to 1 of a block.
 
@@ -92,16 +106,12 @@ def read_schedule(path: str, problem: Problem) -> Schedule:
     """
     is_pcpsp = problem.kind == "PCPSP"
     fields = 3 if is_pcpsp else 2
-    outputs.reads(path)
-    with open(path, encoding="utf-8", errors="replace") as file:
-        table = pd.Series(file.read().splitlines(), dtype=str).str.split(n=fields + 1, expand=True)
-    table = table.reindex(columns=range(fields + 2)).fillna("")
-    table = table[table[0] != ""]
+    table = table_of(path, fields + 1).reindex(columns=range(fields + 2)).fillna("")
+    lines = table.index.to_numpy()
     given = table[fields] != ""
-    lines = table.index.to_numpy() + 1
     numbers = table[list(range(fields + 1))].copy()
     numbers.loc[~given, fields] = "1"
-    numbers = numbers.apply(pd.to_numeric, errors="coerce").astype(float)
+    numbers = numbers.apply(lambda column: pd.Series(floats_of(column), column.index)).astype(float)
     what = "block, period, destination and share" if is_pcpsp else "block, period and share"
     bad = ~np.isfinite(numbers).all(axis=1).to_numpy() | (table[fields + 1] != "").to_numpy()
     _refuse(path, lines, bad, table, f"no {what}")
@@ -118,7 +128,8 @@ def read_schedule(path: str, problem: Problem) -> Schedule:
 def _refuse(path: str, lines: np.ndarray, bad: np.ndarray, table: pd.DataFrame, told: str) -> None:
     if bad.any():
         at = int(np.flatnonzero(bad)[0])
-        raise UserError(f"{path}: line {lines[at]}: {told}: `{' '.join(table.iloc[at]).strip()}`")
+        raise UserError(f"{path}: line {lines[at]}: {told}: "
+                        f"`{' '.join(table.iloc[at]).strip()[:60]}`")
 
 
 def write_schedule(schedule: Schedule, path: str, is_pcpsp: bool) -> None:

@@ -74,7 +74,7 @@ def multiples_of(values: np.ndarray,
     values = np.asarray(values, dtype=float)
     decimals = next((one for one in choices if not nearest(values, one)[1].any()), None)
     if decimals is None:
-        raise NotHeld(f"a number with more than {choices[-1]} decimals: round the values first; it")
+        raise NotHeld(f"a number with more than {choices[-1]} decimals: round the values first")
     multiples = scaled(values, decimals)
     if np.abs(multiples).sum(dtype=float) >= 2.0**62:
         raise NotHeld(f"the sum of all values with {decimals} decimals")
@@ -135,10 +135,13 @@ def lines_of_values(whole: Sequence[np.ndarray], values: Sequence[np.ndarray],
     """Lines of whole numbers and then of values, by the fewest of these decimals that hold them
     all, or each value by its own where some are too great for that.
 
-    Raises NotHeld where one is infinite, NaN, or too great for two decimals.
+    Raises NotHeld where one is infinite, NaN, too great for two decimals, or has more decimals than
+    any of the choices.
     """
-    decimals = next((choice for choice in choices[:-1] if not any(
-        nearest(column, choice)[1].any() for column in values)), choices[-1])
+    decimals = next((choice for choice in choices if not any(
+        nearest(column, choice)[1].any() for column in values)), None)
+    if decimals is None:
+        raise NotHeld(f"a number with more than {choices[-1]} decimals: round the values first")
     if all(np.abs(column).max(initial=0) * 10.0**decimals < EXACT for column in values):
         yield from lines_of([*((column, 0) for column in whole),
                              *((scaled(column, decimals), decimals) for column in values)])

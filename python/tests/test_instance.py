@@ -1,5 +1,7 @@
 """An instance as arrays, and back to the byte."""
+import re
 import subprocess
+from dataclasses import replace
 from decimal import Decimal
 
 import numpy as np
@@ -9,7 +11,7 @@ import mines
 from pit_tools import instance
 from pit_tools.cones import precedence_of
 from pit_tools.errors import UserError
-from pit_tools.instance import Limit, read_instance, write_instance
+from pit_tools.instance import Limit, Uses, read_instance, write_instance
 from pit_tools.plan_file import Destination, read_plan
 from pit_tools.valuation import blocks_of, instance_of, worth_in_cents
 from pit_tools.zone_files import read_zone_files
@@ -203,3 +205,55 @@ def test_worths_are_exact_however_great_the_numbers_are(case):
     dump = Destination("dump", "dump", 0, cost)
     wanted = [-int(t) * cost // 1000 for t in kilograms]
     assert worth_in_cents(dump, kilograms, grades).tolist() == wanted
+
+
+@pytest.mark.parametrize("change, told", [
+    ({"rate": 8.0}, "the rate is 8.0"), ({"rate": 0.0800001}, "the rate is 0.0800001"),
+    ({"rate": -0.1}, "the rate is -0.1"), ({"periods": 0}, "there are 0 periods"),
+    ({"periods": 101}, "there are 101 periods"), ({"name": "a b"}, "the name is `a b`"),
+    ({"resources": 9}, "there are 9 resources"),
+    ({"limits": [Limit.of(0, 9, "L", [1.0])]}, "a limit's resource or period is not there: 0 9"),
+    ({"limits": [Limit.of(0, 0, "L", [1.0])] * 2}, "limits do not rise"),
+    ({"limits": [Limit.of(0, 0, "I", [2.0, 1.0])]}, "a limit I from 2 to 1"),
+    ({"limits": [Limit(0, 0, "L", -np.inf, np.inf)]}, "a limit L from -inf to inf"),
+    ({"values": np.full((6, 3), 0.0000001)}, "more than 6 decimals"),
+    ({"values": np.ones((6, 9))}, "there are 9 destinations"),
+    ({"values": np.ones((5, 3))}, "not of as many blocks"),
+])
+def test_nothing_is_written_that_check_refuses(tmp_path, change, told):
+    mine = read_instance(mines.six_blocks(tmp_path))
+    wrong = replace(mine, pcpsp=replace(mine.pcpsp, **change))
+    with pytest.raises(UserError, match=re.escape(told)):
+        write_instance(wrong, str(tmp_path / "copy"))
+    assert not list(tmp_path.glob("copy*"))
+
+
+def test_no_block_is_written_that_check_refuses(tmp_path):
+    mine = read_instance(mines.six_blocks(tmp_path))
+    uses = mine.pcpsp.uses
+    turned = replace(mine.pcpsp, uses=Uses(*(column[::-1] for column in vars(uses).values())))
+    loop = mine.precedence.toarray()
+    loop[2, 2] = 1
+    for wrong, told in (
+            (replace(mine, blocks=replace(mine.blocks, x=mine.blocks.x + 10_000)), "x is not from"),
+            (replace(mine, blocks=replace(mine.blocks, tonnes=mine.blocks.tonnes + 0.0001)),
+             "more than 3 decimals"),
+            (replace(mine, pcpsp=turned), "coefficients do not rise"),
+            (replace(mine, precedence=loop), "a block is its own predecessor")):
+        with pytest.raises(UserError, match=told):
+            write_instance(wrong, str(tmp_path / "copy"))
+    assert not list(tmp_path.glob("copy*"))
+
+
+def test_a_plain_program_overwrites_nothing_that_it_has_read(tmp_path):
+    base = mines.six_blocks(tmp_path)
+    before = {path.name: path.read_bytes() for path in tmp_path.iterdir()}
+    mine = read_instance(base)
+    with pytest.raises(UserError, match="this program has read it"):
+        write_instance(mine, base)
+    assert {path.name: path.read_bytes() for path in tmp_path.iterdir()
+            if path.name in before} == before
+    for _ in range(2):
+        # What it has written itself it may read, and write anew.
+        write_instance(mine, str(tmp_path / "copy"))
+        read_instance(str(tmp_path / "copy"))

@@ -4,6 +4,7 @@ import itertools
 import re
 import shutil
 import subprocess
+from pathlib import Path
 
 import numpy as np
 import pytest
@@ -13,7 +14,8 @@ from scipy import sparse
 import mines
 from pit_tools.cli import main
 from pit_tools.errors import UserError
-from pit_tools.instance import Limit, Problem, Uses, read_instance
+from pit_tools.instance import (Limit, Problem, Uses, read_instance, read_precedence,
+                                read_problem)
 from pit_tools.programs import by_period, program_of, program_of_upit, schedule_of, solve
 from pit_tools.schedules import (Schedule, check, read_schedule, read_variables,
                                  schedule_of_variables)
@@ -362,3 +364,24 @@ def test_bounds_of_the_six_blocks(tmp_path, capsys):
     told = [line.rsplit(maxsplit=1) for line in capsys.readouterr().out.splitlines()]
     assert told == [["all values above 0", "617565.00"], ["the ultimate pit", "606965.00"],
                     ["CPIT, relaxed", "385188.45"], ["PCPSP, relaxed", "474119.63"]]
+
+
+def test_a_schedule_may_have_what_an_instance_has(tmp_path, capsys):
+    base = mines.six_blocks(tmp_path)
+    files = [f"{base}.cpit", base + ".prec", base + ".schedule"]
+    Path(files[2]).write_bytes("\ufeff% a schedule\r\n3 0\r\n\r\n \t% the next one\n4\t1\n".encode())
+    assert main(["check-schedule", *files]) == 0
+    assert capsys.readouterr().out.startswith("2 blocks, ")
+    for line, told in (("6 0", "line 3: no block below 6: `6 0`"), ("-1 0", "line 3: no block"),
+                       ("0 3", "line 3: no period below 3"), ("1e4294967296 0", "line 3: no block"),
+                       ("1\0 0", "line 3: no block"), ("x 0", "line 3: no block")):
+        Path(files[2]).write_text(f"% a\n3 0\n{line}\n")
+        assert main(["check-schedule", *files]) == 2
+        assert told in capsys.readouterr().err
+    problem, arcs = read_problem(files[0]), read_precedence(files[1])
+    for schedule in (Schedule.of([3, 6], [0, 0]), Schedule.of([3, -1], [0, 0]),
+                     Schedule.of([3, 2], [0, 3]), Schedule.of([3, 2], [0, 0], [0, 1])):
+        with pytest.raises(UserError, match="line 2 of the schedule: no (block|period|destin)"):
+            check(schedule, problem, arcs)
+    with pytest.raises(UserError, match="the arcs are of 5 blocks"):
+        check(Schedule.of([3], [0]), problem, arcs[:5, :5])
