@@ -17,7 +17,7 @@ from pit_tools.gridding import (Axis, Frame, Turn, axis_of, box_told, counts_of,
 from pit_tools.holdings import Holdings
 from pit_tools.import_causes import (causes, dip_of, dip_told, judge_degrees, judge_ends,
                                      judge_neighbours, likelier_order)
-from pit_tools.import_doubts import Doubts
+from pit_tools.import_doubts import export_doubts
 from pit_tools.import_masses import Masses
 from pit_tools.import_reading import COORDINATES, NINES_ABOVE, Reading
 from pit_tools.import_repeats import Repeats, is_again
@@ -28,6 +28,7 @@ from pit_tools.imported_blocks import Imported, cut_zones
 from pit_tools.plan_file import Grid
 from pit_tools.reconciling import Circumstances, Wanted, compared, statement_of
 from pit_tools.resource_report import Known
+from pit_tools.rock_doubts import RockModel, rock_doubts
 from pit_tools.source import Source
 from pit_tools.units import Measures, grade_unit_of
 from pit_tools.walls import MOST_BENCHES
@@ -96,7 +97,10 @@ class Placing:
         held = self.holdings(read, aside, grid)
         report.facts += ["", *held.table(self.measures())]
         self.tell_grid(rows, axes)
-        Doubts(rows, air, axes, self.factors, zones, report, self.reading, self.with_cells).look()
+        solid = rows[rows["tonnes"] > 0]
+        model = self.model(solid, axes, zones)
+        report.doubts += [*rock_doubts(model), *export_doubts(solid, air, model, axes, self.reading,
+                                                              self.with_cells)]
         rows, files = cut_zones(rows[["ix", "iy", "iz", "tonnes", "grade", "zone"]], zones)
         if len(files) > len(zones):
             report.facts.append(f"a zone file has {MOST_ROWS:,} rows at most: "
@@ -671,6 +675,15 @@ class Placing:
                         grid, self.frame, known["is_graded"].to_numpy(),
                         {name: int(many) for name, many in zip(names, counts)})
 
+    def model(self, rows: pd.DataFrame, axes: Sequence[Axis], zones: Sequence[str]) -> RockModel:
+        """The rock for what is mostly wrong of it."""
+        def height(index: int) -> str:
+            return shortest(axes[2].first + index * axes[2].step, 3)
+        index = (rows["ix"].to_numpy(), rows["iy"].to_numpy(), rows["iz"].to_numpy())
+        return RockModel(index, rows["tonnes"].to_numpy() / 1000, rows["grade"].to_numpy() / 1e6,
+                         rows["zone"].to_numpy(), zones, self.volume_of(axes), self.measures(),
+                         height, bool(self.words.share or self.words.ore_share))
+
     def measures(self) -> Measures:
         """In what grades are told."""
         return Measures(grade_unit=grade_unit_of(self.unit_of("grade")))
@@ -681,7 +694,9 @@ class Placing:
         air, rows = rows[missing], rows[~missing].copy()
         if rows.empty:
             raise UserError("no row has tonnes: " + self.no_tonnes_told())
-        self.report.facts.append(f"left out: {len(air):,} rows without tonnes (air, holes)")
+        graded = int((air["grade"] > 0).sum())
+        self.report.facts.append(f"left out: {len(air):,} rows without tonnes (air, holes)"
+                                 + (f"; {graded:,} of them have a grade" if graded else ""))
         self.tell_zeros(rows, air)
         barren = (rows["grade"] < 0).to_numpy()
         if self.reading.counts["money"]:
@@ -852,11 +867,23 @@ class Placing:
     def tell_grid(self, rows: pd.DataFrame, axes: Sequence[Axis]) -> None:
         places = axes[0].places * axes[1].places * axes[2].places
         self.report.facts.append(f"{box_told(axes)} {self.frame.unit}; of its {places:,} places "
-                                 f"{len(rows):,} have a row ({len(rows) * 100 // places} %)")
+                                 f"{len(rows):,} have a row ({len(rows) * 100 // places} %)"
+                                 f"{self.without_row(rows)}")
         for axis, name in zip(axes, COORDINATES):
             if axis.beside > axis.step / 1000:
                 self.report.facts.append(f"{name} is put on the grid: rows lie up to "
                                          f"{shortest(axis.beside, 3)} beside it")
+
+
+    @staticmethod
+    def without_row(rows: pd.DataFrame) -> str:
+        """How many places between and below the rows of a column have none."""
+        columns = rows.groupby(["ix", "iy"])["iz"].agg(["min", "max", "count"])
+        between = int((columns["max"] - columns["min"] + 1 - columns["count"]).sum())
+        below = int((columns["min"] - rows["iz"].min()).sum())
+        told = [f"{many:,} {where}" for many, where in (
+            (between, "between the rows of a column"), (below, "below the lowest")) if many]
+        return f"; {' and '.join(told)} have none" if told else ""
 
 
 def _by_zone(texts: Counter[tuple[int, str]], names: dict[int, str]) -> dict[str, int]:

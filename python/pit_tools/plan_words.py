@@ -11,6 +11,7 @@ from typing import Callable, Optional, Sequence
 
 from pit_tools.contacts import Contacts
 from pit_tools.decimals import decimal_of, plain
+from pit_tools.destination_doubts import destination_doubts
 from pit_tools.errors import UserError
 from pit_tools.formats import NAME, WHAT_A_NAME_IS
 from pit_tools.plan_file import (Destination, FourSlopes, Grid, Limit, Plan, Resource, Zone,
@@ -257,7 +258,7 @@ def plan_from(words: Spoken, grid: Grid, zones: Sequence[str], benches: int,
                    for word, said, taken in (("--periods", words.periods, "1 year"),
                                              ("--rate", words.rate, "8 % a year")) if not said]
     resources, limits = _limits(words.limit, destinations, periods, in_year, told)
-    _doubts(destinations, told)
+    told.doubts += destination_doubts(destinations, words.is_return, told.measures.cost_told)
     judged = judge(grid, records, zones, words.benches or benches, contacts=contacts(records))
     told.doubts += judged.look_at
     told.notes += judged.notes
@@ -281,7 +282,7 @@ def _zones(words: Spoken, names: Sequence[str], benches: int, told: Told) -> lis
         else:
             of_all = said
     if not words.slope:
-        told.doubts.append("slopes are 45 degrees until yours are known: --slope 'ZONE: 50' or "
+        told.notes.append("slopes are 45 degrees until yours are known: --slope 'ZONE: 50' or "
                            "'ZONE: E 56, W 45, N 51, S 51'")
     zones = []
     for name in names:
@@ -327,10 +328,10 @@ def sides_of(text: str, x_bearing: float, told: Told) -> FourSlopes:
         slopes = [angle for start, end, angle in ranges
                   if (bearing - start) % 360 <= ((end - start) % 360 or 360)]
         if len(slopes) > 1 and len(set(slopes)) > 1:
-            told.doubts.append(f"the side {side}, at bearing {bearing:g}, is on the border of two "
+            told.notes.append(f"the side {side}, at bearing {bearing:g}, is on the border of two "
                                "sectors: the flatter one is taken")
         found.append(slope_of(min(slopes)))
-    told.doubts.append("sectors become the four sides of the zone, and between two sides a slope "
+    told.notes.append("sectors become the four sides of the zone, and between two sides a slope "
                        "is between theirs: a model that is turned so that its sides face the "
                        "sectors' middles fits best")
     return (found[0], found[1], found[2], found[3])
@@ -575,19 +576,3 @@ def _say_limit(name: str, limits: Sequence[Limit], told: Told) -> None:
                 else f"in each period from {first.period} to {last.period}")
         told.lines.append((f"limit,{name},{first.period},{first.letter},{','.join(cells)}"
                            + (" .." if len(span) > 1 else ""), f"{said} {when}"))
-
-
-def _doubts(destinations: Sequence[Destination], told: Told) -> None:
-    """What is in range, and mostly wrong."""
-    dumps = [one for one in destinations if one.kind == "dump"]
-    if not dumps:
-        told.doubts.append("no dump: waste is charged what ore costs, so the pit is too small")
-    for one in destinations:
-        if one.kind != "dump" and dumps and one.cost <= min(dump.cost for dump in dumps):
-            told.doubts.append(f"{one.name} costs no more a tonne than {dumps[0].name}: a cost is "
-                               "all that a tonne costs which goes there, with mining and haulage "
-                               "(--mining adds that to each)")
-        if one.bands and max(share for _, share in one.bands) < 300:
-            told.doubts.append(f"{one.name} recovers less than 30 %")
-        if one.kind == "mill" and one.bands[0][1] == 1000 and one.price != 100_000:
-            told.doubts.append(f"{one.name} recovers all metal")

@@ -117,7 +117,7 @@ class Facts:
 
     def cost_told(self, cents: float) -> str:
         """A price or a cost of the plan, as money."""
-        return with_commas(self.measures.money(cents / 100), 2) + self.measures.unit
+        return self.measures.cost_told(cents)
 
     @cached_property
     def zone_names(self) -> list[str]:
@@ -178,13 +178,6 @@ class Facts:
     @cached_property
     def of_all(self) -> Rock:
         return self.rock()
-
-    @cached_property
-    def unlikely(self) -> int:
-        """Blocks with less than 0.5 or more than 10 tonnes a cubic metre, those of 0 t left out."""
-        tonnes = self.blocks.tonnes
-        return int(((tonnes > 0) & ((tonnes < 0.5 * self.volume) | (tonnes > 10 * self.volume)))
-                   .sum())
 
     def by_bench(self, weights: Optional[np.ndarray] = None) -> np.ndarray:
         """Sums over the blocks of each bench, from the lowest index on."""

@@ -91,6 +91,10 @@ class Measures:
         """A grade in g/t, or numbers of them, in the unit of grades."""
         return value / float(GRADES["%"]) if self.grade_unit == "%" else value
 
+    def cost_told(self, cents: float) -> str:
+        """A price or a cost of the plan, as money."""
+        return f"{self.money(cents / 100):,.2f}{self.unit}"
+
     def in_money(self, what: str) -> str:
         """A heading of money, as `value, USD`."""
         return f"{what}, {self.currency}" if self.currency else what

@@ -460,8 +460,8 @@ def package_exports() -> Iterable[Export]:
     deep = [b for b in MINE if not (b.i > 9 and b.k < 2)]
     yield Export("deep rock lost in the east",
                  {"a.csv": table(HEAD, lambda b: ",".join(usual(b)), deep).encode()}, USUAL,
-                 truth(deep), told=(f"{sum(b.i > 9 and b.k < 2 for b in MINE)} places below the "
-                                    "lowest row .* at z = 300 to 310",))
+                 truth(deep),
+                 told=(f"{sum(b.i > 9 and b.k < 2 for b in MINE)} below the lowest have none",))
     text = table("X,Y,Z,TONNES,AU,CU,ZONE",
                  lambda b: ",".join([*usual(b)[:5], known(b.grade and b.grade // 5, 6, "-99"),
                                      b.zone]))

@@ -115,17 +115,16 @@ def test_what_cannot_be_right_stops_with_its_cause(tmp_path, lines, changed, tol
 DOUBTS = [(lambda: mapped(3, lambda text: "2.7"), {}, "are they densities"),
           (lambda: mapped(3, lambda text: "2.70"), {}, "are they kilotonnes"),
           (lambda: mapped(3, lambda text: "76.5"), {}, "are lengths in feet"),
-          (lambda: mapped(0, lambda text: str(int(text) // 10)), {"y": "Y/10", "z": "Z/10"},
+          (lambda: mapped(0, lambda text: str(int(text) // 10)), {"y": "Y/10", "z": "Z/10", "tonnes": "", "density": "T/1000"},
            "all sizes are 1"), (lambda: mapped(2, lambda text: str(30 - int(text))), {}, None),
-          (lambda: with_cell(30, 3, "-99"), {},
-           "1 rows have a grade, .* g/t in the mean, and no tonnes"),
-          (lambda: with_cell(30, 3, "-99"), {}, "1 places between rows of a column have none"),
+          (lambda: [line if line[0] != "20" or line[2] != "10" else [*line[:3], "-99", *line[4:]]
+                    for line in rows()], {}, "5 places below a block have none"),
           (lambda: with_cell(30, 5, "West "), {}, "zones `west` and `West` differ by case"),
           (lambda: with_cell(30, 3, "99900"), {}, "1 blocks weigh more than 10 t a cubic metre"),
           (lambda: [line if line[5] != "east" or line[4] == "-99" else [*line[:4], "4000", "east"]
                     for line in rows()], {}, "in another unit"),
           (lambda: [line if line[3] != "-99" else [*line[:3], "2700", "0", line[5]]
-                    for line in rows()], {}, "every place of the box has rock"),
+                    for line in rows()], {}, "every place of the box has rock, and most of the highest"),
           (lambda: [line if line[0] != "10" or line[2] != "10" else [*line[:3], "900", *line[4:]]
                     for line in rows()], {}, "is only their ore counted")]
 
@@ -135,9 +134,8 @@ DOUBTS = [(lambda: mapped(3, lambda text: "2.7"), {}, "are they densities"),
 def test_what_may_be_wrong_is_told(tmp_path, lines, changed, told):
     doubts = imported(tmp_path, lines(), **changed).report.doubts
     pattern = told or "is z a depth"
-    assert any(re.search(pattern, line) for line in doubts), doubts
-    sound = imported(tmp_path, rows()).report.doubts
-    assert not any(re.search(pattern, line) for line in sound), sound
+    assert len(doubts) == 1 and re.search(pattern, doubts[0]), doubts
+    assert imported(tmp_path, rows()).report.doubts == []
 
 
 @pytest.mark.parametrize("cells, decimal, thousands",

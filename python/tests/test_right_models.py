@@ -1,4 +1,4 @@
-"""Ten models without a mistake: what `plan` and `survey` have to look at of them."""
+"""Models without a mistake: `import`, `plan` and `survey` have nothing to look at of them."""
 from __future__ import annotations
 
 from typing import NamedTuple
@@ -18,7 +18,10 @@ WIDE, HIGH = 26, 8
 
 class Right(NamedTuple):
     """A model: sizes of its blocks, its zones by x and z, slopes, and words of `import` and `plan`.
-    `richest` is the grade of its core in the unit of the export."""
+    `richest` is the grade of its core in the unit of the export, `digits` are those of grades. Some
+    of the rock is void, with a grade and no tonnes; the ground is level in a box without air; blocks
+    are two sub-blocks each, of which the ground cuts the upper one; limits have `spare` times what
+    the pit takes, or are none."""
 
     name: str
     size: tuple[int, int, int] = (20, 20, 10)
@@ -32,9 +35,21 @@ class Right(NamedTuple):
     more: tuple[str, ...] = ()
     density: str = "2.6 + 0.2 * noise"
     periods: str = "6 years"
+    digits: int = 6
+    voids: float = 0.0
+    is_box: bool = False
+    is_cut: bool = False
+    spare: float = 1.1
+    limited: tuple[str, ...] = ("crusher: mill", "fleet: all")
 
 
-RIGHT = [Right("gold"), Right("a slope for each side", slopes=("E 35, W 55, N 45, S 45",)),
+RIGHT = [Right("gold"), Right("rounded grades", digits=1), Right("old workings", voids=0.01),
+         Right("a level ground", is_box=True), Right("sub-blocks cut by the ground", is_cut=True),
+         Right("sectors of azimuth", slopes=("315-45 50, 45-135 45, 135-315 40",)),
+         Right("an ultimate pit", limited=(), periods="1 year"),
+         Right("limits with much to spare", spare=4.0),
+         Right("a crusher alone", limited=("crusher: mill",)),
+         Right("a slope for each side", slopes=("E 35, W 55, N 45, S 45",)),
          Right("greater blocks", (30, 30, 12), slopes=("E 60, W 35, N 35, S 60",)),
          Right("weathered rock above", zone="'oxide' if z > 4 else 'fresh'",
                slopes=("oxide: 40", "fresh: 50")),
@@ -52,34 +67,47 @@ def export_of(right: Right) -> str:
     """Ground that rises to the east and is rock in part at its top; ore in the middle, with barren
     rock on all sides and below."""
     random = np.random.default_rng(5)
-    lines = ["x,y,z,tonnes,grade,zone"]
+    lines = ["x,y,z,tonnes,grade,zone,wide,deep,high"]
     for z in range(HIGH):
         for y in range(WIDE):
             for x in range(WIDE):
-                top = 5 + 2 * x // WIDE + (x + y) % 2
+                top = HIGH - 1 if right.is_box else 5 + 2 * x // WIDE + (x + y) % 2
                 noise = random.random()
                 far = ((x - 12.5) ** 2 + (y - 12.5) ** 2) / 16 + (z - 4) ** 2 / 4
-                part = 0.4 + 0.6 * random.random() if z == top else 1
+                part = 0.4 + 0.6 * random.random() if z == top and not right.is_box else 1
                 tonnes = right.size[0] * right.size[1] * right.size[2] * part * eval(
                     right.density, {"noise": noise})
                 grade = (right.richest * (1 - far) * (0.8 + 0.2 * noise) if far < 1
                          else right.richest * 0.004 * noise if noise > 0.6 else 0)
                 zone = eval(right.zone, {"x": x, "z": z})
-                if z <= top:
-                    place = ",".join(str(size * at) for size, at in zip(right.size, (x, y, z)))
-                    lines.append(f"{place},{tonnes:.3f},{grade:.6f},{zone}")
+                is_void = random.random() < right.voids or z > top
+                place = [size * at for size, at in zip(right.size, (x, y, z))]
+                for share, up in _parts_of(right, part):
+                    tons = -99 if is_void else round(tonnes / part * share, 3)
+                    lines.append(f"{place[0]},{place[1]},{place[2] + up},{tons},"
+                                 f"{-99 if z > top else round(grade, right.digits)},{zone},"
+                                 f"{right.size[0]},{right.size[1]},{right.size[2] / 2}")
     return "\n".join(lines) + "\n"
 
 
-def limits_for(plan_path: str, files: list[str], periods: int) -> list[str]:
-    """Limits with a tenth to spare for the pit that the plan has without them."""
+def _parts_of(right: Right, part: float) -> list[tuple[float, float]]:
+    """The shares of a block that is rock in part, and how far above its centroid each lies."""
+    if not right.is_cut:
+        return [(part, 0)]
+    quarter = right.size[2] / 4
+    return [(0.5, -quarter)] + ([(0.5, quarter)] if part > 0.7 else [])
+
+
+def limits_for(plan_path: str, files: list[str], periods: int, right: Right) -> list[str]:
+    """Limits with something to spare for the pit that the plan has without them."""
     plan = read_plan(plan_path)
     blocks = blocks_of(plan.grid, read_zone_files(files))
     values = values_of(plan, blocks) / 100
     pit = pit_of_plan(values.max(axis=1), blocks, plan)[0]
     milled = blocks.tonnes[pit & (values.argmax(axis=1) == 0)].sum()
-    return [f"crusher: mill, at most {milled * 1.1 / periods / 1000:.1f} kt a period", "fleet: "
-            f"all, at most {blocks.tonnes[pit].sum() * 1.1 / periods / 1000:.1f} kt a period"]
+    most = {"crusher: mill": milled, "fleet: all": blocks.tonnes[pit].sum()}
+    return [f"{name}, at most {most[name] * right.spare / periods / 1000:.1f} kt a period"
+            for name in right.limited]
 
 
 def looked_at(text: str) -> list[str]:
@@ -92,20 +120,26 @@ def looked_at(text: str) -> list[str]:
 def doubts_of(right: Right, folder, capsys) -> list[str]:
     (folder / "export.csv").write_text(export_of(right))
     words = "--x x --y y --z z --tonnes tonnes --zone zone --base from".split()
+    if right.is_cut:
+        words += ["--parents", ",".join(map(str, right.size)), "--sub-size", "wide,deep,high"]
+    else:
+        lines = [line.rsplit(",", 3)[0] for line in (folder / "export.csv").read_text().split()]
+        (folder / "export.csv").write_text("\n".join(lines) + "\n")
     assert main(["import", "export.csv", *words, "--grade", right.grade]) == 0
+    imported = capsys.readouterr().out
     files = sorted(str(path) for path in folder.glob("from-*.csv"))
     asked = ["plan", "from.json", "--out", "mine.plan", *right.price, "--mill", right.mill,
              "--dump", right.dump, *right.more, "--periods", right.periods, "--rate", "8 %",
              *(word for slope in right.slopes for word in ("--slope", slope))]
     assert main(asked) == 0
     files = capsys.readouterr().out.split("--out mine ")[1].split()
-    limits = limits_for("mine.plan", files, int(right.periods.split()[0]))
+    limits = limits_for("mine.plan", files, int(right.periods.split()[0]), right)
     assert main([*asked, *(word for limit in limits for word in ("--limit", limit))]) == 0
     planned = capsys.readouterr().out
     mines.quickly_compiled(folder, (folder / "mine.plan").read_text(),
                            [(folder / path).read_text() for path in files])
     assert main(["survey", "mine.plan", "mine", *files]) == 0
-    return looked_at(planned) + looked_at(capsys.readouterr().out)
+    return looked_at(imported) + looked_at(planned) + looked_at(capsys.readouterr().out)
 
 
 @pytest.mark.parametrize("right", RIGHT, ids=lambda right: right.name)
