@@ -10,7 +10,7 @@ from decimal import ROUND_HALF_UP, Decimal
 from typing import Callable, Optional, Sequence
 
 from pit_tools.contacts import Contacts
-from pit_tools.decimals import decimal_of, plain
+from pit_tools.decimals import LONGEST, decimal_of, plain
 from pit_tools.destination_doubts import destination_doubts
 from pit_tools.errors import UserError
 from pit_tools.formats import NAME, WHAT_A_NAME_IS
@@ -68,9 +68,10 @@ NUMBER = r"[-+]?[\d,]*\.?\d+"
 
 def amount_of(text: str, what: str) -> Amount:
     """`1,804 USD/oz` or `8 %`. It raises UserError for what is none."""
-    found = re.fullmatch(rf"\s*({NUMBER})\s*(\S*)\s*", text)
+    text = text.strip()
+    found = re.fullmatch(rf"({NUMBER})\s*(\S*)", text) if len(text) <= LONGEST else None
     if not found:
-        raise UserError(f"{what}: `{text.strip()}` is no number with a unit, as 16.50 USD/t")
+        raise UserError(f"{what}: `{text[:LONGEST]}` is no number with a unit, as 16.50 USD/t")
     if "," in found[1] and not re.fullmatch(r"[-+]?\d{1,3}(,\d{3})+(\.\d+)?", found[1]):
         raise _decimal_comma(found[1])
     return Amount(decimal_of(found[1].replace(",", ""), what), found[2])
