@@ -32,6 +32,12 @@ PLAIN = re.compile(r"[-+]?(\d+(\.\d*)?|\.\d+)([eE][-+]?\d+)?", re.ASCII)
 # An exponent that is too long for the fast reader.
 LONG_EXPONENT = re.compile(r"[eE][-+]?\d{4}")
 
+# What the fast reader of tables takes for another number: an exponent of three digits or more, and
+# a word for a truth. Zeros behind a point that make its number vanish.
+_MISREAD = re.compile(rb"[eE](?:[-+]?0*[1-9][0-9]{2}|(?<=[tT][rR][uU][eE])"
+                      rb"|(?<=[fF][aA][lL][sS][eE]))")
+_VANISHES = b"." + b"0" * 300
+
 # The integers up to which each one is a double, and the digits that a double always holds.
 MOST_EXACT, DIGITS = 2.0 ** 53, 15
 
@@ -62,6 +68,12 @@ def is_held(text: str) -> bool:
         return False
     return (len(digits) <= DIGITS or abs(value) < MOST_EXACT
             or Decimal(text) == Decimal(value))
+
+
+def may_be_misread(text: bytes) -> bool:
+    """Whether pandas may take a field of lines for another number than it is."""
+    return (((b"e" in text or b"E" in text) and _MISREAD.search(text) is not None)
+            or _VANISHES in text)
 
 
 def rounded(text: Union[str, Decimal, int], places: int) -> int:

@@ -26,9 +26,11 @@ import pandas as pd
 from scipy import sparse
 
 from pit_tools import outputs, spelling
+from pit_tools.decimals import may_be_misread
 from pit_tools.errors import UserError
 from pit_tools.formats import (MOST_AMOUNT, MOST_BLOCKS, MOST_DESTINATIONS, MOST_INDEX,
                                MOST_PERIODS, MOST_RESOURCES, MOST_ZONE, NAME, WHAT_A_NAME_IS)
+from pit_tools.published_lines import whole_lines
 from pit_tools.records import status_of
 
 TEXTS = ("blocks", "prec", "upit", "pcpsp", "cpit")
@@ -41,9 +43,6 @@ LIMITS = "RESOURCE_CONSTRAINT_LIMITS"
 KEYS = ("NAME", "TYPE", "NBLOCKS", "NPERIODS", "NDESTINATIONS", "NRESOURCE_SIDE_CONSTRAINTS",
         "NGENERAL_SIDE_CONSTRAINTS", "DISCOUNT_RATE")
 SECTIONS = (OBJECTIVE, COEFFICIENTS, LIMITS)
-
-#: Bytes that are read at a time.
-_PIECE = 1 << 23
 
 
 class BadInstance(UserError):
@@ -237,18 +236,12 @@ def _plain(piece: bytes) -> bytes:
     return piece
 
 
-def _pieces(file: BinaryIO) -> Iterator[bytes]:
+def _pieces(file: BinaryIO, path: str) -> Iterator[bytes]:
     """The bytes of a file, cut at line ends; without a byte order mark, comments and CR."""
-    rest = file.read(3)
-    rest = b"" if rest == b"\xef\xbb\xbf" else rest
-    while piece := file.read(_PIECE):
-        piece = rest + piece
-        cut = piece.rfind(b"\n") + 1
-        rest = piece[cut:]
-        if cut:
-            yield _plain(piece[:cut])
-    if rest:
-        yield _plain(rest + b"\n")
+    try:
+        yield from map(_plain, whole_lines(file, path))
+    except UserError as error:
+        raise BadInstance(str(error)) from None
 
 
 #: What stands in a field: a whole number of a type of numpy, or a decimal with so many decimals.
@@ -259,6 +252,8 @@ def _table(piece: bytes, path: str, what: str, kinds: Sequence[_Kind]) -> list[n
     """The fields of lines that have as many as there are kinds, a column each."""
     if len(_first(piece).split()) != len(kinds):
         raise BadInstance(f"{path}: no line of {what}, of {len(kinds)} fields: {_shown(piece)}")
+    if may_be_misread(piece):
+        _refuse_misread(path)
     types = {at: np.float64 if isinstance(kind, int) else np.int64 for at, kind in enumerate(kinds)}
     try:
         table = pd.read_csv(io.BytesIO(piece), sep=r"\s+", header=None, dtype=types,
@@ -268,6 +263,15 @@ def _table(piece: bytes, path: str, what: str, kinds: Sequence[_Kind]) -> list[n
         raise BadInstance(f"{path}: {_first_line(error)}") from None
     return [_rounded(table[at].to_numpy(), path, kind) if isinstance(kind, int)
             else _narrow(table[at].to_numpy(), path, kind) for at, kind in enumerate(kinds)]
+
+
+def _refuse_misread(path: str) -> None:
+    """Refuses the first line that has such a field, below the header of a model."""
+    with open(path, "rb") as file:
+        for number, line in enumerate(file, 1):
+            if may_be_misread(line) and b":" not in line and not line.lstrip().startswith(b"%"):
+                raise BadInstance(f"{path}: line {number}: a field is too great, too small or a "
+                                  f"word: {_shown(line)}")
 
 
 def _narrow(whole: np.ndarray, path: str, kind: Type[np.signedinteger]) -> np.ndarray:
@@ -318,7 +322,7 @@ def read_blocks(path: str) -> Blocks:
     parts: list[list[np.ndarray]] = []
     count = 0
     with _opened(path) as file:
-        for piece in _pieces(file):
+        for piece in _pieces(file, path):
             if not piece.strip():
                 continue
             ids, *columns = _table(piece, path, "a block file", kinds)
@@ -382,7 +386,7 @@ def precedence_pieces(path: str) -> Iterator[tuple[np.ndarray, np.ndarray]]:
     """
     done = 0
     with _opened(path) as file:
-        for piece in _pieces(file):
+        for piece in _pieces(file, path):
             lengths = _line_lengths(piece)
             if not len(lengths):
                 continue
@@ -436,7 +440,7 @@ def count_predecessors(path: str) -> np.ndarray:
     """
     counts, done = [], 0
     with _opened(path) as file:
-        for piece in _pieces(file):
+        for piece in _pieces(file, path):
             heads = _heads(piece)
             try:
                 fields = np.fromstring(heads, dtype=np.int64, sep=" ").reshape(-1, 2)
@@ -477,7 +481,7 @@ class _Model:
         begins. Header lines are taken on the way."""
         section = ""
         with _opened(self.path) as file:
-            for piece in _pieces(file):
+            for piece in _pieces(file, self.path):
                 while (colon := piece.find(b":")) >= 0:
                     start = piece.rfind(b"\n", 0, colon) + 1
                     end = piece.find(b"\n", colon)

@@ -16,6 +16,7 @@ import numpy as np
 import pandas as pd
 
 from pit_tools import outputs
+from pit_tools.decimals import is_decimal, may_be_misread
 from pit_tools.errors import UserError
 from pit_tools.spelling import EXACT, FEWEST, NotHeld, nearest
 
@@ -25,7 +26,6 @@ _LONGEST = 1 << 26
 
 _COMMENT = re.compile(rb"%[^\n]*")
 _END = re.compile(rb"(?im)^[ \t]*eof[ \t]*$")
-_VANISHES = re.compile(rb"[eE]-0*[1-9][0-9]{2}")
 
 
 class Told:
@@ -93,8 +93,11 @@ def refuse_row(pieces: Iterable[Piece], row: int, told: str) -> NoReturn:
     piece.refuse(row, told)
 
 
-def _whole_lines(file: BinaryIO, path: str) -> Iterator[bytes]:
-    """The bytes of a file, cut at line ends, without a mark at the front."""
+def whole_lines(file: BinaryIO, path: str) -> Iterator[bytes]:
+    """The bytes of a file, cut at line ends, without a mark at the front.
+
+    Raises UserError, with the line, where one is longer than 64 MB.
+    """
     rest, number = file.read(3), 1
     rest = b"" if rest == b"\xef\xbb\xbf" else rest
     while more := file.read(_PIECE):
@@ -123,7 +126,7 @@ def pieces_of(path: str) -> Iterator[Piece]:
     except OSError as error:
         raise UserError(f"cannot open {path}: {error.strerror}") from None
     with file:
-        for text in _whole_lines(file, path):
+        for text in whole_lines(file, path):
             count = text.count(b"\n")
             if b"\0" in text:
                 raise UserError(f"{path}: it has bytes of 0: no text of ASCII or UTF-8")
@@ -173,7 +176,7 @@ def numbers_of(piece: Piece, fields: Sequence[int], what: str,
         wanted = f"at least {last + 1}" if length is None else str(length)
         row = int(is_wrong.argmax())
         piece.refuse(row, f"{lengths[row]} fields, and {what} has {wanted}")
-    if _VANISHES.search(piece.text):
+    if may_be_misread(piece.text):
         _look_at_each(piece, fields, what)
     try:
         table = pd.read_csv(io.BytesIO(piece.text), sep=r"\s+", header=None, dtype=float,
@@ -194,13 +197,14 @@ def _look_at_each(piece: Piece, fields: Sequence[int], what: str) -> None:
     for row, (_, line) in enumerate(piece.lines()):
         cells = line.split()
         for field in fields:
-            cell = cells[field]
-            if not re.fullmatch(r"[+-]?(\d+\.?\d*|\.\d+)([eE][+-]?\d+)?", cell, re.ASCII):
-                piece.refuse(row, f"field {field + 1} of {what}, `{cell}`, is no number")
+            cell = "".join(cells[field:field + 1])
+            told = f"field {field + 1} of {what}, `{cell[:60]}`, is"
+            if not is_decimal(cell):
+                piece.refuse(row, f"{told} no number")
             if abs(float(cell)) == np.inf:
-                piece.refuse(row, f"field {field + 1} of {what}, `{cell}`, is too great")
+                piece.refuse(row, f"{told} too great")
             if float(cell) == 0 and re.search("[1-9]", re.split("[eE]", cell)[0]):
-                piece.refuse(row, f"field {field + 1} of {what}, `{cell}`, is too small")
+                piece.refuse(row, f"{told} too small")
 
 
 def whole_of(piece: Piece, numbers: np.ndarray, what: str, least: int = 0,

@@ -8,7 +8,7 @@ import numpy as np
 import pytest
 
 import mines
-from pit_tools import instance
+from pit_tools import instance, published_lines
 from pit_tools.cones import precedence_of
 from pit_tools.errors import UserError
 from pit_tools.instance import Limit, Uses, read_instance, write_instance
@@ -31,7 +31,7 @@ def test_an_instance_is_written_as_it_was_read(tmp_path, make):
 
 def test_small_pieces_are_read_as_large_ones(tmp_path, monkeypatch):
     base = mines.deposit(tmp_path, K=3)
-    monkeypatch.setattr(instance, "_PIECE", 700)
+    monkeypatch.setattr(published_lines, "_PIECE", 700)
     write_instance(read_instance(base), str(tmp_path / "copy"))
     for text in instance.TEXTS:
         assert (tmp_path / f"copy.{text}").read_bytes() == open(f"{base}.{text}", "rb").read(), text
@@ -96,7 +96,15 @@ def test_files_that_check_accepts_are_read(tmp_path):
     ("pcpsp", "0 0 0 2700", "0 256 0 2700", "a whole number is not from -128 to 127"),
     ("pcpsp", "0 0 0 2700", "4294967296 0 0 2700", "a whole number is not from"),
     ("pcpsp", "0 0 0 2700", "0 0 0 2700 9", "no line of coefficients, of 4 fields"),
-    ("pcpsp", "0 0 0 2700", "0 0 0 1e400", "mine.pcpsp"),
+    ("pcpsp", "0 0 0 2700", "0 0 0 1e400", "mine.pcpsp: line 17: a field is too great"),
+    ("pcpsp", "0 0 0 2700", "0 0 0 1e4294967297", "mine.pcpsp: line 17: a field is too great"),
+    ("pcpsp", "0 0 0 2700", "0 0 0 1e-4294967295", "mine.pcpsp: line 17: a field is too great"),
+    ("pcpsp", "0 0 0 2700", "0 0 0 TRUE", "line 17: a field is too great, too small or a word"),
+    ("pcpsp", "0 221940 144180", "0 0.5E+000300 144180", "mine.pcpsp: line 10: a field is too"),
+    ("upit", "1 309420", "1 1e4294967297", "mine.upit: line 6: a field is too great"),
+    ("cpit", "0 0 2700", "0 0 1e21474836480", "mine.cpit: line "),
+    ("blocks", "2700 1.8 0", f"2700 .{'0' * 400}1 0", "mine.blocks: line 1: a field is too great"),
+    ("blocks", "2700 1.8 0", "2e4294967297 1.8 0", "mine.blocks: line 1: a field is too great"),
     ("pcpsp", "NPERIODS: 3", "NPERIODS: 2.5", "NPERIODS is no count: 2.5"),
     ("pcpsp", "NPERIODS: 3", "NPERIODS: inf", "cannot be held"),
     ("pcpsp", "DISCOUNT_RATE: 0.08", "DISCOUNT_RATE: 0.0800001", "has more than 6 decimals"),

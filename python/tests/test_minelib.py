@@ -151,6 +151,14 @@ def test_a_upit_alone(tmp_path):
      "lines"), ("pcpsp", "1 309420 197640 -5400", "1 inf 197640 -5400", "line 11: field 2"),
     ("pcpsp", "1 309420 197640 -5400", "1 1e400 197640 -5400", "`1e400`, is too great"),
     ("pcpsp", "1 309420 197640 -5400", "1 1e-400 197640 -5400", "`1e-400`, is too small"),
+    ("pcpsp", "1 309420 197640 -5400", "1 1e4294967297 197640 -5400",
+     "line 11: field 2 of a line of the objective, `1e4294967297`, is too great"),
+    ("pcpsp", "1 309420 197640 -5400", "1 1E+0021474836480 197640 -5400", "is too great"),
+    ("pcpsp", "1 309420 197640 -5400", "1 TRUE 197640 -5400", "line 11: field 2 of a line of the "
+     "objective, `TRUE`, is no number"),
+    ("pcpsp", "1 309420 197640 -5400", f"1 .{'0' * 330}1 197640 -5400", "is too small"),
+    ("blocks", "5 2 0 1 2650", "5 2 0 1 2e4294967297", "line 6: field 5 of a block line, "
+     "`2e4294967297`, is too great"),
     ("pcpsp", "1 309420 197640 -5400", "1 1e15 197640 -5400", "line 11: a value is too great to be "
      "held"), ("prec", "0 2 3 4", "0 2 3 9", "line 1: a predecessor 9 is not one of the 6"),
     ("prec", "2 2 4 5", "7 2 4 5", "line 3: the block 7 is not one of the 6"),
