@@ -787,6 +787,23 @@ def record_of(base: str, paths: Iterable[str]) -> None:
         file.write(Record(path, command.name, files, inputs).text)
 
 
+def stored(paths: Iterable[str]) -> None:
+    """Waits until the system has stored files that another program wrote, as far as they exist.
+    Network file systems and quotas may report only now that they did not.
+
+    Raises OSError with the name of the file; every file stays as it is.
+    """
+    for path in paths:
+        try:
+            descriptor = os.open(path, os.O_RDONLY | os.O_NONBLOCK | os.O_CLOEXEC)
+        except FileNotFoundError:
+            continue
+        try:
+            _synced(descriptor, path)
+        finally:
+            os.close(descriptor)
+
+
 def copied(source: str, place: str, kind: str) -> None:
     """Copies a file through the door."""
     with open(source, "rb") as file, opened(place, kind) as out:

@@ -1,4 +1,5 @@
 """Bars of progress: on a terminal alone; and `compile`, which hands on what pitc says."""
+import errno
 import fcntl
 import os
 import pty
@@ -14,6 +15,7 @@ import pytest
 
 import mines
 from pit_tools import progress
+from pit_tools.cli import main
 
 SOURCE = os.path.join(mines.TOP, "python")
 
@@ -28,6 +30,7 @@ plan=$3 base=$5
 sleep 0.3
 cat "$7" > /dev/null
 sleep 0.3
+for text in blocks upit pcpsp cpit; do : > "$base.$text"; done
 for part in 1 2; do head -c 100000 /dev/zero >> "$base.prec"; sleep 0.3; done
 [ -z "$FAULT" ] || { echo "pitc: $FAULT" >&2; exit 3; }
 echo "rows 7"
@@ -155,6 +158,22 @@ def test_compile_shows_bytes_and_hands_on_line_and_status(folder, fault, status,
         assert re.search(r"compile writes slow.prec [1-9][0-9.]*k?B", shown)
         assert what_stays(shown) == (line if fault or is_printed_there else "")
         assert told == ("" if fault or is_printed_there else line)
+
+
+def test_compile_reports_a_file_that_the_system_does_not_store(folder, monkeypatch, capfd):
+    """pitc ends with 0 there, since it does not hear it; no record says that the files are whole."""
+    def refused(descriptor):
+        if os.readlink(f"/proc/self/fd/{descriptor}").endswith("slow.prec"):
+            raise OSError(errno.EDQUOT, "Disk quota exceeded")
+
+    monkeypatch.chdir(folder)
+    assert main(COMPILE) == 0 and (folder / "slow.sums").exists()
+    os.remove(folder / "slow.sums")
+    monkeypatch.setattr(os, "fsync", refused)
+    capfd.readouterr()
+    assert main(COMPILE) == 2
+    assert capfd.readouterr().err == "pit-tools compile: slow.prec: Disk quota exceeded\n"
+    assert (folder / "slow.prec").exists() and not (folder / "slow.sums").exists()
 
 
 @pytest.mark.parametrize("number", [signal.SIGINT, signal.SIGTERM])

@@ -10,9 +10,10 @@ written.
     pit-tools compile --plan mine.plan --out mine from-west.csv from-east.csv from-oxide.csv
 
 What pitc prints and the status with which it ends are its own. Files at BASE are replaced by pitc;
-as where it is called alone, no file is begun before all rows are read. Then it writes BASE.sums,
-the sums of these files, of the plan and of the zone files, by which other commands know that they
-belong together. Where pitc is in no folder of the PATH, --pitc names it.
+as where it is called alone, no file is begun before all rows are read. Then it waits until the
+system has stored these files, which pitc does not, and reports an error of that. Last it writes
+BASE.sums, the sums of these files, of the plan and of the zone files, by which other commands know
+that they belong together. Where pitc is in no folder of the PATH, --pitc names it.
 """
 
 
@@ -45,5 +46,7 @@ def run(args: argparse.Namespace) -> int:
     with held(args.out) if args.out else nullcontext():
         status = compile_shown([*words, "--", *args.zones], reads, args.out or "")
         if args.out and not status:
-            outputs.record_of(args.out, [f"{args.out}.{text}" for text in TEXTS])
+            files = [f"{args.out}.{text}" for text in TEXTS]
+            outputs.stored(files)
+            outputs.record_of(args.out, files)
     return status
