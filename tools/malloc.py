@@ -26,12 +26,12 @@ def compiler():
     return [os.path.join(tools, "clang"), "--ld-path=" + os.path.join(tools, "ld.lld")]
 
 
-def build(folder):
-    """The library of this malloc."""
-    library, source = os.path.join(folder, "malloc.so"), os.path.join(TOP, "tools", "malloc.c")
+def build(folder, name="malloc"):
+    """The library of this malloc, or of another file of tools/."""
+    library, source = os.path.join(folder, f"{name}.so"), os.path.join(TOP, "tools", f"{name}.c")
     words, by = ["-shared", "-fPIC", "-O1", "-nostdlib", "-fno-builtin", "-o", library, source], compiler()
     if by is None:
-        sys.exit("tools/refused-memory: no cc, gcc or clang here, so nothing is compared")
+        sys.exit(f"tools/{os.path.basename(sys.argv[0])}: no cc, gcc or clang here, so nothing is compared")
     subprocess.run([*by, *words], check=True)
     return library
 

@@ -34,7 +34,8 @@ NEEDS = [
     Need(["cbc"], "coinor-cbc", "recipes: schedules"),
     Need(["glpsol"], "glpk-utils", "recipes: the pit as a linear program"),
     Need(["g++", "c++", "clang++"], "g++", "recipes and tests of python/: the pit"),
-    Need(["cc", "gcc", "clang"], "gcc", "tools/refused-memory, tools/refused-files"),
+    Need(["cc", "gcc", "clang"], "gcc", "tools/effects, tools/refused-memory, tools/refused-files"),
+    Need(["strace"], "strace", "tools/effects"),
     Need(["zsh"], "zsh", "completions"),
     Need(["fish"], "fish", "completions"),
     Need(["groff"], "groff-base", "tools/man-page"),
@@ -54,7 +55,7 @@ OF_PIT_TOOLS = ["pandas", "numpy", "scipy", "matplotlib", "openpyxl"]
 MODULES = [*OF_PIT_TOOLS, "pytest", "distributed", "hypothesis", "ezdxf", "meshio", "tqdm", "nbclient", "ipykernel", "ensurepip", "shtab"]
 
 # What no package brings.
-DEVICES = ["/dev/full", "/proc/self/task", "/proc/self/io"]
+DEVICES = ["/dev/full"]
 
 LOOK = "import importlib.util as u, sys; print(*[name for name in sys.argv[1:] if not u.find_spec(name)])"
 

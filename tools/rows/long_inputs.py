@@ -1,0 +1,110 @@
+"""Inputs, texts and outputs that are long, whose runs take little memory beside them: tools/effects measures it."""
+from typing import Iterator, NamedTuple
+
+from rows.instance import ONE_ORE_BLOCK, ORE, PLAN, at, instance, plan_of, sections, unlisted
+from rows.sizes import FLAT, ONE, bench
+from rows.sizes import rows as rows_of
+from rows.trial import ANY, Link, Trial, piped, refused, zone_file
+from shared import CHECKED, ENDINGS, compile_words
+
+MEGABYTE = 1_000_000
+
+
+class Long(NamedTuple):
+    """A run of pitc, or of pitc_thin, and the megabytes that it takes for what it reads and prints, by docs/formats.md."""
+
+    trial: Trial
+    megabytes: int = 0
+    is_thin: bool = False
+
+
+def compiles(name: str, plan: bytes, *zones: bytes, **told) -> Trial:
+    """A compile of these zone files, which are named by their numbers."""
+    names = [str(number) for number in range(len(zones))]
+    files = {"plan": plan, **dict(zip(names, zones))}
+    return Trial(name, words=compile_words("plan", "base", names), files=files, **told)
+
+
+def thinned(trial: Trial, out: bytes = b"", prec: bytes = b"") -> Trial:
+    """The same by pitc_thin, which prints and writes these."""
+    words = ["--plan", "plan", "--out", "thin", *trial.words[5:]]
+    return trial._replace(words=words, out=out, left={"thin": prec} if prec else {})
+
+
+# A zone file of many blocks side by side, of which none waits for another, beside that of one block; and their texts.
+SIDE_BY_SIDE = zone_file(*(f"{x}0,0,0,1,0" for x in range(1, 3000)))
+WASTE = "".join(f"{x} {x} 0 0 1 0 0|" for x in range(1, 3000))
+TEXTS = instance("0 0 0 0 1000 5000 1|" + WASTE, unlisted(0, 3000), [12000, *[-15] * 2999])
+
+
+def texts_of_blocks() -> Iterator[Long]:
+    """Texts of some hundred kilobytes, by each command."""
+    run = compiles("3,000 blocks", plan_of(cones=["1,1,1"] * 2), SIDE_BY_SIDE, ORE, out=b"rows 3000\n", left=at("base", TEXTS))
+    yield Long(run, 1)
+    yield Long(thinned(run, b"rows 3000 arcs 0 of 0\n", TEXTS["prec"]), 1, is_thin=True)
+    yield Long(Trial("3,000 blocks by the pipe form", given=piped(*run.files.values()), out=sections(TEXTS)), 2)
+    files = at("base", {ending: TEXTS[ending] for ending in CHECKED})
+    counts = b"blocks 3000 arcs 0 coefficients 0 limits 0 cpit 0\n"
+    yield Long(Trial("a check of 3,000 blocks", words=["check", "base"], files=files, out=counts))
+    faulty = run._replace(files={**run.files, "1": ORE + b"x\n"})
+    line = "file 1 row 3 column whole: Width"
+    yield Long(refused("a faulty row beside them", line, words=run.words, files=faulty.files), 1)
+    lacking = refused("a file that is not there behind them", "file 1: FeedFailed", words=[*run.words[:-1], "no/such.csv"], files=run.files)
+    yield Long(lacking)
+    yield Long(thinned(lacking), is_thin=True)
+
+
+REMARK = b"%" + b"x" * 998 + b"\n"
+
+
+def remarks(megabytes: int) -> bytes:
+    """So many megabytes of lines that say nothing."""
+    return REMARK * (megabytes * MEGABYTE // len(REMARK))
+
+
+def texts_that_go_by() -> Iterator[Long]:
+    """What is read behind the first faulty line, and told of nowhere: the rest of its text, and the texts behind it."""
+    for faulty, text, ending in [("prec", b"?\n" + remarks(128), "prec"), ("blocks", remarks(128), "prec")]:
+        files = at("base", {**ONE_ORE_BLOCK, faulty: b"?\n", ending: text})
+        name = f"128 MB of base.{ending} behind a faulty line of base.{faulty}"
+        yield Long(refused(name, f"{faulty} line 1: Fields", words=["check", "base"], files=files))
+
+
+def long_texts() -> Iterator[Long]:
+    """Each text of `check` behind many remarks."""
+    for ending in CHECKED:
+        files = at("base", {**ONE_ORE_BLOCK, ending: remarks(128) + ONE_ORE_BLOCK[ending]})
+        name = f"a check of 128 MB of base.{ending}"
+        yield Long(Trial(name, words=["check", "base"], files=files, out=b"blocks 1 arcs 0 coefficients 0 limits 0 cpit 0\n"))
+
+
+def long_outputs() -> Iterator[Long]:
+    """300,000 rows; 20,000 blocks, each below each of 1,000; and the cone that has most rows."""
+    left = at("base", dict.fromkeys(ENDINGS, ANY))
+    rows = rows_of(bench(0, 600, 500))
+    run = compiles("a compile of 300,000 rows", ONE, rows, out=b"rows 300000\n", left=left)
+    yield Long(run, 28 + len(rows) // MEGABYTE)
+    below, out = rows_of(bench(0, 200, 100) + bench(1, 100, 10)), b"rows 21000\n"
+    but_one = {name: text for name, text in left.items() if name != "base.prec"}
+    run = compiles("a precedence file of 120 MB", FLAT, below, out=out, left=but_one)
+    yield Long(run._replace(files={**run.files, "base.prec": Link("/dev/null")}), 2)
+    # A text has room that doubles, and the old one stands beside the new one meanwhile.
+    yield Long(Trial("120 MB by the pipe form", given=piped(FLAT, below), out=ANY), 4 * 120)
+    plan = plan_of(cones=["1,1000,20"], grid="0,0,0,1,1,1")
+    far, out = rows_of([(0, 0, 0), (0, 9999, 20)]), b"rows 2\n"
+    yield Long(compiles("a cone over all rows", plan, far, out=out, left=left), 13)
+
+
+# How many bytes a zone file has for which a list of bytes, whose room doubles, has little more.
+WHOLE = 130_000_000
+
+
+def long_files() -> Iterator[Long]:
+    """A zone file that is long, and has one row: it stands whole in memory once."""
+    run = compiles("a compile of a zone file of 130 MB", PLAN, ORE.ljust(WHOLE, b"\n"), out=b"rows 1\n", left=at("base", ONE_ORE_BLOCK))
+    yield Long(run, 134)
+    yield Long(thinned(run, b"rows 1 arcs 0 of 0\n", b"0 0\n"), 134, is_thin=True)
+
+
+# Each makes its rows one by one, since they are large.
+GROUPS = [long_outputs, long_files, long_texts, texts_that_go_by, texts_of_blocks]
