@@ -15,6 +15,10 @@ from pit_tools.instance import TEXTS
 #: What a batch writes beside the texts of its instances.
 TABLES = ("MANIFEST", "SIZES", "BUILD")
 
+#: Bytes that a list may have, and a line: a plan and 64 zone files, each of as long a name as there
+#: is.
+MOST_BYTES, MOST_LINE = 1 << 27, 65 * 4096
+
 
 @dataclass(frozen=True)
 class Entry:
@@ -77,7 +81,9 @@ def read_list(path: str, texts: Sequence[str] = TEXTS, others: Sequence[str] = (
     table of the batch, or another file that it writes.
     """
     with open(path, "rb") as file:
-        content = file.read()
+        content = file.read(MOST_BYTES + 1)
+    if len(content) > MOST_BYTES:
+        raise UserError(f"{path}: it has more than {MOST_BYTES:,} bytes: split it")
     lines = dict(_entries(path, content))
     if not lines:
         raise UserError(f"{path}: it has no line")
@@ -92,6 +98,8 @@ def _entries(path: str, content: bytes) -> Iterator[tuple[int, Entry]]:
     is_there = lru_cache(None)(os.path.isfile)
     for number, line in enumerate(content.split(b"\n"), 1):
         place = f"{path}: line {number}"
+        if len(line) > MOST_LINE:
+            raise UserError(f"{place}: it has more than {MOST_LINE:,} bytes")
         try:
             words = shlex.split(line.decode("utf-8-sig" if number == 1 else "utf-8"), comments=True)
         except UnicodeDecodeError:

@@ -63,7 +63,10 @@ class Amount:
     unit: str
 
 
-NUMBER = r"[-+]?[\d,]*\.?\d+"
+# Characters that a word may have, as all slopes of a zone. Patterns are matched in linear time.
+MOST_WORD = 1000
+
+NUMBER = r"[-+]?[\d,]*(?:\.\d+|(?<=\d))"
 
 
 def amount_of(text: str, what: str) -> Amount:
@@ -193,7 +196,7 @@ def cost_of(text: str, mining: Decimal, parts: int, what: str, purse: Purse) -> 
 def _parts(text: str) -> list[str]:
     """What stands between commas; those between thousands are none. It raises UserError for a
     decimal comma."""
-    comma = re.search(r"\d+,\d{1,2}(?!\d)", text)
+    comma = re.search(r"(?<!\d)\d+,\d{1,2}(?!\d)", text)
     if comma:
         raise _decimal_comma(comma[0])
     return [part.strip() for part in re.split(r",(?!\d{3}(?!\d))", text) if part.strip()]
@@ -245,6 +248,7 @@ def plan_from(words: Spoken, grid: Grid, zones: Sequence[str], benches: int,
     finds where zones of unlike slopes meet. It raises UserError for a word that it does not
     understand or that is out of the range of a plan."""
     told = Told()
+    _judge_lengths(words)
     if not NAME.fullmatch(words.name):
         raise UserError(f"--name: `{words.name}` is no name: it has {WHAT_A_NAME_IS}")
     told.lines.append((f"name,{words.name}", "the name of the instance"))
@@ -265,6 +269,14 @@ def plan_from(words: Spoken, grid: Grid, zones: Sequence[str], benches: int,
     told.notes += judged.notes
     return Plan(words.name, grid, tuple(records), tuple(destinations), periods, rate,
                 tuple(resources), tuple(limits)), told
+
+
+def _judge_lengths(words: Spoken) -> None:
+    """Raises UserError for a word that is longer than any of a plan."""
+    for option, said in vars(words).items():
+        for word in said if isinstance(said, (list, tuple)) else [said]:
+            if isinstance(word, str) and len(word) > MOST_WORD:
+                raise UserError(f"--{option}: `{word[:60]}` has more than {MOST_WORD:,} characters")
 
 
 def _zones(words: Spoken, names: Sequence[str], benches: int, told: Told) -> list[Zone]:
@@ -443,7 +455,7 @@ class _Destinations:
 
 def _periods(text: str, told: Told) -> tuple[int, int]:
     """How many periods there are, and how many make a year."""
-    found = re.fullmatch(r"\s*(\d{1,9})\s*([a-z-]*?)s?\s*", text)
+    found = re.fullmatch(r"(\d{1,9})\s*([a-z-]*?)s?", text.strip())
     unit = found[2] if found and found[2] else "year"
     if not found or unit not in PERIODS or not 1 <= int(found[1]) <= 100:
         raise UserError(f"--periods: `{text}`: give 1 to 100, as 12 years; known are "
@@ -455,7 +467,7 @@ def _periods(text: str, told: Told) -> tuple[int, int]:
 
 def _rate(text: str, in_year: int, told: Told) -> Decimal:
     """The discount rate of a period, of one a year."""
-    found = re.fullmatch(rf"\s*({NUMBER})\s*%\s*(?:a\s+(year|period))?\s*", text)
+    found = re.fullmatch(rf"({NUMBER})\s*%\s*(?:a\s+(year|period))?", text.strip())
     if not found or not 0 <= (percent := amount_of(found[1], "--rate").value) <= 100:
         raise UserError(f"--rate: `{text}`: give percent a year, as 8 %")
     yearly = rate = percent / 100
@@ -519,8 +531,8 @@ def _limit(parts: Sequence[str], name: str, resource: int, periods: int,
     first, last = (int(span[1]), int(span[2] or span[1])) if span else (0, periods - 1)
     if not first <= last < periods:
         raise UserError(f"--limit: {name}: periods are 0 to {periods - 1}")
-    text, by = re.sub(r"\s+a\s+(year|period)$", "",
-                      rest[0]), re.search(r"a\s+(year|period)$", rest[0])
+    by = re.search(r"(?<!\s)\s+a\s+(year|period)$", rest[0])
+    text = rest[0][:by.start()] if by else rest[0]
     divide = in_year if by and by[1] == "year" else 1
     if by is None and in_year > 1:
         raise UserError(f"--limit: {name}: `{rest[0]}` a year or a period? Periods are no years")

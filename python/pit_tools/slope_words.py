@@ -74,7 +74,7 @@ def _one_slope(text: str) -> Slope:
             raise UserError(f"`{text}`: rise and run are 1 to 1000")
         return slope
     try:
-        return slope_of(float(re.sub(r"\s*(°|degrees|deg)$", "", text)))
+        return slope_of(float(re.sub(r"(?<!\s)\s*(°|degrees|deg)$", "", text)))
     except ValueError:
         raise UserError(f"`{text}` is no slope: give degrees, or p:q") from None
 

@@ -7,12 +7,17 @@ import itertools
 import signal
 import time
 import zipfile
+from decimal import Decimal
 
 import pytest
 
+from pit_tools.batch_list import read_list
 from pit_tools.cli import main
 from pit_tools.errors import UserError
 from pit_tools.formulas import formula_of
+from pit_tools.plan_file import Grid
+from pit_tools.plan_words import Purse, Spoken, Told, plan_from, price_of, sides_of
+from pit_tools.published_lines import numbers_of, pieces_of
 
 # Characters of a small text and of a large one. A reader whose time grows with the square of the
 # size takes 256 times as long for the large one, and by the margin it may take 80 times.
@@ -51,6 +56,12 @@ def seconds_of(step, *words):
         signal.setitimer(signal.ITIMER_VIRTUAL, 0)
         signal.signal(signal.SIGVTALRM, before)
     return time.process_time() - begun
+
+
+def tried(step, *words):
+    """Takes a step, which may refuse what it reads."""
+    with contextlib.suppress(UserError):
+        step(*words)
 
 
 def judge(step, text_of):
@@ -154,3 +165,50 @@ def test_a_small_archive_does_not_unpack_to_a_vast_one(tmp_path, capsys):
 def test_a_formula(name):
     judge(lambda text: formula_of(text, ["X", "a", "a 1", text[:1000]]),
           lambda size: repeated(name, size))
+
+
+# Plans, and lists of them
+
+@pytest.mark.parametrize("name", REPEATED)
+def test_words_of_a_plan(name):
+    grid = Grid.of([Decimal(0)] * 3 + [Decimal(10)] * 3)
+
+    def step(text):
+        for option in ("name", "price", "mining", "periods", "rate"):
+            tried(plan_from, Spoken(**{option: text}), grid, ["a"], 5)
+        for option in ("mill", "leach", "dump", "slope", "limit"):
+            tried(plan_from, Spoken(**{option: ["a: " + text]}), grid, ["a"], 5)
+        for words in (text, "1" + text + "x", "45, " + text + "x", "1-2" + text + "x"):
+            tried(price_of, words, 1, Purse())
+            tried(sides_of, words, 0, Told())
+    judge(step, lambda size: repeated(name, size))
+
+
+@pytest.mark.parametrize("name", REPEATED)
+def test_a_list_of_plans(tmp_path, name):
+    path = tmp_path / "LIST"
+
+    def step(text):
+        path.write_text(text, encoding="utf-8")
+        read_list(str(path))
+    judge(step, lambda size: repeated(name, size))
+
+
+def test_a_list_of_plans_has_lines_of_measure(tmp_path):
+    (tmp_path / "LIST").write_text("\n" + "a" * (1 << 19))
+    with pytest.raises(UserError, match="line 2: it has more than 266,240 bytes"):
+        read_list(str(tmp_path / "LIST"))
+
+
+# Files of instances
+
+@pytest.mark.parametrize("name", REPEATED)
+def test_numbers_of_other_programs(tmp_path, name):
+    path = tmp_path / "a.blocks"
+
+    def step(text):
+        for cell in (text, "1" + text.replace("\n", "") + "x"):
+            path.write_text(f"1 2 1e400\n1 {cell} 1e300\n", encoding="utf-8")
+            for piece in pieces_of(str(path)):
+                tried(numbers_of, piece, [1, 2], "a line")
+    judge(step, lambda size: repeated(name, size))
