@@ -3,7 +3,7 @@ from __future__ import annotations
 
 from dataclasses import dataclass
 from decimal import Decimal, InvalidOperation
-from typing import Iterator, Sequence
+from typing import Iterator, Optional, Sequence
 
 import numpy as np
 
@@ -67,8 +67,10 @@ def priced(plan: Plan, factor: Decimal) -> Plan:
     return plan_of(varied(plan.text(), plan.name, [("price", f"x{factor:f}")]))
 
 
-def nested_pits(facts: Facts, factors: Sequence[Decimal]) -> Iterator[NestedPit]:
-    """The pits at these factors, which rise, the greatest first. Each lies within that before it.
+def nested_pits(facts: Facts, factors: Sequence[Decimal],
+                within: Optional[np.ndarray] = None) -> Iterator[NestedPit]:
+    """The pits at these factors, which rise, the greatest first. Each lies within that before it,
+    and the first within the pit of a greater factor, bool (n,), where one is known.
 
     Raises UserError where the values of the instance are not the plan's, so that prices say nothing
     of them.
@@ -77,7 +79,7 @@ def nested_pits(facts: Facts, factors: Sequence[Decimal]) -> Iterator[NestedPit]
         raise UserError(f"{with_commas(facts.strange_values)} values of the instance are not those "
                         "of this plan, so its prices do not say what they would be")
     plan, blocks = facts.plan, facts.blocks
-    ids = np.arange(len(blocks))
+    ids = np.arange(len(blocks)) if within is None else np.flatnonzero(within)
     for factor in reversed(factors):
         progress.step(f"factor {factor}")
         values = values_of(priced(plan, factor), blocks.taken(ids)).max(axis=1) / 100

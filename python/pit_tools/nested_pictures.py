@@ -10,13 +10,14 @@ from matplotlib.figure import Figure
 from matplotlib.lines import Line2D
 
 from pit_tools.nested import NestedPit
-from pit_tools.pictures import (Plane, draw_plane, figure, grade_legend, plane_heights, richest)
+from pit_tools.pictures import (ORE, WASTE, Plane, draw_plane, figure, grade_legend, plane_heights,
+                                richest)
 from pit_tools.survey_facts import Facts
 
 if TYPE_CHECKING:
     from matplotlib.axes import Axes
 
-ORE, WASTE, VALUE, STRIP = "#d98032", "#c9c4b8", "#111111", "#4c78a8"
+VALUE, STRIP = "#111111", "#4c78a8"
 
 
 def nested_picture(facts: Facts, pits: Sequence[NestedPit]) -> Figure:

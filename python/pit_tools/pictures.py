@@ -2,7 +2,7 @@
 from __future__ import annotations
 
 import io
-from typing import Any, Callable, NamedTuple, Optional, Sequence
+from typing import Any, Callable, Iterator, NamedTuple, Optional, Sequence
 
 import matplotlib
 import numpy as np
@@ -19,7 +19,9 @@ from pit_tools.errors import UserError
 from pit_tools.formats import MOST_HEIGHT
 from pit_tools.look_at import tonnes_covered
 from pit_tools.spelling import shortest
+from pit_tools.report import Line
 from pit_tools.survey_facts import Facts
+from pit_tools.survey_pit import cumulative, pit_parts
 from pit_tools.survey_text import above_cut_offs
 
 #: From barren to rich.
@@ -33,6 +35,8 @@ ZONE_COLOURS = ("#4c78a8", "#e0a030", "#72a86b", "#b279a2", "#9d755d", "#79b8b2"
 matplotlib.rcParams["text.parse_math"] = False
 
 OUTLINE, SIDE, GROUND = "#111111", "#d00000", "#7a5c2e"
+
+ORE, WASTE = "#d98032", "#c9c4b8"
 
 
 def figure(wide: float, high: float) -> Figure:
@@ -482,4 +486,83 @@ def all_of_them(facts: Facts, asked: Sequence[Plane] = ()) -> list[tuple[str, st
         if asked or name != "more-sections":
             progress.step(f"draws {name}")
             found.append((name, told, draw()))
-    return found
+    return [*found, *_of_the_pit(facts)]
+
+
+def _of_the_pit(facts: Facts) -> Iterator[tuple[str, str, Figure]]:
+    """What the pit holds by zone, and its cash flow by bench and by nested pit, as far as each is
+    known."""
+    parts = pit_parts(facts)
+    if parts is None:
+        return
+    progress.step("draws the pit by zone and its cash flow")
+    yield ("zones-of-the-pit", "Which zones carry the pit? Lay the tonnes beside those of the "
+           "package's own pit.", zones_of_the_pit(facts, parts.zones[:-1]))
+    benches = parts.benches[:-1]
+    yield ("cash-flow", "From the top bench down, undiscounted: how far the pit is in debt before "
+           "its ore pays.", cash_flow(facts, benches, [
+               f"z = {shortest(line.z or 0.0, 3)}" for line in benches]))
+    if parts.nested:
+        yield ("nested-pits", "What each nested pit adds to that before it, at the plan's price: "
+               "where the sum rises little, the last pit risks much for little.",
+               cash_flow(facts, parts.nested, [f"factor {line.name}" for line in parts.nested]))
+
+
+#: Zones, and lines of cash flow, that a picture has room for.
+MOST_BARS = 60
+
+
+def zones_of_the_pit(facts: Facts, lines: Sequence[Line]) -> Figure:
+    """Tonnes of ore and waste, the grade of ore, and the value of each zone in the pit; of very
+    many zones those with most tonnes."""
+    heavy = sorted(lines, key=lambda line: -line.sums.ore - line.sums.waste)[:MOST_BARS]
+    shown = [line for line in lines if line in heavy]
+    drawn = figure(14, 1.4 + 0.34 * max(4, len(shown)))
+    tonnes, grade, value = drawn.subplots(1, 3, sharey=True)
+    at = np.arange(len(shown))
+    ore, waste = (np.array([getattr(line.sums, name) for line in shown]) / 1e6
+                  for name in ("ore", "waste"))
+    tonnes.barh(at, ore, color=ORE, label="ore")
+    tonnes.barh(at, waste, left=ore, color=WASTE, label="waste")
+    zones = [facts.zone_names.index(line.name) for line in shown]
+    tonnes.set_yticks(at, [zone_label(facts, zone) for zone in zones])
+    tonnes.invert_yaxis()
+    tonnes.legend(fontsize=8)
+    colours = list(map(zone_colour, zones))
+    grade.barh(at, [facts.measures.grade(line.sums.grade) for line in shown], color=colours)
+    value.barh(at, [facts.measures.money(line.sums.value) / 1e6 for line in shown], color=colours)
+    value.axvline(0, color="#888888", linewidth=0.8)
+    more = f", the {len(shown)} zones with most tonnes" if len(shown) < len(lines) else ""
+    for axes, title in ((tonnes, f"million t in the pit{more}"),
+                        (grade, f"grade of its ore, {facts.measures.grade_unit}"),
+                        (value, f"value, {_millions(facts)}")):
+        axes.set_title(title, loc="left", fontsize=10)
+    return drawn
+
+
+def cash_flow(facts: Facts, lines: Sequence[Line], names: Sequence[str]) -> Figure:
+    """What the ore of each line is worth and its waste costs, and the sum of all lines down to
+    each."""
+    drawn = figure(13, 1.4 + 0.22 * max(6, min(len(lines), MOST_BARS)))
+    flow, total = drawn.subplots(1, 2, sharey=True)
+    at = np.arange(len(lines))
+    ore, cost, value = (
+        np.array([facts.measures.money(getattr(line.sums, name)) for line in lines]) / 1e6
+        for name in ("value_of_ore", "cost", "value"))
+    flow.barh(at, ore, color=ORE, label="value of ore")
+    flow.barh(at, -cost, color=WASTE, label="cost of waste")
+    flow.plot(value, at, color=OUTLINE, marker=".", linestyle="none", label="cash flow")
+    step = max(1, int(np.ceil(len(at) / MOST_BARS)))
+    flow.set_yticks(at[::step], names[::step])
+    flow.invert_yaxis()
+    flow.legend(fontsize=8)
+    total.plot(facts.measures.money(cumulative(lines)) / 1e6, at, color=OUTLINE, marker=".")
+    total.grid(alpha=0.3)
+    for axes, title in ((flow, "cash flow"), (total, "cumulative")):
+        axes.axvline(0, color="#888888", linewidth=0.8)
+        axes.set_title(f"{title}, {_millions(facts)}", loc="left", fontsize=10)
+    return drawn
+
+
+def _millions(facts: Facts) -> str:
+    return f"million {facts.measures.currency or 'units of 100 cents'}"

@@ -2,7 +2,7 @@
 destination and period, as text and as tables."""
 from __future__ import annotations
 
-from typing import Iterator, NamedTuple, Optional
+from typing import Iterator, NamedTuple, Optional, Sequence
 
 import numpy as np
 
@@ -15,8 +15,8 @@ from pit_tools.valuation import recoveries
 
 
 class Sums(NamedTuple):
-    """What some lines hold: blocks, by their shares; tonnes; g/t; kilograms; and value in units of
-    100 of what the plan counts."""
+    """What some lines hold: blocks, by their shares; tonnes; g/t; kilograms; and in units of 100 of
+    what the plan counts their value, and the cost of their waste, which the value has in it."""
 
     blocks: float
     ore: float
@@ -25,6 +25,12 @@ class Sums(NamedTuple):
     recovered: float
     waste: float
     value: float
+    cost: float
+
+    @property
+    def value_of_ore(self) -> float:
+        """The value before the waste is paid for."""
+        return self.value + self.cost
 
     @property
     def strip(self) -> Optional[float]:
@@ -93,27 +99,47 @@ class Report:
         self.recovered = self.metal * shares[np.arange(len(grades)), self.destination] / 1000
 
     def sums(self, taken: Optional[np.ndarray] = None) -> Sums:
-        """The sums of some lines, those of a mask, or all."""
-        taken = np.ones(len(self.block), dtype=bool) if taken is None else taken
-        ore = taken & ~self.is_waste
-        ore_t, metal = self.tonnes[ore].sum(), self.metal[ore].sum()
+        """The sums of some lines, those of a mask or of places, or all."""
+        taken = np.arange(len(self.block)) if taken is None else taken
+        tonnes, value, is_waste = self.tonnes[taken], self.value[taken], self.is_waste[taken]
+        ore_t, metal = tonnes[~is_waste].sum(), self.metal[taken][~is_waste].sum()
         return Sums(self.share[taken].sum(), ore_t, 1000 * metal / ore_t if ore_t else 0, metal,
-                    self.recovered[taken].sum(), self.tonnes[taken & self.is_waste].sum(),
-                    self.value[taken].sum())
+                    self.recovered[taken].sum(), tonnes[is_waste].sum(), value.sum(),
+                    0.0 - value[is_waste].sum())
+
+    def by(self, key: np.ndarray) -> dict[int, Sums]:
+        """The sums of the lines of each key, int (n,), in rising order of the keys."""
+        order = np.argsort(key, kind="stable")
+        keys, first = np.unique(key[order], return_index=True)
+        return {int(one): self.sums(taken)
+                for one, taken in zip(keys, np.split(order, first[1:]))}
 
     # The lines of each part
 
     def benches(self) -> list[Line]:
         """A line for each bench, the highest first, and one of all."""
-        z = self.facts.blocks.z[self.block]
-        lines = [Line(str(bench), self.sums(z == bench), self.facts.centroid(2, bench))
-                 for bench in np.unique(z)[::-1]]
+        found = self.by(self.facts.blocks.z[self.block])
+        lines = [Line(str(bench), sums, self.facts.centroid(2, bench))
+                 for bench, sums in found.items()][::-1]
         return [*lines, Line("all", self.sums())]
+
+    def zones(self) -> list[Line]:
+        """A line for each zone by its name, in the plan's order, and one of all. A zone that is cut
+        into several files, so that its name stands several times, is one."""
+        names = list(dict.fromkeys(self.facts.zone_names))
+        numbers = np.array([names.index(name) for name in self.facts.zone_names])
+        zone = numbers[self.facts.blocks.zone[self.block]]
+        return [*self.named(zone, names), Line("all", self.sums())]
+
+    def named(self, key: np.ndarray, names: Sequence[str]) -> list[Line]:
+        """A line for each name, of the lines whose key, int (n,), is its number; there may be
+        none."""
+        found, none = self.by(key), self.sums(np.empty(0, dtype=np.int64))
+        return [Line(name, found.get(number, none)) for number, name in enumerate(names)]
 
     def destinations(self) -> list[Line]:
         """A line for each destination, in the plan's order."""
-        return [Line(one.name, self.sums(self.destination == number))
-                for number, one in enumerate(self.facts.plan.destinations)]
+        return self.named(self.destination, [one.name for one in self.facts.plan.destinations])
 
     def periods(self) -> list[Line]:
         """Of a schedule a line for each period, and one of all."""

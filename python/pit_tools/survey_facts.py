@@ -23,7 +23,6 @@ from pit_tools.instance import (Blocks, Outline, count_predecessors, read_blocks
 from pit_tools.plan_file import Plan, read_plan
 from pit_tools.plan_note import PlanNote, read_note
 from pit_tools.slope_words import Judgement, judge
-from pit_tools.spelling import with_commas
 from pit_tools.units import Numbers
 from pit_tools.valuation import values_of
 from pit_tools.zone_files import count_lines
@@ -33,6 +32,9 @@ MOST_PLACES = 1 << 28
 
 #: Places of all cones up to which the ultimate pit is sought: a minute or two.
 MOST_PLACES_OF_CONES = 5_000_000_000
+
+#: Arcs up to which HiGHS seeks it, where no compiler is there.
+MOST_ARCS_OF_HIGHS = 200_000
 
 
 @dataclass(frozen=True)
@@ -324,13 +326,23 @@ class Facts:
         wide, or no compiler is there and it is too great for HiGHS."""
         if self._pit is not None:
             return self._pit
-        if self._places_of_cones() > MOST_PLACES_OF_CONES:
-            return None
-        if not is_compiled() and self.arcs.sum() > 200_000:
+        if not self.is_soon_found(MOST_PLACES_OF_CONES, MOST_ARCS_OF_HIGHS):
             return None
         progress.step("finds the ultimate pit")
         return pit_by_cones(self.greatest, self.blocks, self.plan)
 
+    @property
+    def is_pit_given(self) -> bool:
+        """Whether the pit is another's, and was not sought."""
+        return self._pit is not None
+
+    def is_soon_found(self, places: int, arcs: int) -> bool:
+        """Whether a pit is to be sought: by the program of C++ where cones have no more places than
+        these, and where no compiler is there by HiGHS, where there are no more arcs either."""
+        return (self._places_of_cones <= places
+                and (is_compiled() or int(self.arcs.sum()) <= arcs))
+
+    @cached_property
     def _places_of_cones(self) -> int:
         """How many places the cones of all blocks have, by those of a block with rock all about."""
         reach = [axis.most - axis.least for axis in self.axes]

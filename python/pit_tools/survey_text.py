@@ -13,6 +13,7 @@ from pit_tools.report import pit_sums
 from pit_tools.slope_words import too_steep_by_rise
 from pit_tools.spelling import shortest, with_commas
 from pit_tools.survey_facts import Facts, Rock
+from pit_tools.survey_pit import bench_lines, nested_lines, zone_lines
 
 #: Grams of a troy ounce, and kilograms of a pound.
 OUNCE, POUND = 31.1034768, 0.45359237
@@ -21,7 +22,7 @@ OUNCE, POUND = 31.1034768, 0.45359237
 def survey_text(facts: Facts) -> str:
     """All parts, with a blank line between."""
     parts = [_head, _look_at, _notes, _places, _rock, _cutoffs, _benches, _slopes, _heights, _sides,
-             _destinations, _best_for, _resources, _files]
+             _destinations, _best_for, zone_lines, bench_lines, nested_lines, _resources, _files]
     texts = ("".join(f"{line}\n" for line in part(facts)) for part in parts)
     return "\n".join(filter(None, texts))
 

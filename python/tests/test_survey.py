@@ -50,7 +50,7 @@ def test_numbers_are_those_of_the_awk_survey(surveyed):
     for part in wanted.split("\n\n"):
         assert parts[part.split(maxsplit=1)[0]] == part.strip()
     assert set(parts) - {part.split(maxsplit=1)[0] for part in wanted.split("\n\n")} == {
-        "LOOK", "NOTE", "CUT-OFFS", "WALLS", "SIDES"}
+        "LOOK", "NOTE", "CUT-OFFS", "WALLS", "SIDES", "ZONES", "CASH", "NESTED"}
 
 
 def test_what_leaves_the_model_and_the_pit_at_its_sides(surveyed):
@@ -94,7 +94,7 @@ def test_the_page_stands_alone_and_has_its_pictures(surveyed, tmp_path):
     base, zones = surveyed
     page = survey_page(read_facts(base + ".plan", base, zones), Inputs(base + ".plan", base, zones))
     pictures = re.findall(r'src="data:image/png;base64,([^"]+)"', page)
-    assert len(pictures) == 6 and not re.search(r'(src|href)="(?!data:|#)', page)
+    assert len(pictures) == 9 and not re.search(r'(src|href)="(?!data:|#)', page)
     for picture in pictures:
         assert base64.b64decode(picture)[:8] == b"\x89PNG\r\n\x1a\n"
     assert "at a side of the model" in page and "<pre>deposit: 3 zones" in page
@@ -194,7 +194,8 @@ def test_a_section_that_is_asked_for_stands_on_the_page(tmp_path):
     facts = read_facts(base + ".plan", base)
     names = [name for name, _, _ in all_of_them(facts, [plane_at(facts, "x", 12),
                                                         plane_at(facts, "z", 0)])]
-    assert names == ["maps", "sections", "more-sections", "cut-offs", "slopes", "periods", "rock"]
+    assert names == ["maps", "sections", "more-sections", "cut-offs", "slopes", "periods", "rock",
+                     "zones-of-the-pit", "cash-flow", "nested-pits"]
     assert plane_at(facts, "x", 12) == ("x", 1)
 
 

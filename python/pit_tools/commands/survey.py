@@ -11,7 +11,8 @@ if TYPE_CHECKING:
 HELP = """\
 Tells what was understood of a plan and its zone files: first LOOK AT, what is odd, in words; then
 places, rock, tonnes and grade above cut-offs, benches, slopes asked and given, walls by height,
-sides of the model, destinations, resources, and whether the files are those of the plan.
+sides of the model, destinations, what the pit holds by zone, its cash flow by bench and by nested
+pit, resources, and whether the files are those of the plan.
 
     pit-tools survey deposit.plan deposit oxide.csv west.csv east.csv --html survey.html
 
@@ -19,16 +20,16 @@ reads deposit.blocks, deposit.prec and deposit.pcpsp; zone files, in the order o
 are named, and their lines counted. The page begins with a box to hand on: the pit, the date and
 versions, the plan in words, what import left out, and the sums of the files. It has pictures
 besides: maps of metal, of the ground and of the floor of the ultimate pit, sections and a bench,
-the grade-tonnage curve, slopes as a rose, tonnes by period, and the pit with its ore, to turn. It
-opens without a network.
+the grade-tonnage curve, slopes as a rose, tonnes by period, the pit by zone and its cash flow, and
+the pit with its ore, to turn. It opens without a network.
 
 Units and names of zones are those of the note deposit.plan.json, which `pit-tools plan` writes.
 """
 
 WRITES = "surveys and pictures"
 
-#: How many pictures a survey has at the least, each of which is a step.
-PICTURES = 6
+#: How many steps the pictures of a survey are at the least.
+PICTURES = 7
 
 
 def add_arguments(parser: argparse.ArgumentParser) -> None:
