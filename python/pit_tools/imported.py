@@ -1,7 +1,6 @@
 """Reads BASE.json, in which `pit-tools import` keeps what it read of an export."""
 from __future__ import annotations
 
-import json
 import os
 from dataclasses import dataclass
 from operator import index
@@ -15,6 +14,7 @@ from pit_tools.gridding import Frame
 from pit_tools.plan_file import Grid
 from pit_tools.plan_note import PlanNote
 from pit_tools.reconciling import Reconciled
+from pit_tools.records import read_json
 from pit_tools.units import grade_unit_of
 
 
@@ -54,16 +54,14 @@ class ImportedFile:
 def read_imported(path: str) -> ImportedFile:
     """Reads BASE.json. It raises UserError where it is none, OSError where it cannot be read."""
     outputs.reads(path)
-    with open(path, encoding="utf-8", errors="replace") as file:
-        try:
-            told = json.load(file)
-            if "turn" in told:
-                raise UserError(f"{path}: an older pit-tools wrote it, without the unit of the "
-                                "export's coordinates: import again")
-            return _imported(told, path)
-        except (ValueError, KeyError, TypeError, AttributeError, ArithmeticError, RecursionError):
-            raise UserError(f"{path}: it is not what `pit-tools import` writes as "
-                            "BASE.json") from None
+    try:
+        told = read_json(path, "replace")
+        if "turn" in told:
+            raise UserError(f"{path}: an older pit-tools wrote it, without the unit of the "
+                            "export's coordinates: import again")
+        return _imported(told, path)
+    except (ValueError, KeyError, TypeError, AttributeError, ArithmeticError, RecursionError):
+        raise UserError(f"{path}: it is not what `pit-tools import` writes as BASE.json") from None
 
 
 def _imported(told: dict, path: str) -> ImportedFile:

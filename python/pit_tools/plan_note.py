@@ -81,8 +81,7 @@ def read_note(plan_path: str) -> PlanNote:
         return PlanNote(why_not=f"{path} was written for another plan than {plan_path} is now: "
                         + NOT_TAKEN)
     try:
-        with open(path, encoding="utf-8") as file:
-            return _note_of(json.load(file))
+        return _note_of(records.read_json(path))
     except (OSError, ValueError, KeyError, TypeError, AttributeError, RecursionError, UserError):
         return PlanNote(why_not=f"{path} is not what `pit-tools plan` writes beside a plan: "
                         + NOT_TAKEN)

@@ -18,7 +18,7 @@ import os
 import re
 import stat
 from dataclasses import dataclass
-from typing import Iterable, Iterator, Optional
+from typing import Any, Iterable, Iterator, Optional
 
 from pit_tools import VERSION
 from pit_tools.errors import UserError
@@ -29,6 +29,9 @@ ENDING = ".sums"
 _NAMED = re.compile(r"(?:.*\.sums|MANIFEST|SUMS)(?:\.unfinished-[\d.]+)?", re.DOTALL)
 
 _BEGINS = '# {"tool": "pit-tools '
+
+#: Bytes that a record may have, and a file of JSON.
+MOST_BYTES, MOST_JSON = 1 << 28, 1 << 24
 
 
 def sum_of(path: str) -> str:
@@ -52,6 +55,16 @@ def status_of(path: str) -> Optional[os.stat_result]:
 def is_unfinished(path: str) -> bool:
     """Whether a name is that of a file that is not in its place yet."""
     return re.search(r"\.unfinished-\d+(\.\d+)?$", path) is not None
+
+
+def read_json(path: str, errors: str = "strict") -> Any:
+    """What a file of JSON in UTF-8 says. Raises ValueError or RecursionError for one that says
+    nothing or has more than 16 MB, OSError if it cannot be read."""
+    with open(path, "rb") as file:
+        content = file.read(MOST_JSON + 1)
+    if len(content) > MOST_JSON:
+        raise ValueError(f"{path}: it has more than {MOST_JSON:,} bytes")
+    return json.loads(content.decode("utf-8", errors))
 
 
 @dataclass(frozen=True)
@@ -121,10 +134,13 @@ def read_record(path: str) -> Optional[Record]:
     if status is None or not stat.S_ISREG(status.st_mode):
         return None
     with open(path, encoding="utf-8", errors="surrogateescape", newline="\n") as file:
-        first = file.readline()
-        if not first.startswith(_BEGINS):
+        if file.read(len(_BEGINS)) != _BEGINS:
             return None
-        lines = file.read().split("\n")
+        if status.st_size > MOST_BYTES:
+            raise UserError(f"{path}: it has more than {MOST_BYTES:,} bytes, so it is no record "
+                            "of sums: remove it")
+        first, _, rest = (_BEGINS + file.read()).partition("\n")
+    lines = rest.split("\n")
     try:
         head = json.loads(first[2:])
         files = [File.of_line(line, size) for line, size in zip(lines[:-1], head["bytes"])]

@@ -15,9 +15,11 @@ from pit_tools.batch_list import read_list
 from pit_tools.cli import main
 from pit_tools.errors import UserError
 from pit_tools.formulas import formula_of
+from pit_tools.imported import read_imported
 from pit_tools.plan_file import Grid
 from pit_tools.plan_words import Purse, Spoken, Told, plan_from, price_of, sides_of
 from pit_tools.published_lines import numbers_of, pieces_of
+from pit_tools.records import read_record
 
 # Characters of a small text and of a large one. A reader whose time grows with the square of the
 # size takes 256 times as long for the large one, and by the margin it may take 80 times.
@@ -212,3 +214,25 @@ def test_numbers_of_other_programs(tmp_path, name):
             for piece in pieces_of(str(path)):
                 tried(numbers_of, piece, [1, 2], "a line")
     judge(step, lambda size: repeated(name, size))
+
+
+# Files of JSON, and records
+
+@pytest.mark.parametrize("text", ["[" * (1 << 20), " " * (1 << 25) + "{}", '{"told": 1' + "1" * 5000])
+def test_a_file_of_json_has_a_measure(tmp_path, text):
+    path = tmp_path / "from.json"
+    path.write_text(text)
+    assert seconds_of(tried, read_imported, str(path)) < 1
+    with pytest.raises(UserError, match="it is not what `pit-tools import` writes"):
+        read_imported(str(path))
+
+
+def test_a_vast_file_beside_is_not_read_as_a_record(tmp_path):
+    path = tmp_path / "a.sums"
+    with open(path, "wb") as file:
+        file.truncate(1 << 32)
+    assert read_record(str(path)) is None
+    with open(path, "r+b") as file:
+        file.write(b'# {"tool": "pit-tools 1", "bytes": []}\n')
+    with pytest.raises(UserError, match="it has more than 268,435,456 bytes"):
+        read_record(str(path))
