@@ -11,6 +11,7 @@ by itself.
 from __future__ import annotations
 
 from dataclasses import dataclass
+from functools import partial
 from typing import IO, Iterable, Iterator, Optional, Sequence, Union
 
 import numpy as np
@@ -346,7 +347,7 @@ def solve(program: Program, seconds: Optional[float] = None, ratio: float = 0.0,
 
     Raises UserError if HiGHS says that the program is unbounded, or ends without an answer.
     """
-    answer = within(lambda: _solved(program, seconds, ratio, bounds),
+    answer = within(partial(_solved, program, seconds, ratio, bounds),
                     None if seconds is None else seconds + GRACE)
     return answer or Answer("stopped", None, None, None, "none was found so far")
 

@@ -2,6 +2,7 @@
 known."""
 import itertools
 import os
+import select
 import time
 
 import numpy as np
@@ -103,20 +104,41 @@ def test_a_schedule_that_does_not_hold_is_not_taken():
     assert alone.worth(problem) == 100 and not search._take(alone, "given") and search.best is None
 
 
-@pytest.mark.parametrize("hang", [lambda *_, **__: time.sleep(1000),
-                                  lambda *_, **__: [sum(range(10**6)) for _ in itertools.count()]],
-                         ids=["sleeps", "computes"])
-@pytest.mark.parametrize("kind", ["cpit", "pcpsp"])
+# Steps of a process of their own, which it finds in this module.
+
+
+def sleeping(*_):
+    time.sleep(1000)
+
+
+def computing(*_):
+    return [sum(range(10**6)) for _ in itertools.count()]
+
+
+def refusing():
+    raise UserError("no")
+
+
+def ending():
+    os.kill(os.getpid(), 9)
+
+
+def printing():
+    print("told by a library")
+    return np.arange(10**6)
+
+
+@pytest.mark.parametrize("kind, hang", [("cpit", computing), ("pcpsp", sleeping)])
 def test_a_solver_that_never_ends_is_ended_and_a_start_is_left(tmp_path, monkeypatch, capsys, kind,
                                                                hang):
     base = mines.six_blocks(tmp_path, ("limit,fleet,0,I,0,120000\n", ""))
     files = [f"{base}.{kind}", base + ".prec"]
     assert main(["solve", *files, "--seconds", "0"]) == 0
     best = float(capsys.readouterr().out.split()[2].rstrip(","))
-    monkeypatch.setattr(programs.optimize, "milp", hang)
+    monkeypatch.setattr(programs, "_solved", hang)
     begun = time.monotonic()
-    assert main(["solve", *files, "--seconds", "2", "--out", base + ".schedule"]) == 0
-    assert time.monotonic() - begun < 30
+    assert main(["solve", *files, "--seconds", "8", "--out", base + ".schedule"]) == 0
+    assert time.monotonic() - begun < 60
     said = capsys.readouterr().out
     worth, bound = (float(word.rstrip(",")) for word in (said.split()[2], said.split()[4]))
     assert said.startswith("stopped: worth ") and 0 < worth <= best <= bound
@@ -127,14 +149,22 @@ def test_a_solver_that_never_ends_is_ended_and_a_start_is_left(tmp_path, monkeyp
 
 
 def test_what_a_step_in_a_process_raises_is_raised():
-    def refuse():
-        raise UserError("no")
     with pytest.raises(UserError, match="no"):
-        within(refuse, 10)
+        within(refusing, 30)
     with pytest.raises(UserError, match="ended without an answer"):
-        within(lambda: os.kill(os.getpid(), 9), 10)
-    assert within(lambda: np.arange(10**6), 60).sum() == 499999500000
-    assert within(lambda: time.sleep(100), 0.1) is None
-    beside = Beside(lambda: np.arange(10**6))
-    time.sleep(1)
+        within(ending, 30)
+    assert within(printing, 60).sum() == 499999500000
+    assert within(sleeping, 0.1) is None
+    beside = Beside(printing)
+    assert select.select([beside.child.stdout], [], [], 60)[0]
     assert beside.result(0.0).sum() == 499999500000
+
+
+def test_a_solver_ends_in_a_program_that_has_used_it(tmp_path):
+    """HiGHS keeps threads, which a copy of this process would wait for and not have."""
+    base = mines.six_blocks(tmp_path)
+    mine = read_instance(base)
+    program = program_of(mine.cpit, mine.precedence)
+    best = programs._solved(program, None, 0.0, None)
+    assert best.status == "best"
+    assert solve(program, 60).value == best.value

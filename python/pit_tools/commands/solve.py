@@ -47,6 +47,7 @@ def add_arguments(parser: argparse.ArgumentParser) -> None:
 
 def run(args: argparse.Namespace) -> int:
     import time
+    from functools import partial
 
     from pit_tools import outputs
     from pit_tools.ended import Beside
@@ -61,7 +62,7 @@ def run(args: argparse.Namespace) -> int:
     outputs.judged(args.out)
     end = time.monotonic() + args.seconds
     # A schedule that is known while HiGHS has none yet.
-    beside = (Beside(lambda: start_of(problem, precedence))
+    beside = (Beside(partial(start_of, problem, precedence))
               if args.seconds and not args.relaxed else None)
     try:
         program = program_of(problem, precedence, args.relaxed, args.whole)
