@@ -32,12 +32,17 @@ def locked(folder: str, part: Part = Part()) -> Iterator[None]:
 def held(base: str) -> Iterator[None]:
     """Holds the base of an instance for one command, by a file that goes with the lock.
 
-    Raises UserError where another one holds it."""
+    Raises UserError where another one holds it, or its folder cannot be written."""
     path = os.path.join(os.path.dirname(base), f".{os.path.basename(base)}.lock")
     with ExitStack() as opened:
         while True:
-            descriptor = _lock(opened, path, fcntl.LOCK_EX,
-                               f"{base}: another command writes this instance: wait for its end")
+            try:
+                descriptor = _lock(opened, path, fcntl.LOCK_EX,
+                                   f"{base}: another command writes this instance: wait for its "
+                                   "end")
+            except OSError as error:
+                raise UserError(f"{base}: its folder cannot be written ({error.strerror}): name "
+                                "another place, or let the folder be written") from None
             try:
                 if os.path.samestat(os.fstat(descriptor), os.stat(path)):
                     break

@@ -431,8 +431,12 @@ class _Group:
         for record in (one for one in older if one.is_put):
             left = tuple(file for file in record.outputs if record.at(file) not in targets)
             if record.path in self.others:
-                self._take_others(record.path, left)
-                left = ()
+                # Another command may have written a plan, say, whose record has the same name.
+                is_same = _Command.now is not None and record.command == _Command.now.name
+                stale = tuple(file for file in left
+                              if is_same or record.at(file) in self.others[record.path])
+                self._take_others(record.path, stale)
+                left = tuple(file for file in left if file not in stale)
             if record.path not in made and len(left) < len(record.outputs):
                 texts[record.path] = replace(record, outputs=left).text if left else None
         for path in list(self.others):
@@ -778,12 +782,13 @@ def opened_or_printed(place: Optional[str], kind: str, encoding: str,
 
 def record_of(base: str, paths: Iterable[str]) -> None:
     """Writes the record of files that another program wrote for the command that runs."""
-    path, command = os.path.abspath(base + records.ENDING), _Command.now
+    path, command = base + records.ENDING, _Command.now
+    above = os.path.realpath(os.path.dirname(path))
     assert command is not None
     with looking():
-        files = tuple(File.of(one, os.path.dirname(path)) for one in paths)
-        inputs = command.reading.inputs(os.path.dirname(path), ())
-    with opened(base + records.ENDING, "sums", "utf-8") as file:
+        files = tuple(File.of(one, above) for one in paths)
+        inputs = command.reading.inputs(above, ())
+    with opened(path, "sums", "utf-8") as file:
         file.write(Record(path, command.name, files, inputs).text)
 
 

@@ -213,6 +213,36 @@ def test_a_zone_that_is_no_more_loses_its_file_unless_it_was_edited(here, capsys
     assert names_of(read_record("from.json.sums").outputs) == ["from-east.csv", "from.json"]
 
 
+def test_files_of_another_command_stay_where_its_record_has_the_name(here):
+    assert main(["mine2" if word == "mine.plan" else word for word in PLAN]) == 0
+    plan, note = (here / "mine2").read_text(), (here / "mine2.json").read_text()
+    assert main(["read", "mine", "--write", "mine2"]) == 0
+    assert (here / "mine2").read_text() == plan and (here / "mine2.json").read_text() == note
+    assert (here / "mine2.blocks").exists()
+
+
+def test_a_record_names_its_inputs_where_a_link_leads_to_its_folder(here):
+    (here / "far" / "away").mkdir(parents=True)
+    (here / "link").symlink_to(here / "far" / "away")
+    assert main(["link/mine" if word == "mine" else word for word in COMPILE]) == 0
+    made = read_record(str(here / "far" / "away" / "mine.sums"))
+    assert [made.at(file) for file in made.inputs] == [
+        os.path.realpath(name) for name in ("mine.plan", *ZONES)]
+
+
+def test_compile_refuses_sums_of_the_user_before_it_replaces_files(here, capsys):
+    (here / "mine.sums").write_text(f"{'0' * 64}  notes.txt\n")
+    (here / "mine.blocks").write_text("old\n")
+    assert "mine.sums" in refusal(COMPILE, capsys)
+    assert (here / "mine.blocks").read_text() == "old\n"
+
+
+def test_compile_names_the_base_where_its_folder_cannot_be_written(here, capsys):
+    told = refusal(["nowhere/mine" if word == "mine" else word for word in COMPILE], capsys)
+    assert told == ("pit-tools compile: nowhere/mine: its folder cannot be written (No such file "
+                    "or directory): name another place, or let the folder be written\n")
+
+
 def test_a_refused_stat_is_an_error(here, monkeypatch, capsys):
     real = os.stat
 

@@ -43,6 +43,9 @@ def run(args: argparse.Namespace) -> int:
             words += [f"--{name}", value]
     reads = [path for path in (args.plan, *args.zones) if path]
     outputs.reads(*reads)
+    if args.out:
+        # Before pitc replaces files that no record would name afterwards.
+        outputs.judged_old(f"{args.out}.sums", "sums")
     with held(args.out) if args.out else nullcontext():
         status = compile_shown([*words, "--", *args.zones], reads, args.out or "")
         if args.out and not status:
