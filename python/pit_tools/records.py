@@ -155,20 +155,24 @@ def read_record(path: str) -> Optional[Record]:
 
 
 def records_in(folder: str, is_replacing: bool = False) -> Iterator[Record]:
-    """The records in a folder. One that is damaged raises UserError; it is left out where it may be
-    replaced, or where a run was ended while writing it."""
+    """The records in a folder. One that is damaged or cannot be read raises UserError; it is left
+    out where it may be replaced, or where a run was ended while writing it."""
     try:
         names = os.listdir(folder)
     except PermissionError:
         # Files may be read by name where their folder may not be listed.
         return
     for name in sorted(filter(_NAMED.fullmatch, names)):
+        path = os.path.join(folder, name)
         try:
-            found = read_record(os.path.join(folder, name))
-        except UserError:
+            found = read_record(path)
+        except (UserError, OSError) as error:
             if is_replacing or is_unfinished(name):
                 continue
-            raise
+            if isinstance(error, UserError):
+                raise
+            raise UserError(f"{path}: this record of sums cannot be read ({error.strerror}): let it "
+                            "be read, or move it away") from None
         if found is not None:
             yield found
 

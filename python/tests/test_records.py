@@ -166,6 +166,13 @@ def test_a_damaged_record_is_told_and_replaced(here, capsys, text):
     assert main(IMPORT) == 0 and (here / "from.json.sums").read_text() == whole
 
 
+def test_a_record_that_cannot_be_read_is_named(here, capsys):
+    os.symlink("circle.sums", "circle.sums")
+    assert "circle.sums: this record of sums cannot be read" in refusal(["pit", "mine"], capsys)
+    os.remove("circle.sums")
+    assert main(["pit", "mine"]) == 0
+
+
 def test_names_are_spelled_as_sha256sum_does(tmp_path, monkeypatch):
     monkeypatch.chdir(tmp_path)
     names = ["a b", "a\\b", "a\nb", "\\n", "a\\\nb"]
