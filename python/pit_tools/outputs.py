@@ -415,8 +415,10 @@ class _Group:
             with looking():
                 files = tuple(one.file() for one in self.files if one.record == path)
             if len(files) > 1:
-                inputs = command.reading.inputs(os.path.dirname(path), targets) if command else ()
-                found[path] = Record(path, command.name if command else "", files, inputs)
+                found[path] = Record(path, "", files) if command is None else Record(
+                    path, command.name, files,
+                    command.reading.inputs(os.path.dirname(path), targets),
+                    tuple(command.reading.passed))
         return found
 
     def _judged_records(self) -> dict[str, Optional[str]]:
@@ -789,7 +791,7 @@ def record_of(base: str, paths: Iterable[str]) -> None:
         files = tuple(File.of(one, above) for one in paths)
         inputs = command.reading.inputs(above, ())
     with opened(path, "sums", "utf-8") as file:
-        file.write(Record(path, command.name, files, inputs).text)
+        file.write(Record(path, command.name, files, inputs, tuple(command.reading.passed)).text)
 
 
 def stored(paths: Iterable[str]) -> None:

@@ -8,7 +8,8 @@
 
 A record is written after all that it names. `sha256sum -c` reads it in its folder. The outputs come
 first, and the inputs last; names are relative to the record's folder. A record is NAME.sums, or the
-MANIFEST of a batch, or the SUMS of the library. A file that no record names passes unjudged.
+MANIFEST of a batch, or the SUMS of the library. A file that no record names passes unjudged. Where
+--edited let inputs pass, "edited" has for each its sum and that of the record that it does not fit.
 """
 from __future__ import annotations
 
@@ -102,19 +103,31 @@ class File:
 
 @dataclass(frozen=True)
 class Record:
-    """What a command wrote, and what of."""
+    """What a command wrote, and what of; `edited` has the sums of inputs that --edited let pass,
+    each with that of the record that it does not fit."""
 
     path: str
     command: str
     outputs: tuple[File, ...]
     inputs: tuple[File, ...] = ()
+    edited: tuple[tuple[str, str], ...] = ()
 
     @property
     def text(self) -> str:
-        files = (*self.outputs, *self.inputs)
         head = {"tool": f"pit-tools {VERSION}", "command": self.command,
-                "inputs": len(self.inputs), "bytes": [file.size for file in files]}
-        return f"# {json.dumps(head)}\n" + "".join(file.line for file in files)
+                "inputs": len(self.inputs),
+                "bytes": [file.size for file in (*self.outputs, *self.inputs)],
+                **({"edited": self.edited} if self.edited else {})}
+        return f"# {json.dumps(head)}\n{self._lines}"
+
+    @property
+    def _lines(self) -> str:
+        return "".join(file.line for file in (*self.outputs, *self.inputs))
+
+    @property
+    def sum(self) -> str:
+        """The SHA-256 of the lines of its files."""
+        return hashlib.sha256(self._lines.encode("utf-8", "surrogateescape")).hexdigest()
 
     @property
     def is_put(self) -> bool:
@@ -145,13 +158,14 @@ def read_record(path: str) -> Optional[Record]:
         head = json.loads(first[2:])
         files = [File.of_line(line, size) for line, size in zip(lines[:-1], head["bytes"])]
         count, command = len(files) - head["inputs"], head["command"]
+        edited = tuple((str(one), str(record)) for one, record in head.get("edited", ()))
         if lines[-1] or len(files) != len(lines) - 1 or len(files) != len(head["bytes"]) \
                 or not 0 <= count <= len(files) or not isinstance(command, str):
             raise ValueError(first)
     except (ValueError, KeyError, TypeError, RecursionError):
         raise UserError(f"{path}: this record of sums is damaged: remove it, and run again what "
                         "wrote the files that it names") from None
-    return Record(path, command, tuple(files[:count]), tuple(files[count:]))
+    return Record(path, command, tuple(files[:count]), tuple(files[count:]), edited)
 
 
 def records_in(folder: str, is_replacing: bool = False) -> Iterator[Record]:
@@ -171,8 +185,8 @@ def records_in(folder: str, is_replacing: bool = False) -> Iterator[Record]:
                 continue
             if isinstance(error, UserError):
                 raise
-            raise UserError(f"{path}: this record of sums cannot be read ({error.strerror}): let it "
-                            "be read, or move it away") from None
+            raise UserError(f"{path}: this record of sums cannot be read ({error.strerror}): let "
+                            "it be read, or move it away") from None
         if found is not None:
             yield found
 
@@ -194,12 +208,15 @@ class _Read:
 
 
 class Reading:
-    """What a command reads, judged by the records beside it. With `is_edited` what does not fit
-    passes, and `edited` has a line for each."""
+    """What a command reads, judged by the records beside it. What does not fit passes with
+    `is_edited`, or where a record says that it passed before; `edited` has a line for each, and
+    `passed` what a new record says of it."""
 
     def __init__(self, is_edited: bool):
         self.is_edited = is_edited
         self.edited: list[str] = []
+        self.passed: list[tuple[str, str]] = []
+        self._passed_before: set[tuple[str, str]] = set()
         self._read: dict[str, _Read] = {}
         self._by_output: dict[str, dict[str, list[tuple[Record, File]]]] = {}
         self._used: dict[str, Record] = {}
@@ -217,11 +234,11 @@ class Reading:
         put = [record for record in fitting if record.is_put]
         others = [record for record, _ in named if record.is_put]
         if fitting and not put:
-            self._refuse(f"{path}: it is of a run that was cut short, or has not ended, as "
+            self._refuse(at, f"{path}: it is of a run that was cut short, or has not ended, as "
                          f"{_plain(fitting[0].path)} shows", fitting[0])
         elif others and not put:
-            self._refuse(f"{path}: it is not the file that {_plain(others[0].path)} names, which "
-                         "was changed, or a run was cut short", others[0])
+            self._refuse(at, f"{path}: it is not the file that {_plain(others[0].path)} names, "
+                         "which was changed, or a run was cut short", others[0])
         new = {record.path: record for record in put if record.path not in self._used}
         self._used |= new
         self._judge_inputs(new.values(), self._read)
@@ -233,6 +250,8 @@ class Reading:
         if folder not in self._by_output:
             found: dict[str, list[tuple[Record, File]]] = {}
             for record in records_in(folder):
+                if record.is_put:
+                    self._passed_before.update(record.edited)
                 for file in record.outputs:
                     found.setdefault(record.at(file), []).append((record, file))
             self._by_output[folder] = found
@@ -255,14 +274,16 @@ class Reading:
             for file in record.inputs:
                 at = record.at(file)
                 if at in among and not self._fits(at, file):
-                    self._refuse(f"{self._read[at].path}: it is not the file, or no longer, of "
-                                 f"which {_shown(record)} was made", record)
+                    self._refuse(at, f"{self._read[at].path}: it is not the file, or no longer, "
+                                 f"of which {_shown(record)} was made", record)
 
-    def _refuse(self, told: str, record: Record) -> None:
-        if not self.is_edited:
+    def _refuse(self, at: str, told: str, record: Record) -> None:
+        passing = (self._sum(self._read[at]), record.sum)
+        if not self.is_edited and passing not in self._passed_before:
             raise UserError(f"{told}: run `pit-tools {record.command}` again, or give --edited if "
                             "you changed it yourself")
         self.edited.append(told)
+        self.passed.append(passing)
 
     def inputs(self, folder: str, without: Iterable[str]) -> tuple[File, ...]:
         """All that was read, as a record in a folder names it, but for what is written.

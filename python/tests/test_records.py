@@ -132,6 +132,25 @@ def test_each_command_that_reads_notices(here, capsys, name, words):
     assert f"{name}: it is not the file that {name.split('.')[0]}" in refusal(words, capsys)
 
 
+@pytest.mark.parametrize("name, old, new", [("mine.plan", "0.08", "0.09"),
+                                            ("from-west.csv", ",1000,", ",1001,")])
+def test_an_edited_file_passes_with_what_was_made_of_it(here, capsys, name, old, new):
+    assert main(["other" if word == "mine" else word for word in COMPILE]) == 0
+    other = ["other" if word == "mine" else word for word in SURVEY]
+    change(here / name, old, new)
+    assert main([*COMPILE, "--edited"]) == 0
+    for words in (SURVEY, COMPILE, SURVEY):
+        capsys.readouterr()
+        assert main(words) == 0
+    assert f"- FILES: {name}: it is not the file that" in capsys.readouterr().out
+    assert "of which other.blocks (with all of other.sums) was made" in refusal(other, capsys)
+    change(here / name, new, old)
+    assert "of which mine.blocks (with all of mine.sums) was made" in refusal(SURVEY, capsys)
+    assert main(other) == 0
+    change(here / name, old, new + "1")
+    assert f"{name}: it is not the file that" in refusal(SURVEY, capsys)
+
+
 def test_whole_runs_that_do_not_belong_together_are_refused(here, capsys):
     change(here / "export.csv", ",0.5,", ",0.75,")
     assert main(["back", "mine.plan", "mine", "mine.cpit", "--onto", "from.json"]) == 2
