@@ -1,7 +1,9 @@
 """Locks of a folder in which a batch runs, and of the base of an instance that pitc writes. The
-system lifts them when the process ends, in whichever way."""
+system lifts them when the process ends, in whichever way. Where a file system has none, nothing is
+held: records alone tell a mixture."""
 from __future__ import annotations
 
+import errno
 import fcntl
 import os
 from contextlib import ExitStack, contextmanager
@@ -60,4 +62,7 @@ def _lock(opened: ExitStack, path: str, how: int, told: str) -> int:
         fcntl.flock(descriptor, how | fcntl.LOCK_NB)
     except BlockingIOError:
         raise UserError(told) from None
+    except OSError as error:
+        if error.errno not in (errno.ENOLCK, errno.EOPNOTSUPP, errno.ENOSYS):
+            raise
     return descriptor

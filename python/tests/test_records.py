@@ -369,6 +369,17 @@ def test_two_compiles_of_one_base_are_not_at_once(here, capsys):
     assert main(COMPILE) == 0 and not os.path.exists(".mine.lock")
 
 
+@pytest.mark.parametrize("number", [errno.ENOLCK, errno.EOPNOTSUPP, errno.ENOSYS])
+def test_a_file_system_without_locks_is_written_all_the_same(here, monkeypatch, number):
+    def refusing(*_words):
+        raise OSError(number, os.strerror(number))
+
+    os.remove("mine.blocks")
+    monkeypatch.setattr(fcntl, "flock", refusing)
+    assert main(COMPILE) == 0
+    assert os.path.exists("mine.blocks") and not os.path.exists(".mine.lock")
+
+
 def test_a_lock_that_never_goes_is_told(here, monkeypatch, capsys):
     monkeypatch.setattr("pit_tools.outputs.SECONDS_OF_A_PUT", 0.1)
     descriptor = os.open(".", os.O_RDONLY)
