@@ -116,6 +116,7 @@ class _Command:
         self.force, self.is_looking, self.name = force, False, name
         self.reads: dict[Identity, str] = {}
         self.reading = Reading(is_edited)
+        self.removed: list[str] = []
 
     def note(self, path: Name) -> None:
         if not self.is_looking and b"\0" not in os.fsencode(path):
@@ -199,6 +200,11 @@ def reads(*paths: str) -> None:
 def edited() -> Sequence[str]:
     """What was read by the command although a record names another file, in a line each."""
     return _Command.now.reading.edited if _Command.now is not None else ()
+
+
+def removed() -> Sequence[str]:
+    """The files of earlier runs that the command has removed beside what it wrote."""
+    return _Command.now.removed if _Command.now is not None else ()
 
 
 # Where a file goes
@@ -339,6 +345,8 @@ class _Group:
         self.record = ""
         #: Files that no run may leave beside those of a record, by the path of that.
         self.others: dict[str, list[str]] = {}
+        #: Those of them that go.
+        self.removed: list[str] = []
 
     def note(self, paths: Iterable[str]) -> None:
         self.reads |= {found: path for path in paths if (found := _identity(path))}
@@ -463,6 +471,7 @@ class _Group:
             self.refuse_read(place, _identity(target))
             targets.append(target)
             self.files.append(_Unfinished(place, target, ""))
+            self.removed.append(place)
 
     def _write_records(self) -> None:
         self.record = ""
@@ -496,6 +505,8 @@ class _Group:
                     _sync_folder(above)
                 self.files.clear()
                 self.folders.clear()
+        if _Command.now is not None:
+            _Command.now.removed += self.removed
 
     def _rename(self) -> None:
         done: list[_Step] = []

@@ -220,7 +220,9 @@ def test_a_file_that_is_replaced_alone_leaves_its_record(here):
 def test_a_file_of_an_earlier_instance_goes_or_is_refused(here, capsys):
     assert main(["read", "mine", "--write", "copy"]) == 0
     os.remove("mine.cpit"), os.remove("mine.sums")
+    capsys.readouterr()
     assert main(["read", "mine", "--write", "copy"]) == 0 and not os.path.exists("copy.cpit")
+    assert "\nremoved: copy.cpit\n" in capsys.readouterr().out
     (here / "copy.cpit").write_bytes((here / "made.cpit").read_bytes())
     before = os.stat("copy.blocks").st_ino
     assert "copy.cpit: it stands beside what is written" in refusal(["read", "mine", "--write",
@@ -234,9 +236,16 @@ def test_a_zone_that_is_no_more_loses_its_file_unless_it_was_edited(here, capsys
     words = [*IMPORT, "--where", 'DOMAIN == "east"']
     change(here / "from-west.csv", ",1000,", ",1001,")
     assert "from-west.csv: it stands beside" in refusal(words, capsys)
+    assert "removed: " not in capsys.readouterr().out
     change(here / "from-west.csv", ",1001,", ",1000,")
     assert main(words) == 0 and not os.path.exists("from-west.csv")
+    assert "\nremoved: from-west.csv\n" in capsys.readouterr().out
     assert names_of(read_record("from.json.sums").outputs) == ["from-east.csv", "from.json"]
+    assert main(IMPORT) == 0
+    change(here / "from-west.csv", ",1000,", ",1001,")
+    capsys.readouterr()
+    assert main([*words, "--force"]) == 0 and not os.path.exists("from-west.csv")
+    assert "removed: from-west.csv\n" in capsys.readouterr().out
 
 
 def test_files_of_another_command_stay_where_its_record_has_the_name(here):

@@ -55,6 +55,8 @@ def run(args: argparse.Namespace) -> int:
             fewer = replace(mine, precedence=immediate(mine.precedence))
             print(fewer.counts())
             write_instance(fewer, args.immediate)
+    for path in outputs.removed():
+        print(f"removed: {path}")
     return 0
 
 
