@@ -28,7 +28,6 @@ BLANKS = " \u00a0\u2007\u2009\u202f"
 APOSTROPHES = "'’"
 
 
-
 @dataclass
 class Marks:
     """How the numbers of a file are spelled. `decimal` is a point or a comma, `thousands` what

@@ -87,11 +87,14 @@ def rounded(text: Union[str, Decimal, int], places: int) -> int:
 
 
 def floats_of(texts: pd.Series) -> np.ndarray:
-    """The floats of decimals, off by two of the last places at the most. It gives NaN for a text
-    that is none, and for an exponent that the fast reader takes for another one."""
+    """The floats of decimals, off by two of the last places at the most; NaN for a text that is
+    none, or that no float holds. The fast reader takes a long exponent for another one, so these
+    texts are read one by one."""
     floats = pd.to_numeric(texts, errors="coerce").to_numpy(np.float64, na_value=np.nan).copy()
     if LONG_EXPONENT.search("\n".join(texts.dropna())):
-        floats[texts.str.contains(LONG_EXPONENT, na=False).to_numpy()] = np.nan
+        is_long = texts.str.contains(LONG_EXPONENT, na=False).to_numpy()
+        floats[is_long] = [float(text) if is_decimal(text) and is_held(text) else np.nan
+                           for text in texts[is_long]]
     return floats
 
 

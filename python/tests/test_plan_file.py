@@ -95,10 +95,11 @@ def test_a_zone_file_is_read_by_names_and_written_back(tmp_path):
     assert rows.index.tolist() == [2, 3]
     assert rows.iloc[0].to_dict() == {"x": 20000, "y": 250, "z": -10000, "tonnes": 2700001,
                                       "grade": 1800000}
-    write_zone_file(str(path), rows)
-    first = path.read_text().splitlines()[1]
+    again = tmp_path / "again.csv"
+    write_zone_file(str(again), rows)
+    first = again.read_text().splitlines()[1]
     assert first == "20,0.25,-10,2700.001,1.8"
-    assert np.array_equal(read_zone_file(str(path)), rows)
+    assert np.array_equal(read_zone_file(str(again)), rows)
 
 
 @pytest.mark.parametrize("text, told", [
