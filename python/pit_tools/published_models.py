@@ -46,14 +46,17 @@ class Model:
         the way; a second way through the file takes none."""
         section, is_first = "", not self.header
         for piece in pieces_of(self.path):
-            done = 0
+            done, number = 0, piece.first
             while (colon := piece.text.find(b":", done)) >= 0:
-                start = piece.text.rfind(b"\n", 0, colon) + 1
+                start = piece.text.rfind(b"\n", done, colon) + 1 or done
                 end = piece.text.find(b"\n", colon) + 1
-                yield from self._lines(section, piece.between(done, start))
-                section = self._key_line(piece.between(start, end), is_first) or section
-                done = end
-            yield from self._lines(section, piece.between(done, len(piece.text)))
+                lines = Piece(self.path, number, piece.text[done:start])
+                yield from self._lines(section, lines)
+                number += lines.text.count(b"\n")
+                key_line = Piece(self.path, number, piece.text[start:end])
+                section = self._key_line(key_line, is_first) or section
+                done, number = end, number + 1
+            yield from self._lines(section, Piece(self.path, number, piece.text[done:]))
 
     def rows(self, section: str) -> Iterator[Piece]:
         """The pieces of one section, by another way through the file."""
