@@ -121,10 +121,10 @@ def finish(listed: BatchList, build: str, made: dict[Entry, Made], is_right: boo
     for entry in listed.entries:
         for name, found in made[entry].sums.items():
             (inputs if name in entry.inputs else written)[name] = found
-    files = [tuple(records.File(name, os.path.getsize(name), found) for name, found in part.items())
-             for part in (written, inputs)]
+    outcome, source = (tuple(records.File(name, os.path.getsize(name), found)
+                             for name, found in part.items()) for part in (written, inputs))
     with outputs.opened("MANIFEST", KINDS["MANIFEST"], "utf-8") as file:
-        file.write(records.Record("MANIFEST", "batch", *files).text)
+        file.write(records.Record("MANIFEST", "batch", outcome, source).text)
     return []
 
 
