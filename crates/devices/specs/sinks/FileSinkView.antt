@@ -26,4 +26,4 @@ file_told s = record { begun = s.begun; before = []; taken = s.held; failures = 
 -- its file is one that was made at this path and was empty, by what files tell of themselves, and this is what it holds
 abbrev pub HoldsNewFile : {F : Type 0} → (F → List ℕ) → (F → Option (List ℕ)) → Bool → List ℕ → Option (List ℕ) → Type 0
 HoldsNewFile {F} path_of contents tells path held =
-    (file : F) × (path_of file ≡ path) × (contents file ≡ told_empty tells) × (held ≡ told_held tells (contents file))
+    (file : F) × (path_of file ≡ path) × (told_held tells (contents file) ≡ told_empty tells) × (held ≡ told_held tells (contents file))

@@ -1,7 +1,7 @@
 //! Files that are created once, at their paths.
 
 ghost use Rattle.std.specs.Prelude.{◌≡◌, ◌++◌, ℕ, List, [], ◌∷◌, Bool, string_bytes, IsOk, IsTrue, IfOk};
-ghost use Rattle.devices.specs.files.Told.{told_empty};
+ghost use Rattle.devices.specs.files.Told.{told_empty, told_held};
 
 use crate::files::file_access::AtPath;
 use std::io;
@@ -28,7 +28,7 @@ pub trait FileSlot: Drop {
     /// It cannot be created, for whatever reason of the system's.
     fn create(self) -> io::Result<Self::File>
         ensures path { IfOk result (λ file. Self.File.path file ≡ path self) }
-        ensures empty { IfOk result (λ file. Self.File.contents file ≡ told_empty tells) }
+        ensures empty { IfOk result (λ file. told_held tells (Self.File.contents file) ≡ told_empty tells) }
         ensures sure { IsTrue is_sure → IsOk result };
 }
 

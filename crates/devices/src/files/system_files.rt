@@ -67,6 +67,7 @@ impl<F: Read + Write> SystemFile<F> {
     pub(crate) fn at(file: F, path: &str) -> SystemFile<F>
         ensures path { ⟦<SystemFile<F> as AtPath>⟧.path result ≡ path.now }
         ensures remaining { ⟦<SystemFile<F> as Read>⟧.remaining result ≡ F.remaining file }
+        ensures contents { ⟦<SystemFile<F> as Write>⟧.contents result ≡ F.contents file }
     {
         SystemFile {
             file,
@@ -92,6 +93,8 @@ impl<F: Read + Write> Read for SystemFile<F> {
 }
 
 impl<F: Read + Write> Write for SystemFile<F> {
+    ghost contents = { λ file. F.contents file.file };
+
     fn write(&mut self, bytes: &[u8]) -> io::Result<usize> {
         self.file.write(bytes)
     }
