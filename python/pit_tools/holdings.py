@@ -37,7 +37,8 @@ class Holding(NamedTuple):
 class Holdings:
     """The rock of a model: arrays of n rows. `zone` are numbers of `names`; `tonnes` are t, `grade`
     g/t, `volume` m3 (one number for all, or n); `index` places of the grid, one array an axis.
-    `is_graded` is false where rock has no grade and counts as 0."""
+    `is_graded` is false where rock has no grade and counts as 0. `is_counted` is true of one part
+    of each block that was cut into several; without it each row is a block."""
 
     names: Sequence[str]
     zone: np.ndarray
@@ -49,6 +50,7 @@ class Holdings:
     frame: Frame = Frame()
     is_graded: Optional[np.ndarray] = None
     aside: Mapping[str, int] = field(default_factory=dict)  #: rows left out, by zone
+    is_counted: Optional[np.ndarray] = None
 
     @cached_property
     def _order(self) -> tuple[np.ndarray, np.ndarray]:
@@ -76,14 +78,19 @@ class Holdings:
             rows = rows[self.is_graded[rows]]
         tonnes = self.tonnes[rows]
         volume = self.volume[rows].sum() if self.volume.ndim else self.volume * len(rows)
-        return Holding(len(rows), float(tonnes.sum()), float(tonnes @ self.grade[rows]),
+        return Holding(self.count(rows), float(tonnes.sum()), float(tonnes @ self.grade[rows]),
                        float(volume))
 
+    def count(self, rows: np.ndarray) -> int:
+        """How many blocks these rows are."""
+        return len(rows) if self.is_counted is None else int(self.is_counted[rows].sum())
+
     def ungraded(self, zone: str = "") -> int:
-        """Rows of a zone, or of all, that have no grade."""
+        """Blocks of a zone, or of all, that have no grade."""
         if self.is_graded is None:
             return 0
-        return int((~self.is_graded[self.rows_of(zone)]).sum())
+        rows = self.rows_of(zone)
+        return self.count(rows[~self.is_graded[rows]])
 
     def extents(self, zone: str = "") -> Optional[list[tuple[float, float]]]:
         """The least and the largest coordinate of centroids along each axis, in the export's own

@@ -665,15 +665,24 @@ class Placing:
     def holdings(self, rows: pd.DataFrame, air: pd.DataFrame, grid: Grid) -> Holdings:
         """What the zones of the export hold, before rows of a block are summed."""
         names = list(self.reading.zone_numbers)
-        known = rows[rows["zone"] >= 0]
+        known, aside = rows[rows["zone"] >= 0], air[air["zone"] >= 0]
         zone = known["zone"].to_numpy()
-        counts = np.bincount(air["zone"][air["zone"] >= 0], minlength=len(names))
+        is_counted = None
+        if self.parts is not None and self.parts.is_cut:
+            is_counted = self.is_first_part(known)
+            aside = aside[self.is_first_part(aside)]
+        counts = np.bincount(aside["zone"], minlength=len(names))
         tonnes, grade = (known[key].to_numpy() / 10.0 ** self.reading.fine[key]
                          for key in ("tonnes", "grade"))
         return Holdings(names, zone, tonnes, grade, known["volume"].to_numpy(),
                         (known["ix"].to_numpy(), known["iy"].to_numpy(), known["iz"].to_numpy()),
                         grid, self.frame, known["is_graded"].to_numpy(),
-                        {name: int(many) for name, many in zip(names, counts)})
+                        {name: int(many) for name, many in zip(names, counts)}, is_counted)
+
+    def is_first_part(self, rows: pd.DataFrame) -> np.ndarray:
+        """Of rows of parts, which are the first ones of their row of the export."""
+        assert self.parts is not None
+        return ~pd.Series(self.parts.row[rows["row"].to_numpy()]).duplicated().to_numpy()
 
     def model(self, rows: pd.DataFrame, axes: Sequence[Axis], zones: Sequence[str]) -> RockModel:
         """The rock for what is mostly wrong of it."""

@@ -121,7 +121,7 @@ class Imported:
             written[whole] = (before[0] + int(held[0]), before[1] + float(held[1]),
                               before[2] + float(held[2]))
         return Reconciled(self.reconciliation.tolerance, self.reconciliation.rows, written,
-                          self.part_of)
+                          self.part_of, self.words.is_merged)
 
     def write(self, base: str) -> list[str]:
         """Writes the zone files, and BASE.json with the words, the grid, the zones, the frame, the

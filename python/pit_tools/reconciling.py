@@ -1,7 +1,7 @@
 """Lays what was imported beside a package's resource report, zone by zone and in total."""
 from __future__ import annotations
 
-from dataclasses import dataclass, field
+from dataclasses import dataclass, field, replace
 from typing import Any, Iterator, Mapping, NamedTuple, Optional, Sequence
 
 import numpy as np
@@ -281,13 +281,15 @@ class Wanted:
 @dataclass(frozen=True)
 class Reconciled:
     """What BASE.json and the note of a plan keep: the rows of the report, the tolerance, what the
-    zones of the import hold as they were written (blocks, t, g), and the zones that were split,
-    each with that of which it is a part."""
+    zones of the import hold as they were written (blocks, t, g), the zones that were split, each
+    with that of which it is a part, and whether rows of the export, which a report counts, were
+    summed up or cut."""
 
     tolerance: float = TOLERANCE
     rows: list[Stated] = field(default_factory=list)
     written: dict[str, tuple[int, float, float]] = field(default_factory=dict)
     part_of: dict[str, str] = field(default_factory=dict)
+    is_merged: bool = False
 
     @classmethod
     def of_record(cls, record: Optional[dict[str, Any]]) -> Reconciled:
@@ -298,7 +300,8 @@ class Reconciled:
         written = {str(zone): (int(blocks), float(tonnes), float(metal))
                    for zone, (blocks, tonnes, metal) in record["written"].items()}
         return cls(float(record["tolerance"]), list(map(Stated.of_record, record["rows"])), written,
-                   {str(zone): str(other) for zone, other in record["part_of"].items()})
+                   {str(zone): str(other) for zone, other in record["part_of"].items()},
+                   bool(record.get("is_merged")))
 
     def record(self) -> Optional[dict[str, Any]]:
         """As a file has it."""
@@ -306,7 +309,7 @@ class Reconciled:
             return None
         return {"tolerance": self.tolerance, "rows": [row.record() for row in self.rows],
                 "written": {zone: list(held) for zone, held in self.written.items()},
-                "part_of": self.part_of}
+                "part_of": self.part_of, "is_merged": self.is_merged}
 
     def names(self, zones: Sequence[str]) -> list[str]:
         """The zones, those that were split by that of which they are parts."""
@@ -327,8 +330,16 @@ class Reconciled:
 
     def lines(self, held: Holdings, measures: Measures) -> list[str]:
         """The report beside an instance. What `import` found within the tolerance may be beyond it
-        here: parents take the zone with most tonnes, and rock without a grade has one of 0."""
-        found = compared(self.rows, held, self.tolerance, measures)
+        here: parents take the zone with most tonnes, and rock without a grade has one of 0. Blocks
+        of a report are not those of an instance whose rows were summed up or cut."""
+        rows = self.rows
+        if self.is_merged:
+            rows = [replace(row, figures={name: value for name, value in row.figures.items()
+                                          if name != "blocks"}) for row in rows]
+        found = compared(rows, held, self.tolerance, measures)
+        if any("blocks" in row.figures for row in self.rows) and self.is_merged:
+            found.notes.append("blocks were compared by import: rows of the export were summed up "
+                               "or cut into blocks of the grid")
         return found.lines("instance", "imported within")
 
 

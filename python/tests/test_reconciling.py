@@ -8,16 +8,24 @@ from __future__ import annotations
 import json
 import os
 import re
+from functools import partial
 
 import pytest
 
 import mines
+from pit_tools import import_placing
 from pit_tools.cli import main
 from pit_tools.errors import UserError
 from pit_tools.export_words import Words
+from pit_tools.holdings import holdings_of
+from pit_tools.imported import read_imported
+from pit_tools.imported_blocks import cut_zones
 from pit_tools.importing import Wanted, import_export
 from pit_tools.survey_box import Inputs, box
 from pit_tools.survey_facts import read_facts
+from pit_tools.units import Measures
+from pit_tools.valuation import blocks_of
+from pit_tools.zone_files import read_zone_files
 
 WORDS = {"x": "X", "y": "Y", "z": "Z", "tonnes": "T", "grade": "AU", "zone": ["ZONE"]}
 OUNCES = 324_000 / 31.1034768
@@ -216,6 +224,38 @@ def test_parents_are_compared_by_the_zones_of_their_sub_blocks(tmp_path):
     kept = json.loads((tmp_path / "from.json").read_text())["reconciled"]
     assert kept["written"]["thin"][1:] == [54000, 108000] and len(kept["rows"]) == 3
     assert kept["written"]["west"][1:] == [108000, 216000]
+
+
+def doubled(row):
+    """Two cubes of a pair above one another as one row of twice the height."""
+    return None if row[2] else [*row[:2], 5, row[3] * 2, *row[4:]]
+
+
+@pytest.mark.parametrize("words, rows, blocks", [
+    ({"parents": "10,10,10", "sub_size": "10+0*T,10+0*T,20+0*T"}, rows_of(doubled), (30, 20)),
+    ({"regularise": "10,10,10", "sub_size": "10+0*T,10+0*T,20+0*T"}, rows_of(doubled), (30, 20)),
+    ({"parents": "20,20,10", "corner": "-5,-5,-5", "volume": "1000 + 0*T"}, rows_of(), (60, 40)),
+    ({}, rows_of(), (60, 40))], ids=["cut", "cut by volume", "summed up", "in several files"])
+def test_blocks_of_a_report_are_rows_of_the_export(words, rows, blocks, tmp_path, monkeypatch):
+    """A package counts each of its blocks once, of whatever size; parts of it are none, and what
+    the instance has after summing up or cutting is not laid beside that."""
+    monkeypatch.setattr(import_placing, "cut_zones", partial(cut_zones, most=8))
+    report = (f"zone,tonnes,blocks\nwest,162000,{blocks[0]}\neast,100000,{blocks[1]}\n"
+              f"total,262000,{sum(blocks)}\n")
+    found = reconciled(tmp_path, report, rows, **words)
+    found.reconciliation.judge()
+    assert sum(one.figure == "blocks" for one in found.reconciliation.differences) == 3
+    assert re.search(rf"(?m)^west +{blocks[0]} ", found.report.text())
+    paths = found.write("from")
+    assert len(paths) > 2
+    read = read_imported("from.json")
+    table = blocks_of(read.grid, read_zone_files(paths))
+    held = holdings_of(table, read.reconciled.names(read.zones), read.grid)
+    read.reconciled.judge(held, Measures(), "from")
+    lines = read.reconciled.lines(held, Measures())
+    assert not [line for line in lines if "within 1 %" in line and "imported" in line]
+    assert any("blocks were compared by import" in line for line in lines) == bool(words)
+    assert any(re.match(r"west +- +blocks", line) for line in lines) != bool(words)
 
 
 PLAN = ["plan", "from.json", "--out", "mine.plan", "--name", "mine", "--price", "58 USD/g", "--mill",
