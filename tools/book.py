@@ -1,6 +1,6 @@
-"""One text of definitions: what some calls promise, and then each word behind the words that it uses.
+"""One text of definitions from the top down: what some calls promise, and then each word after those that use it.
 
-The contracts stand first, and are the contents: below each clause stand its words and those that they
+The contracts come first, and are the contents: below each clause are its words and those that they
 use, each with the number of the section that defines it.
 
 A page of the project is printed whole. Of a file of code the text has the types, traits, constants
@@ -282,13 +282,15 @@ def is_listed(name: str, other: Optional[Piece]) -> bool:
     return name in LISTED and not (other and is_own(other.path))
 
 
-def needs(piece: Piece) -> Iterator[Piece]:
-    """The pieces that have to stand before one."""
-    return (other for name, other in used(piece).items() if other and not is_listed(name, other))
+def needs(piece: Piece) -> List[Piece]:
+    """The pieces that define the words of one, in the order in which it names them."""
+    places = {token.split(".")[0]: place for place, token in reversed(list(enumerate(tokens_of(piece))))}
+    words = sorted(used(piece).items(), key=lambda pair: places.get(pair[0].split(".")[0], 0))
+    return [other for name, other in words if other and not is_listed(name, other)]
 
 
 def ordered(roots: List[Piece]) -> List[Piece]:
-    """All that some pieces stand on, each behind what it uses, and they themselves. A page stays whole."""
+    """These pieces and all that they use, each before what it uses. A page stays whole, in its own order."""
     found: Dict[Piece, None] = {}
     begun: Set[Piece] = set()
 
@@ -299,15 +301,15 @@ def ordered(roots: List[Piece]) -> List[Piece]:
         if not is_code(piece.path):
             group = [other for other in pieces(piece.path) if is_own(piece.path) or other in wanted]
         begun.update(group)
-        for one in group:
-            for other in needs(one):
+        for one in reversed(group):
+            for other in reversed(needs(one)):
                 visit(other)
-        found.update(dict.fromkeys(group))
+        found.update(dict.fromkeys(reversed(group)))
 
     wanted = closure(roots)
-    for root in roots:
+    for root in reversed(roots):
         visit(root)
-    return list(found)
+    return list(reversed(found))
 
 
 def closure(roots: List[Piece]) -> Set[Piece]:
@@ -335,19 +337,21 @@ def unknown(piece: Piece) -> Set[str]:
     return {token.split(".")[0] for token in tokens_of(said) if not token[0].isdigit()} - known
 
 
-def unmet(printed: List[Piece]) -> Iterator[str]:
-    """The words of a text that stand before their definitions, and those that nothing defines."""
-    before: Set[Piece] = set()
-    for piece in printed:
-        for name, other in used(piece).items():
-            if is_listed(name, other):
-                continue
-            if not other:
-                yield f"{piece.path}: {name} is nowhere defined"
-            elif other not in before and other != piece:
-                yield f"{piece.path}: {name} is used before it is defined"
-        yield from (f"{piece.path}: {name} is nowhere defined" for name in unknown(piece))
-        before.add(piece)
+def unmet(parts: Dict[str, List[Piece]]) -> Iterator[str]:
+    """The words of a book that nothing defines, and those that are defined above their use in the same part."""
+    printed = {piece for some in parts.values() for piece in some}
+    for some in parts.values():
+        above: Set[Piece] = set()
+        for piece in some:
+            for name, other in used(piece).items():
+                if is_listed(name, other):
+                    continue
+                if other not in printed:
+                    yield f"{piece.path}: {name} is nowhere defined"
+                elif other in above and other.path != piece.path:
+                    yield f"{piece.path}: {name} is defined above"
+            yield from (f"{piece.path}: {name} is nowhere defined" for name in unknown(piece))
+            above.add(piece)
 
 
 def roots_of(part: str) -> List[Piece]:
@@ -386,12 +390,10 @@ class Book(NamedTuple):
 def book_of(parts: List[str]) -> Book:
     """The text of some parts, in their order."""
     told: Dict[str, List[Piece]] = {}
-    before: Set[Piece] = set()
-    all_of = ordered([root for part in parts for root in roots_of(part)])
     for part in parts:
-        until = max(all_of.index(root) for root in roots_of(part)) + 1
-        told[part] = [piece for piece in all_of[:until] if piece not in before]
-        before.update(told[part])
+        before = {piece for some in told.values() for piece in some}
+        told[part] = [piece for piece in ordered(roots_of(part)) if piece not in before]
+    all_of = [piece for some in told.values() for piece in some]
     words = {name for piece in all_of for name, other in used(piece).items() if is_listed(name, other)}
     sentences = ((tuple(name for name in names if name in words), says) for names, says in library_words.LIBRARY.items())
     others: Dict[str, List[str]] = {}
