@@ -19,6 +19,7 @@ from pit_tools.errors import UserError
 from pit_tools.gridding import Frame
 from pit_tools.imported_blocks import Imported
 from pit_tools.instance import Blocks
+from pit_tools.parquet import bytes_of
 from pit_tools.plan_file import Plan
 from pit_tools.schedules import table_of
 from pit_tools.spelling import lines_of
@@ -173,7 +174,8 @@ def onto_rows(imported_path: str, plan: Plan, blocks: Blocks, mined: Mined,
     `imported_path` is BASE.json of `pit-tools import`, by which the export is read again. Cells
     stay as they are; rows that are no block, as air, have empty cells, and a row of several blocks
     has the first and the means of what is mined. Raises UserError where the export is another than
-    `import` read or cannot be read again, or its grid is not the plan's.
+    `import` read or cannot be read again, or its grid is not the plan's. Of an export in Parquet
+    the rows are Parquet too, with numbers in the columns behind, and need a place.
     """
     from pit_tools.imported import read_imported
     from pit_tools.importing import import_export
@@ -184,34 +186,70 @@ def onto_rows(imported_path: str, plan: Plan, blocks: Blocks, mined: Mined,
     block_at = _block_at(plan, blocks, again)
     without = len(np.setdiff1d(mined.block, block_at))
     progress.step("writes rows")
+    behind = Behind(again, block_at, told)
+    if all(source.kind == "Parquet" for source in again.sources):
+        if not place:
+            raise UserError("the export is Parquet, which is not printed: give --out")
+        rows = pd.concat([behind.with_numbers(number) for number in range(len(again.sources))],
+                         ignore_index=True)
+        content = bytes_of(rows)
+        with outputs.opened(place, "rows of a pit in Parquet") as file:
+            file.write(content)
+        return len(rows), int(rows["block"].notna().sum()), without
     with outputs.opened_or_printed(place, "rows of a pit", "utf-8", "") as out:
-        return (*_rows_written(again, block_at, told, out), without)
+        return (*_rows_written(again, behind, out), without)
 
 
-def _rows_written(again: Imported, block_at: np.ndarray, told: pd.DataFrame,
-                  out: IO[str]) -> tuple[int, int]:
+class Behind:
+    """What is told of blocks, behind the rows of each export."""
+
+    def __init__(self, again: Imported, block_at: np.ndarray, told: pd.DataFrame) -> None:
+        self.again, self.block_at, self.told = again, block_at, told
+
+    def of_file(self, number: int) -> tuple[pd.Series, Optional[pd.DataFrame]]:
+        """The block of each record of an export, and what is mined of records that were cut."""
+        in_file = (self.again.places["file"] == number).to_numpy()
+        of_part = pd.Series(self.block_at[in_file],
+                            index=self.again.places["record"][in_file].to_numpy())
+        cut = _mined_of_cut_rows(self.told, of_part) if of_part.index.has_duplicates else None
+        return of_part[~of_part.index.duplicated()], cut
+
+    def rows(self, index: pd.Index, of_record: pd.Series,
+             cut: Optional[pd.DataFrame]) -> tuple[pd.DataFrame, np.ndarray]:
+        """Texts behind these records, and their blocks, -1 where there is none."""
+        ids = of_record.reindex(index).fillna(-1).to_numpy(np.int64)
+        found = self.told.iloc[np.maximum(ids, 0)].astype(object)
+        found.loc[ids < 0, :] = ""
+        found.index = index
+        if cut is not None:
+            at_cut = index.intersection(cut.index)
+            found.loc[at_cut, cut.columns] = cut.loc[at_cut]
+        return found, ids
+
+    def with_numbers(self, number: int) -> pd.DataFrame:
+        """The rows of Parquet as they were read, and numbers behind them."""
+        source = self.again.sources[number]
+        assert source.sheet is not None
+        found, _ = self.rows(source.sheet.index, *self.of_file(number))
+        for name in found.columns.drop("destination", errors="ignore"):
+            numbers = pd.to_numeric(found[name])
+            found[name] = numbers.astype("Int64" if name in ("block", "period") else float)
+        return pd.concat([source.sheet.set_axis(source.names, axis=1), found], axis=1)
+
+
+def _rows_written(again: Imported, behind: Behind, out: IO[str]) -> tuple[int, int]:
     rows = found = 0
     for number, source in enumerate(again.sources):
-        names = list(told.columns)
         separator = "," if source.separator in ("", " ") else source.separator
         if not number:
-            pd.DataFrame([source.names + names]).to_csv(out, sep=separator, header=False,
-                                                        index=False, lineterminator="\n")
-        in_file = (again.places["file"] == number).to_numpy()
-        of_part = pd.Series(block_at[in_file], index=again.places["record"][in_file].to_numpy())
-        of_record = of_part[~of_part.index.duplicated()]
-        cut = _mined_of_cut_rows(told, of_part) if of_part.index.has_duplicates else None
+            pd.DataFrame([[*source.names, *behind.told.columns]]).to_csv(
+                out, sep=separator, header=False, index=False, lineterminator="\n")
+        of_record, cut = behind.of_file(number)
         left = len(source.units)
         for table in source.chunks(range(len(source.names))):
-            ids = of_record.reindex(table.index).fillna(-1).to_numpy(np.int64)
-            behind = told.iloc[np.maximum(ids, 0)].astype(object)
-            behind.loc[ids < 0, :] = ""
-            behind.index = table.index
-            if cut is not None:
-                at_cut = table.index.intersection(cut.index)
-                behind.loc[at_cut, cut.columns] = cut.loc[at_cut]
-            pd.concat([table, behind], axis=1).to_csv(out, sep=separator, header=False, index=False,
-                                                      lineterminator="\n")
+            texts, ids = behind.rows(table.index, of_record, cut)
+            pd.concat([table, texts], axis=1).to_csv(out, sep=separator, header=False, index=False,
+                                                     lineterminator="\n")
             rows += max(0, len(table) - left)
             left = max(0, left - len(table))
             found += int((ids >= 0).sum())

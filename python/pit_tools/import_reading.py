@@ -135,7 +135,7 @@ def read_source(source: Source, columns: Columns, reading: Reading, report: Repo
 
 def hidden_told(source: Source) -> list[str]:
     """A line about rows of a sheet that are hidden, or none."""
-    if source.sheet is None:
+    if source.kind != "workbook":
         return []
     rows = hidden_rows(source.path, source.sheet_name)
     return ([f"{source.path}: sheet `{source.sheet_name}` has {len(rows):,} hidden rows, as row "

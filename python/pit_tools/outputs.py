@@ -58,6 +58,7 @@ KINDS = {
     "table of nested pits": rb"factor,",
     "workbook": rb"PK\x03\x04.{26}docProps/core\.xml.{1,2000}<dc:creator[^>]*>pit-tools<",
     "rows of a pit": rb"[^\n]*\bblock\b[^\n]*\bmined\b",
+    "rows of a pit in Parquet": rb"PAR1.*mined",
     "survey": rb"<!doctype html>\n<html[^>]*><head>(<meta[^>]*>)*<title>Survey of ",
     "PNG picture": rb"\x89PNG",
     "SVG picture": rb"<\?xml",

@@ -1,6 +1,6 @@
 """Opens an export and finds how it is written: packed, its encoding, its separator, its header,
-rows of units; a workbook, a GSLIB file or a list without a header too. Rows are given as texts, in
-pieces, by pandas."""
+rows of units; a workbook, Parquet, a GSLIB file or a list without a header too. Rows are given as
+texts, in pieces, by pandas."""
 from __future__ import annotations
 
 import bz2
@@ -25,6 +25,7 @@ import pandas as pd
 from pit_tools.decimals import is_number_like, whole_of
 from pit_tools.errors import UserError
 from pit_tools.formulas import Lacking, plain_name
+from pit_tools.parquet import MARK, frame_of, texts_of
 from pit_tools.workbook import cell_name, sheets_of
 
 # How many rows are texts at a time.
@@ -208,7 +209,8 @@ class Source:
 
     `names` are those of the header, or of `--names`. `above` is how many lines stand above the
     header or, where there is none, above the first row; `units` are the rows between the header and
-    the first number."""
+    the first number. `sheet` has the cells of a workbook's sheet as texts, and of Parquet the
+    columns as pandas reads them."""
 
     path: str
     encoding: str
@@ -230,6 +232,8 @@ class Source:
 
     def told(self) -> str:
         """How the export is written, in words."""
+        if self.kind == "Parquet":
+            return f"{self.path}: Parquet, {len(self.names):,} columns"
         if self.kind == "workbook":
             how = f"sheet `{self.sheet_name}` of a workbook"
         elif self.kind == "GSLIB":
@@ -265,6 +269,10 @@ class Source:
         from 0, the header being record 0 where there is one. It raises UserError for a row of
         another width."""
         wanted = sorted(columns)
+        if self.sheet is not None and self.kind == "Parquet":
+            for start in range(0, len(self.sheet), CHUNK):
+                yield texts_of(self.sheet.iloc[start:start + CHUNK, wanted])
+            return
         if self.sheet is not None:
             yield (self.sheet.iloc[1 if self.has_header else 0:][wanted].reset_index(drop=True)
                    .rename(lambda at: at + self.has_header))
@@ -369,6 +377,8 @@ class Source:
         """Where a record, or a cell of it, stands, as `a.csv: line 12`."""
         if self.sheet is None:
             return f"{self.path}: line {self.line_of(record)}"
+        if self.kind == "Parquet":
+            return f"{self.path}: row {record + 1}"
         where = (f"row {self.line_of(record)}" if column is None
                  else f"cell {cell_name(self.line_of(record), column + 1)}")
         return f"{self.path}: sheet `{self.sheet_name}`, {where}"
@@ -494,14 +504,34 @@ def gslib_of(path: str, head: str, encoding: str, told: str) -> Optional[Source]
 
 def sources_of(path: str, resolve: Callable[[Sequence[str]], object], *, encoding: str = "",
                separator: str = "", names: Sequence[str] = (), sheet: str = "") -> list[Source]:
-    """Opens an export: one text, or the sheets of a workbook. `resolve` is called with the names of
-    a header that may be one, and raises Lacking where a column is not among them: the first line
-    that it accepts is the header.
+    """Opens an export: one text, the sheets of a workbook, or Parquet. `resolve` is called with the
+    names of a header that may be one, and raises Lacking where a column is not among them: the
+    first line that it accepts is the header.
 
     It raises UserError where no line has all the columns, and tells what the closest one has."""
+    refuse_pipe(path)
+    with open(path, "rb") as file:
+        is_parquet = file.read(len(MARK)) == MARK
+    if is_parquet:
+        return [parquet_of(path, resolve, names)]
     if is_workbook(path):
         return workbook_of(path, resolve, names, sheet)
     return [text_of(path, resolve, encoding, separator, names)]
+
+
+def parquet_of(path: str, resolve: Callable[[Sequence[str]], object],
+               names: Sequence[str]) -> Source:
+    """Opens Parquet, whose columns have names."""
+    if names:
+        raise UserError(f"{path}: --names is for a text without a header, and Parquet has names")
+    frame = frame_of(path)
+    found = list(frame.columns)
+    try:
+        resolve(found)
+    except Lacking as lacking:
+        raise UserError(f"{path}: {lacking}: there are {_names_told(found)}") from None
+    return Source(path, "", "", "", found, 0, False, 0, kind="Parquet",
+                  sheet=frame.set_axis(range(len(found)), axis=1))
 
 
 def text_of(path: str, resolve: Callable[[Sequence[str]], object], encoding: str, separator: str,

@@ -12,7 +12,8 @@ Takes a pit or a schedule back to the package: as coordinates, or onto the rows 
 The first writes x, y, z, block, tonnes, grade, zone and mined of each block of the pit; with --all
 the others too, with mined 0. The second reads the export again as `pit-tools import` did, which
 left from.json, and writes its rows with `block` and `mined` behind the package's own columns:
-sub-blocks have what their parent has, and a turned model its own coordinates.
+sub-blocks have what their parent has, and a turned model its own coordinates. Rows of Parquet are
+written as Parquet.
 
 A line of a schedule is a block and its period, then its destination, and the share of the block, as
 far as they are given: they are columns then. On the export's rows stand the period and destination

@@ -18,8 +18,8 @@ multiplied with is missing; a missing term of the outermost sum adds nothing, an
 without a formula goes through digit for digit, and is rounded as a decimal; a formula is computed
 in double precision.
 
-Separators, the header, rows of units, the encoding, decimal and thousands marks, workbooks, GSLIB
-and packed files are found. Rows without tonnes are air and left out; tonnes without a grade are
+Separators, the header, rows of units, the encoding, decimal and thousands marks, workbooks, GSLIB,
+packed files, and Parquet where pyarrow is there, are found. Rows without tonnes are air and left out; tonnes without a grade are
 waste. Negative tonnes, densities and grades, as -99, are missing."""
 
 UNITS = """units: m ft; t kt kg st lt lb; m3 ft3 yd3; t/m3 kg/m3 lb/ft3 ft3/st; g/t ppm ppb % kg/t
