@@ -157,7 +157,8 @@ def _decimal_of(cells: Sequence[str], thousands: str) -> str:
         if points and commas:
             says.setdefault("," if digits.rfind(",") > digits.rfind(".") else ".", text)
         elif points > 1 or commas > 1:
-            says.setdefault("," if points else ".", text)
+            if re.fullmatch(r"\d{1,3}([.,]\d{3})+", digits):
+                says.setdefault("," if points else ".", text)
         else:
             mark = "." if points else ","
             whole, _, rest = digits.partition(mark)

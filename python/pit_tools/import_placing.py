@@ -34,9 +34,9 @@ from pit_tools.units import Measures, grade_unit_of
 from pit_tools.walls import MOST_BENCHES
 
 # Where northings and eastings of UTM are: farther from the equator than 1,000 km, and in a zone.
-# Some grids of a country have eastings in the former and northings in the latter, so this is told
-# and stops nothing.
-NORTHINGS, EASTINGS = (1e6, 1e7), (1e5, 9e5)
+# Below FAR some grids of a country have such eastings beside such northings, as those of Colombia
+# and Mexico, so a model there may be right.
+NORTHINGS, EASTINGS, FAR = (1e6, 1e7), (1e5, 9e5), 3e6
 
 # The most that pitc takes: kilograms a block, millionths of g/t, zones, the greatest index.
 MOST_KILOGRAMS, MOST_GRADE, MOST_ZONES, MOST_INDEX = 10 ** 9, 10 ** 12, 64, 9999
@@ -269,9 +269,10 @@ class Placing:
         x, y = (float(np.median(value)) / 1000 for value in values[:2])
         if (self.factors[0] == 1 and not self.words.in_feet
                 and NORTHINGS[0] <= x <= NORTHINGS[1] and EASTINGS[0] <= y <= EASTINGS[1]):
-            self.report.facts.append(f"x is {x:,.0f} and y {y:,.0f} in the middle: in UTM that is "
-                                     "a northing as x and an easting as y, and the mine is "
-                                     "mirrored. If so, exchange --x and --y")
+            lines = self.report.doubts if x >= FAR else self.report.facts
+            lines.append(f"x is {x:,.0f} and y {y:,.0f} in the middle: in UTM that is a northing "
+                         "as x and an easting as y, and the mine is mirrored. If so, exchange --x "
+                         "and --y")
 
     def cause(self, values: Sequence[np.ndarray]) -> str:
         """What may be behind coordinates that lie on no grid."""
@@ -540,7 +541,9 @@ class Placing:
             self.parts = parts_of(values, sizes, corners, parents, self.with_cells,
                                   bool(words.corner), bool(words.regularise))
         except UserError as error:
-            raise UserError(f"{error}{self.turn_hint(values)}") from None
+            dip = dip_of(self.of_one_size(values))
+            why = self.turn_hint(values) if dip is None else f". {dip_told(dip)}"
+            raise UserError(f"{error}{why}") from None
         self.spot = (pd.factorize(pd.MultiIndex.from_arrays(values))[0][self.parts.row]
                      if len(values[0]) else None)
         return self.parents_axes(corners, parents)
@@ -865,7 +868,8 @@ class Placing:
             at = int(tonnes.argmax())
             raise UserError(f"{self.line(int(rows['row'].iloc[at]))}: a block has "
                             f"{tonnes[at] / 1000:,.0f} t, and pitc takes 1,000,000: are these "
-                            "kilograms, or is a density in kg/m3?")
+                            "kilograms, is a density in kg/m3, or does such a number stand for "
+                            "what is not known (--missing)?")
         if grade.max() > MOST_GRADE:
             at = int(grade.argmax())
             raise UserError(f"{self.line(int(rows['row'].iloc[at]))}: a grade is "

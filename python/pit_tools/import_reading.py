@@ -30,6 +30,10 @@ COORDINATES = ("x", "y", "z")
 # Numbers of nines alone, which often say that nothing is known.
 NINES = [float("9" * digits) for digits in range(2, 9)]
 
+# Names of coordinates that are those of a block's edge.
+EDGE = re.compile("(x|y|z|east|easting|north|northing|rl|elev|elevation)(min|max|low|lower|high|"
+                  "upper|corner|origin|from|to|start|end|left|right|bottom|top)")
+
 # How many times the greatest other number such a one has to be, to be taken for a mark: ore is
 # never that far above all other ore, and a cut of grades leaves the others just below it.
 NINES_ABOVE = 5
@@ -122,7 +126,9 @@ def read_source(source: Source, columns: Columns, reading: Reading, report: Repo
             report.facts.append(source.told())
             report.doubts += unit_doubts(columns, source.names, source.units)
             report.facts += grade_units(columns, source.names, source.units, source.path)
-            report.facts += [*last_line_told(source), *hidden_told(source)]
+            report.facts += last_line_told(source)
+            report.doubts += [*source.doubts(), *hidden_told(source),
+                              *places_doubts(columns, source.names)]
         Piece(table, source, columns, marks, reading).take()
         progress.tell(f"{reading.counts['rows']:,} rows of {source.path}")
     if marks is not None:
@@ -141,6 +147,25 @@ def hidden_told(source: Source) -> list[str]:
     return ([f"{source.path}: sheet `{source.sheet_name}` has {len(rows):,} hidden rows, as row "
              f"{rows[0]}, and they are read too: delete them if they are no part of the model"]
             if rows else [])
+
+
+def places_doubts(columns: Columns, names: Sequence[str]) -> list[str]:
+    """Lines about columns of coordinates whose names say something else: edges of blocks, or a
+    northing as x."""
+    named = {key: " ".join(names[at].split()) for key in COORDINATES if key in columns.measures
+             if (at := columns.measures[key].formula.plain_column) is not None}
+    doubts = []
+    edges = [(key, name) for key, name in named.items()
+             if EDGE.fullmatch(re.sub(r"[\W_]", "", name.casefold()))]
+    if edges:
+        key, name = edges[0]
+        doubts.append(f"{', '.join(name for _, name in edges)} seem to be edges of blocks, and "
+                      "coordinates are those of centroids: half a block lies between, as "
+                      f"--{key} '{name} + 10' where blocks are 20 m long")
+    if re.match("(?i)north", named.get("x", "")) and re.match("(?i)east", named.get("y", "")):
+        doubts.append(f"x is {named['x']} and y {named['y']}: x goes east, and y north, or the "
+                      "mine is mirrored")
+    return doubts
 
 
 def _key_column(columns: Columns) -> int:
@@ -579,7 +604,8 @@ def _hint(text: str, marks: Marks) -> str:
         return (", a formula that no program has computed: open the workbook in a spreadsheet, and "
                 "save it")
     if is_decimal(text):
-        return ", which is another number as a float of 64 bits: has it lost its point?"
+        return (", which is another number as a float of 64 bits: has it lost its point? If it "
+                f"stands for what is not known, give --missing '{text}'")
     if len(text) > LONGEST:
         return f" and goes on, with {len(text):,} characters in all"
     if text.startswith("#"):

@@ -191,11 +191,13 @@ class Reconciliation:
         aside = self.held.aside
         rows = aside.get(zone, 0) if zone else sum(aside.values())
         each = held.figure(one.figure) / held.blocks if held.blocks else 0.0
+        told = []
         if rows and (not each or 0.5 <= (one.stated - one.found) / each / rows <= 2):
-            return f"{rows:,} rows of {zone or 'all zones'} are left out, since they have no tonnes"
+            told.append(f"{rows:,} rows of {zone or 'all zones'} are left out, since they have no "
+                        "tonnes")
         if self.circumstances.filtered:
-            return f"{self.circumstances.filtered:,} rows are left out by --where"
-        return ""
+            told.append(f"{self.circumstances.filtered:,} rows are left out by --where")
+        return ", and ".join(told)
 
 
 def _factor_told(one: Difference) -> str:

@@ -115,6 +115,7 @@ def _density(model: RockModel) -> Iterator[str]:
             ("are they kilotonnes? Give the unit kt", 1000.0),
             ("are they kilograms? Give the unit kg", 0.001),
             ("are lengths in feet? Give --in-feet, or the unit ft", 1 / 0.3048 ** 3),
+            ("are lengths in kilometres? Give the unit km", 1e-9),
             ("is the grid of half the size of blocks?", 1 / 8)]
     fits = [why for why, factor in whys if 1.5 <= middle * factor <= HEAVY]
     yield (f"tonnes a cubic metre are {figure(heavy[0])} to {figure(most)}, {figure(middle)} in "

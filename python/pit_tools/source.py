@@ -52,6 +52,7 @@ csv.field_size_limit(MOST_LINE)
 
 # Four letters beyond ASCII in a row, as Cyrillic words have in its encodings of one byte.
 CYRILLIC = re.compile(rb"[\xc0-\xff]{4}")
+LIKE_CYRILLIC = ": its words look Cyrillic, so is it --encoding cp1251?"
 
 # Among how many lines the header is looked for.
 HEAD_LINES = 100
@@ -85,6 +86,8 @@ def _only_file_of(path: str) -> IO[bytes]:
     """The one file of a zip archive."""
     archive = zipfile.ZipFile(path)  # pylint: disable=consider-using-with
     names = [name for name in archive.namelist() if not name.endswith("/")]
+    if "mimetype" in names and "content.xml" in names:
+        raise UserError(f"{path}: it is a sheet of OpenDocument (.ods): save it as .xlsx or as CSV")
     if len(names) != 1:
         raise UserError(f"{path}: the archive has {len(names)} files: unpack it, and name one")
     return archive.open(names[0])
@@ -182,8 +185,7 @@ def encoding_of(path: str) -> tuple[str, str]:
         judge_text(path, name, "strict" if name == "utf-8" else "replace")
     except UnicodeDecodeError as error:
         # Of Cyrillic words cp1252 makes such as Âîñòîê.
-        like = (": its words look Cyrillic, so is it --encoding cp1251?"
-                if CYRILLIC.search(error.object) else "; --encoding names another")
+        like = LIKE_CYRILLIC if CYRILLIC.search(error.object) else "; --encoding names another"
         name, told = "cp1252", f"no UTF-8, and read as cp1252 (Western Windows){like}"
         judge_text(path, name, "replace")
     return name, told
@@ -247,6 +249,11 @@ class Source:
         left = (f"; left out: {', '.join(f'`{name}`' for name in self.sheets_left)}, without these "
                 "columns" if self.sheets_left else "")
         return f"{self.path}: {how}; {header}{units}{left}"
+
+    def doubts(self) -> list[str]:
+        """What may be wrong of how it is read."""
+        return ([f"{self.path}: {self.encoding_told}"]
+                if self.encoding_told.endswith(LIKE_CYRILLIC) else [])
 
     def lines_above(self) -> list[str]:
         """The lines above the header, such as comments of the package."""
@@ -363,6 +370,8 @@ class Source:
             return "it is Ctrl-Z, the end mark of DOS, and no row: take it out"
         shown = f"`{line[:SHOWN]}{'..' if line[SHOWN:] else ''}`"
         words = line[:LOOKED_AT].translate(BLANKED).split()
+        if words and all(map(is_number_like, words)):
+            return f"{shown}: is the file cut short?"
         if self.separator == " " and any(word.count(".") > 1 for word in words):
             return (f"{shown} has numbers without a blank between them: export it with a "
                     "separator, or wider columns")
@@ -603,8 +612,21 @@ def closest_separator(head: str) -> str:
                                                for line in lines) - (one == " "))
 
 
+#: How texts begin that are no tables, and what they are, with what to do.
+OTHERS = [(r"%PDF-", "a PDF: export the block model as CSV"),
+          (r"\s*(<!DOCTYPE html|<html|<table)", "a page of HTML, as some programs write it for a "
+           "spreadsheet: open it there, and save it as .xlsx or as CSV"),
+          (r"\s*0\s*\n\s*SECTION\b", "a DXF, of lines and surfaces and no blocks: export the "
+           "block model's centroids as CSV"),
+          (r"\s*[\[{]\s*[\"{]", "JSON: export the block model as CSV")]
+
+
 def judge_kind(path: str, head: str) -> None:
-    """Stops at texts that are no tables: files of Micromine and Surpac in their own form."""
+    """Stops at texts that are no tables: those of OTHERS, and files of Micromine and Surpac in
+    their own form."""
+    for front, what in OTHERS:
+        if re.match(f"(?i){front}", head):
+            raise UserError(f"{path}: it is {what}")
     lines = [*head.splitlines()[:3], "", ""]
     if re.match(r"\s*THIS\b.*|\s*\d+\s+VARIABLES\b", lines[0]) and re.search(
             r"(?i)\bvariables\b", " ".join(lines)):

@@ -104,8 +104,9 @@ class Export:
     """An export: its files, the words that read it, what it has to give, and how far that may
     differ (kilograms, millionths).
 
-    `told` are patterns of the report. `refused` is a pattern of the fault with `first` in place of
-    some words: how it goes where a planner does not know yet."""
+    `told` are patterns of the report. `refused` is a pattern of the fault or of a line behind LOOK
+    AT with `first` in place of some words: how it goes where a planner does not know yet.
+    `expected` are words of a resource report."""
 
     name: str
     files: dict[str, bytes]
@@ -116,6 +117,7 @@ class Export:
     refused: str = ""
     first: dict = field(default_factory=dict)
     grid: str = "1000,2000,300,20,20,10"
+    expected: tuple[str, ...] = ()
 
 
 def dec(value: int, places: int) -> str:
