@@ -3,11 +3,12 @@
 Those of random models are by the test of all pairs; of a million blocks the arcs are counted. The
 others are counted by hand, or by a formula of their own.
 """
+import functools
 import itertools
 import math
 
 from rows.instance import arcs_of, at, plain_texts, plan_of, sections, unlisted
-from rows.trial import ANY, HEADER, Part, Trial, lines, piped, refused, zone_file
+from rows.trial import ANY, HEADER, Later, Part, Trial, lines, piped, refused, zone_file
 from shared import ENDINGS, compile_words
 
 ONE = plan_of()
@@ -313,12 +314,12 @@ def no_blocks():
     yield Trial("no_blocks, by compile", words=words, files=files, out=b"rows 0\n", left=left)
 
 
-def million_blocks():
+def million_blocks(name):
     """A box of a million blocks."""
     places = itertools.product(range(25), range(200), range(200))
     rows = "".join(f"{x}0,{y}0,{z}0,1,0|" for z, y, x in places)
     counts = "blocks 1000000 arcs 4780800 coefficients 0 limits 0 cpit 0"
-    return arcs_of("million_blocks", counts, ONE, HEADER + lines(rows))
+    return arcs_of(name, counts, ONE, HEADER + lines(rows))
 
 
 def trials():
@@ -336,8 +337,8 @@ def trials():
     yield refused("same_block_in_two_files", line, given=given)
     models = itertools.product(MODELS, SHAPES)
     for seed, ((sizes, cones), box) in enumerate(models, FIRST_SEED):
-        blocks = list(blocks_of(seed, *box))
-        yield by_all_pairs(f"as_by_all_pairs: seed {seed}", sizes, cones, blocks)
+        made = functools.partial(by_all_pairs, sizes=sizes, cones=cones, blocks=list(blocks_of(seed, *box)))
+        yield Later(f"as_by_all_pairs: seed {seed}", made)
     yield from by_compile()
     yield from no_blocks()
-    yield million_blocks()
+    yield Later("million_blocks", million_blocks)

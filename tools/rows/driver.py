@@ -113,7 +113,7 @@ class Register:
     def each_once(self, table, trials):
         """The rows of a table; it ends the program where one has the name or input of another, or a
         name that is too long."""
-        for trial in trials:
+        for trial in (trial.made() for trial in trials):
             place = f"{table}: {trial.name}"
             if len(trial.name.encode()) > LONGEST_NAME:
                 sys.exit(f"{place}: its name has more than {LONGEST_NAME} bytes")

@@ -3,13 +3,14 @@
 Each row takes some seconds and some hundred megabytes at most, so they run one after the other.
 That of five million blocks has 800 MB of files.
 """
+import functools
 import shutil
 import sys
 import tempfile
 
 from rows import instance, large
 from rows.instance import arcs_of, at, plain_texts, sections, unlisted
-from rows.trial import HEADER, MARK, Pieces, Trial, piped, refused
+from rows.trial import HEADER, MARK, Later, Pieces, Trial, piped, refused
 from shared import CHECKED, ENDINGS, compile_words
 
 ONE_AT_A_TIME = True
@@ -59,47 +60,55 @@ def compiles(*zones):
     return compile_words("plan", "b", zones)
 
 
-def million_rows():
-    """As many rows as a file may have, all of them valued by one valuer, and one more."""
+def million_rows(name):
+    """As many rows as a file may have, all of them valued by one valuer."""
     places = bench(0, 1000, 1000)
     left = at("b", texts_of(places, unlisted(0, 10**6)))
     words, files = [*compiles("zone"), "--valuers", "1"], {"plan": ONE, "zone": rows(places)}
-    yield Trial("a million rows", words=words, files=files, out=b"rows 1000000\n", left=left)
-    files = {**OLDER, "plan": ONE, "zone": files["zone"] + b"0,0,1,1,0\n"}
+    return Trial(name, words=words, files=files, out=b"rows 1000000\n", left=left)
+
+
+def million_and_one(name):
+    files = {**OLDER, "plan": ONE, "zone": rows([*bench(0, 1000, 1000), (0, 0, 1)])}
     line = "file 0 row 1000002 column whole: TooManyRows"
-    yield refused("a million rows and one", line, words=compiles("zone"), files=files)
+    return refused(name, line, words=compiles("zone"), files=files)
 
 
-def two_files():
+def two_files(name):
     """Two files of as many rows as a file may have, one above the other.
 
     A block has five predecessors, and one less at each side.
     """
     zones = [rows(bench(z, 1000, 1000)) for z in (0, 1)]
     counts = "blocks 2000000 arcs 4996000 coefficients 0 limits 0 cpit 0"
-    return arcs_of("two_files_of_a_million_rows", counts, TWO, *zones)
+    return arcs_of(name, counts, TWO, *zones)
 
 
-def long_text():
+def long_text(name):
     """20,000 blocks, each below each of 1,000: the precedence file has 120 MB."""
     low, high = bench(0, 200, 100), bench(1, 100, 10)
     count, whole = len(low), len(low + high)
     above = " 1000 " + " ".join(map(str, range(count, whole))) + "|"
     prec = "".join(f"{block}{above}" for block in range(count)) + unlisted(count, whole)
     out = sections(texts_of(low + high, prec))
-    return Trial("text_of_120_megabytes", given=piped(FLAT, rows(low + high)), out=out)
+    return Trial(name, given=piped(FLAT, rows(low + high)), out=out)
 
 
-def long_inputs():
-    """A long cell that is not looked at, in an input of the pipe form and in a zone file."""
-    head, end = b"x,y,z,tonnes,grade,rock\n0,0,0,1,0,", b"\n1,0,0,1,0,\n"
-    for size in (150_000_000, MOST):
-        text = piped(ONE, head).ljust(size - len(end), b"b") + end
-        yield Trial(f"input of {size} bytes", given=text, out=sections(TWO_BLOCKS))
-        mark = MARK if size == MOST else b""
-        files = {"plan": ONE, "z": (mark + head).ljust(size - len(end), b"b") + end}
-        name, left = f"zone file of {size} bytes", at("b", TWO_BLOCKS)
-        yield Trial(name, words=compiles("z"), files=files, out=b"rows 2\n", left=left)
+# A cell that is not looked at stands between the two.
+HEAD, END = b"x,y,z,tonnes,grade,rock\n0,0,0,1,0,", b"\n1,0,0,1,0,\n"
+
+
+def long_input(size, name):
+    """An input of the pipe form with a long cell."""
+    text = piped(ONE, HEAD).ljust(size - len(END), b"b") + END
+    return Trial(name, given=text, out=sections(TWO_BLOCKS))
+
+
+def long_zone_file(size, name):
+    mark = MARK if size == MOST else b""
+    files = {"plan": ONE, "z": (mark + HEAD).ljust(size - len(END), b"b") + END}
+    left = at("b", TWO_BLOCKS)
+    return Trial(name, words=compiles("z"), files=files, out=b"rows 2\n", left=left)
 
 
 def too_long():
@@ -127,27 +136,25 @@ def too_long():
     yield refused(name, "blocks line 1: Fields", words=["check", "b"], files=files)
 
 
-def long_files():
-    """Each text that is read of an instance behind a remark of 200 MB."""
+def long_file(ending, name):
+    """A text that is read of an instance, behind a remark of 200 MB."""
     remark = b"%" + b"x" * 200_000_000 + b"\n"
     counts = b"blocks 1 arcs 0 coefficients 0 limits 0 cpit 0\n"
-    for ending in CHECKED:
-        files = at("b", {**ONE_BLOCK, ending: remark + ONE_BLOCK[ending]})
-        yield Trial(f"200 MB before b.{ending}", words=["check", "b"], files=files, out=counts)
+    files = at("b", {**ONE_BLOCK, ending: remark + ONE_BLOCK[ending]})
+    return Trial(name, words=["check", "b"], files=files, out=counts)
 
 
-def five_million_blocks():
-    """A model beyond each count at which a list might be taken for full: its texts by both forms,
-    and what `check` counts of them."""
+def five_million_piped(name):
+    """A model beyond each count at which a list might be taken for full: its texts by the pipe form."""
+    given = piped(large.PLAN, *large.zones())
+    return Trial(name, source="input", files={"input": given}, out=Pieces(large.sections))
+
+
+def five_million_blocks(name):
+    """Its texts by `compile`, and what `check` counts of them."""
     files = {f"zone{number}": text for number, text in enumerate(large.zones())}
-    yield Trial(
-        "five million blocks, by the pipe form",
-        source="input",
-        files={"input": piped(large.PLAN, *files.values())},
-        out=Pieces(large.sections),
-    )
-    yield Trial(
-        "five million blocks",
+    return Trial(
+        name,
         files={"plan": large.PLAN, **files},
         before=[compiles(*files)],
         words=["check", "b"],
@@ -175,11 +182,16 @@ def trials():
     folder = tempfile.gettempdir()
     if shutil.disk_usage(folder).free < ROOM:
         sys.exit(f"tools/rows/sizes.py: less than {ROOM} bytes are free in {folder}; set TMPDIR")
-    yield from five_million_blocks()
+    yield Later("five million blocks, by the pipe form", five_million_piped)
+    yield Later("five million blocks", five_million_blocks)
     yield from many_words()
-    yield from million_rows()
-    yield two_files()
-    yield long_text()
-    yield from long_inputs()
+    yield Later("a million rows", million_rows)
+    yield Later("a million rows and one", million_and_one)
+    yield Later("two_files_of_a_million_rows", two_files)
+    yield Later("text_of_120_megabytes", long_text)
+    for size in (150_000_000, MOST):
+        yield Later(f"input of {size} bytes", functools.partial(long_input, size))
+        yield Later(f"zone file of {size} bytes", functools.partial(long_zone_file, size))
     yield from too_long()
-    yield from long_files()
+    for ending in CHECKED:
+        yield Later(f"200 MB before b.{ending}", functools.partial(long_file, ending))

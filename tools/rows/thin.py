@@ -9,7 +9,7 @@ import random
 from rows import fullest, thin_files
 from rows.cells import shortest
 from rows.cones import BOUNDARIES
-from rows.trial import Trial, zone_file
+from rows.trial import Later, Trial, zone_file
 
 PLAN = """name,one
 grid,{grid}
@@ -127,7 +127,12 @@ def written(text, lists):
     return {"out": b"rows %d arcs %d of %d\n" % counts, "left": {"thin": text}}
 
 
-def thinned(name, cells, zones, sizes=(10, 10, 10), words=(), origin=(0, 0, 0), masses=ALIKE):
+def thinned(name, *given, **how):
+    """A row that is made so, which takes a second where many blocks have wide cones."""
+    return Later(name, lambda name: made(name, *given, **how))
+
+
+def made(name, cells, zones, sizes=(10, 10, 10), words=(), origin=(0, 0, 0), masses=ALIKE):
     """A run that writes what is left of zones with these cells in the plan. Sizes and origin are in
     metres."""
     cones = list(map(cone_of, cells))
@@ -387,7 +392,7 @@ def cross(side, z, y, x):
     return [((z + 1) * side + b) * side + a for a, b in places if 0 <= a < side and 0 <= b < side]
 
 
-def of_crosses(side):
+def of_crosses(name, side=160):
     """Three square benches at K = 2 and 1 : 1: a block has those of a cross on the next bench, and those
     of a disc of 13 blocks above it, all of which follow."""
     places = box(range(side), range(side), range(3))
@@ -399,15 +404,15 @@ def of_crosses(side):
     rows = zone_file(*(f"{x}0,{y}0,{z}0,1,0" for x, y, z in reversed(places)))
     plan = PLAN.format(grid="0,0,0,10,10,10", zones="zone,1,1,2").encode()
     return Trial(
-        f"three benches of {side} x {side}", words=["--plan", "plan", "--out", "thin", "zone0"],
+        name, words=["--plan", "plan", "--out", "thin", "zone0"],
         files={"plan": plan, "zone0": rows}, out=told, left={"thin": text_of(left)})
 
 
 def of_large_models():
     """A model of more than 65,536 blocks."""
-    by_pairs = thinned("", ["1,1,2"], [box(range(7), range(7), range(3))])
-    assert (of_crosses(7).out, of_crosses(7).left) == (by_pairs.out, by_pairs.left)
-    yield of_crosses(160)
+    by_pairs = made("", ["1,1,2"], [box(range(7), range(7), range(3))])
+    assert of_crosses("", 7)._replace(files={}) == by_pairs._replace(files={})
+    yield Later("three benches of 160 x 160", of_crosses)
 
 
 def trials():

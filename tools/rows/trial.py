@@ -103,6 +103,9 @@ class Trial(NamedTuple):
     errors: Content = b""
     left: Mapping[str, Content] = {}
 
+    def made(self):
+        return self
+
     def input(self):
         """A number that tells its words, files and standard input from those of other runs."""
         words, before = tuple(self.words), tuple(map(tuple, self.before))
@@ -120,6 +123,16 @@ class Trial(NamedTuple):
                 yield f"{name} is {'not ' if name in wanted else ''}there"
             elif not fits(found[name], wanted[name]):
                 yield difference(name, found[name], wanted[name])
+
+
+class Later(NamedTuple):
+    """A row that takes long to make, and is made where more than its name is asked for."""
+
+    name: str
+    make: Callable[[str], Trial]
+
+    def made(self):
+        return self.make(self.name)
 
 
 def fits(found, wanted):
