@@ -4,9 +4,9 @@
     mine = pit_tools.read_instance("deposit")
     in_pit = pit_tools.ultimate_pit(mine.upit.values, mine.precedence)
 
-The names of `__all__` stay as they are from one version to the next: docs/interface.md lists them
-with their shapes, units and errors. What else the modules beside this one have may change. A module
-is loaded when a name of it is first asked for. The command `pit-tools` calls those of
+The names of `__all__` stay as they are from one version to the next. docs/interface.md lists them,
+and `help` prints their shapes, units and errors. Anything else in the modules may change. A module
+is loaded when a name of it is first used. The command `pit-tools` calls those of
 `pit_tools.commands`.
 """
 from __future__ import annotations

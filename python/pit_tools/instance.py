@@ -128,7 +128,8 @@ class UltimatePit:
 
 @dataclass(frozen=True)
 class Problem:
-    """A PCPSP, or a CPIT, which has one destination."""
+    """A PCPSP, or a CPIT, which has one destination. Its `values` are (n, D), undiscounted, in
+    units of 100 cents; its `rate` is for one period."""
 
     kind: str  #: `PCPSP` or `CPIT`
     name: str
@@ -154,8 +155,8 @@ class Problem:
 
 @dataclass(frozen=True)
 class Instance:
-    """The texts of an instance; a part that was not read is None. Its arcs may be given in any
-    format that `arcs_of` takes."""
+    """The files of an instance; a part that was not read is None. `precedence` is (n, n), with 1 at
+    (b, p) if block b waits for block p. Its arcs may have any format that `arcs_of` accepts."""
 
     blocks: Optional[Blocks] = None
     precedence: Optional[sparse.csr_matrix] = None  #: (n, n), int8, 1 where row b waits for p

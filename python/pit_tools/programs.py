@@ -33,8 +33,8 @@ ENDS, ARCS, PERIODS, SHARES, LIMITS, ONCE = ROWS = ("ends", "arcs", "periods", "
 
 @dataclass(frozen=True)
 class Program:
-    """Maximise objective . v, where lower <= rows v <= upper, 0 <= v <= 1, and v is whole where
-    `whole`."""
+    """Maximise objective . v, where lower <= rows v <= upper, 0 <= v <= 1, and v is an integer
+    where `whole`. `names.list()` has the names of the variables."""
 
     title: str
     objective: np.ndarray  #: (variables,)
@@ -46,10 +46,10 @@ class Program:
     kinds: np.ndarray  #: what each row says, by its place in ROWS, int8 (rows,)
 
     def rows_of(self, kind: str) -> np.ndarray:
-        """The rows of a kind, one of ROWS; those of `limits` stand in the order of the problem's
-        limits.
+        """The places of the rows of a kind: `ends`, `arcs`, `periods`, `shares`, `limits`, in the
+        order of the problem's limits, or `once`.
 
-        Raises ValueError where it is none.
+        Raises ValueError if it is none of these.
         """
         return np.flatnonzero(self.kinds == ROWS.index(kind))
 

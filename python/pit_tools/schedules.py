@@ -153,7 +153,8 @@ def limit_told(limit: Limit) -> str:
 
 @dataclass(frozen=True)
 class Check:
-    """What a schedule is worth and uses, and what it breaks: a line of words each."""
+    """What a schedule is worth and uses, and what it breaks: a line of words each. It `holds` if it
+    breaks nothing."""
 
     blocks: float
     worth: float
