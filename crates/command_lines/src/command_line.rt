@@ -33,9 +33,9 @@ Statuses:
   3  an input cannot be opened or read, or an output cannot be written
   4  memory or a thread was refused
 
-What stands behind a fault, and mistakes that are none: docs/causes.md. The plan, the zone files and the
-texts: docs/formats.md. From an export to an instance, and to a solver: docs/recipes.md. The pages are in
-share/pitc, beside the bin of pitc where it is installed, as /usr/share/pitc, and in its archive.";
+Causes of errors, and mistakes that raise none: docs/causes.md. The plan, zone files and written files:
+docs/formats.md. From an export to an instance: docs/tutorial.md; to a solver: docs/solvers.md. The pages are
+in share/pitc, beside the bin of pitc where it is installed, as /usr/share/pitc, and in its archive.";
 
 const AFTER_COMPILE: &str = "Example:
   pitc compile --plan march.plan --out out/march north.csv south.csv
