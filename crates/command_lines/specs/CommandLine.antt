@@ -120,9 +120,13 @@ IsNoMemoryLine (Line error) = kind_of error ≢ kind.OutOfMemory
 abbrev pub IsRefusal : Error → Type 0
 IsRefusal error = (kind_of error ≢ kind.DisplayHelp) × (kind_of error ≢ kind.DisplayVersion)
 
--- words were appended
-abbrev pub AppendsWords : (old new : Text) → Type 0
-AppendsWords old new = (words : Text) × (new ≡ old ++ words)
+-- a text is words and a line feed: it is not empty
+abbrev pub IsEndedText : Text → Type 0
+IsEndedText text = (words : Text) × (text ≡ words ++ 10 ∷ [])
+
+-- such a text was appended
+abbrev pub AppendsText : (old new : Text) → Type 0
+AppendsText old new = (text : Text) × IsEndedText text × (new ≡ old ++ text)
 
 -- words are refused by a line of a kind that clap has for them, or where they state no job; or memory was refused
 abbrev pub RefusesWords : List Text → JobFault → Type 0

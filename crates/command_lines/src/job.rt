@@ -1,7 +1,7 @@
 //! What the words of a command line ask for.
 
-ghost use Rattle.std.specs.Prelude.{◌≡◌, ◌↔◌, IsFalse, IsTrue, IfOk, OnErr};
-ghost use Rattle.command_lines.specs.CommandLine.{AppendsWords, IsRefusal};
+ghost use Rattle.std.specs.Prelude.{◌≡◌, ◌↔◌, string_bytes, IsFalse, IsTrue, IfOk, OnErr};
+ghost use Rattle.command_lines.specs.CommandLine.{AppendsText, IsEndedText, IsRefusal};
 
 use plan_parts::settings::Settings;
 use std::alloc::{AllocError, Global};
@@ -69,7 +69,7 @@ impl From<clap::Error> for JobFault {
 }
 
 /// Appends the text of an error of `clap` to `lines` where it refuses the words, and else to `text`: its help, or its version. Answers
-/// whether it refuses them. Where memory is refused both are as they were.
+/// whether it refuses them. The text is never empty, and ends in a line feed. Where memory is refused both are as they were.
 pub fn append_error(
     alloc: Global,
     error: &clap::Error,
@@ -78,9 +78,9 @@ pub fn append_error(
 ) -> Result<bool, AllocError>
     ensures refuses { IfOk result (λ refused. IsTrue refused ↔ IsRefusal error.now) }
     ensures told { IfOk result (λ refused. IsTrue refused
-        → AppendsWords lines.old.items lines.new.items) }
+        → AppendsText lines.old.items lines.new.items) }
     ensures shown { IfOk result (λ refused. IsFalse refused
-        → AppendsWords text.old.items text.new.items) }
+        → AppendsText text.old.items text.new.items) }
     ensures quiet { IfOk result (λ refused. IsTrue refused → text.new.items ≡ text.old.items) }
     ensures still { IfOk result (λ refused. IsFalse refused → lines.new.items ≡ lines.old.items) }
     ensures kept { OnErr result
@@ -95,7 +95,13 @@ pub fn append_error(
     Ok(false)
 }
 
-/// The text of an error of `clap`: its help, its version, or why the words are refused. Fails only where memory is refused.
-pub fn error_text(alloc: Global, error: &clap::Error) -> Result<String, AllocError> {
-    Ok(format!(in alloc; "{error}")?)
+/// The text of an error of `clap`: its help, its version, or why the words are refused. It is never empty, and ends in a line feed. Fails
+/// only where memory is refused.
+pub fn error_text(alloc: Global, error: &clap::Error) -> Result<String, AllocError>
+    ensures { IfOk result (λ text. IsEndedText (string_bytes text)) }
+{
+    let words = format!(in alloc; "{error}")?;
+    let words = words.as_str();
+    let words = words.strip_suffix("\n").unwrap_or(words);
+    Ok(format!(in alloc; "{words}\n")?)
 }
