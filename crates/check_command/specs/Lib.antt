@@ -1,3 +1,4 @@
 pub mod Checked
 pub mod Counts
+pub mod WrittenTexts
 pub mod inner

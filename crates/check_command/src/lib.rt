@@ -4,3 +4,4 @@
 pub mod check;
 mod counting;
 pub mod counts;
+pub mod laws;
