@@ -1,3 +1,4 @@
+pub mod Best
 pub mod Enough
 pub mod Members
 pub mod Moved
@@ -5,4 +6,5 @@ pub mod One
 pub mod Same
 pub mod SomeLeft
 pub mod Spared
+pub mod Sums
 pub mod Told

@@ -1,5 +1,6 @@
 pub mod Fewer
 pub mod Left
 pub mod Mined
+pub mod Optima
 pub mod SayTheSame
 pub mod inner

@@ -1,6 +1,6 @@
 //! What holds of what is left, whatever the lists: each contract is a law, and a call of it does nothing.
 
-ghost use Rattle.std.specs.Prelude.{◌≡◌, ◌↔◌, ℕ, ◌<◌, Bool, List, [], All, Contains, length, slice_index_or};
+ghost use Rattle.std.specs.Prelude.{◌≡◌, ◌↔◌, ℕ, ◌*◌, ◌<◌, Bool, List, [], All, Contains, length, slice_index_or, ℤ, pos, ◌*ℤ◌, ◌≤ℤ◌};
 ghost use Rattle.precedence.specs.Closed.{AreClosed, ComeLater};
 ghost use Rattle.precedence.specs.Cone.{preds};
 ghost use Rattle.precedence.specs.Zones.{HasZones};
@@ -12,6 +12,7 @@ ghost use Rattle.plan_parts.specs.declared.cone.Cone.{Cone};
 ghost use Rattle.fewer_arcs.specs.Fewer.{fewer, left_of};
 ghost use Rattle.fewer_arcs.specs.Left.{IsLeft, Rise, StandForAll};
 ghost use Rattle.fewer_arcs.specs.Mined.{IsMinedInOrder, IsPit, IsSchedule};
+ghost use Rattle.fewer_arcs.specs.Optima.{AreBestShares, Fall, IsBestSchedule, IsSharedOut, IsUltimatePit, Shares, pit_value, schedule_value, shares_value};
 ghost use Rattle.fewer_arcs.specs.SayTheSame.{AreAmong, HaveWays, SaysTheSame};
 
 use precedence::laws::{preds_come_later, preds_rise};
@@ -40,6 +41,32 @@ pub fn mined_in_the_same_order()
 pub fn schedules_are_the_same()
     ensures { (lists : List (List ℕ)) (period_of : ℕ → ℕ) → ComeLater lists
         → (IsSchedule (fewer lists) period_of ↔ IsSchedule lists period_of) }
+{}
+
+/// The reduced lists have the same optima of UPIT, CPIT and PCPSP as all lists, for any values, weights of periods and limits.
+pub fn optima_are_the_same()
+    ensures upit { (lists : List (List ℕ)) (n : ℕ) (value : ℕ → ℤ) (pit : ℕ → Bool) → ComeLater lists
+        → (IsUltimatePit (fewer lists) n value pit ↔ IsUltimatePit lists n value pit) }
+    ensures cpit { (lists : List (List ℕ)) (is_within : (ℕ → ℕ) → Bool) (n : ℕ) (weight : ℕ → ℕ) (value : ℕ → ℤ) (period_of : ℕ → ℕ)
+        → ComeLater lists
+        → (IsBestSchedule (fewer lists) is_within n weight value period_of ↔ IsBestSchedule lists is_within n weight value period_of) }
+    ensures pcpsp { (lists : List (List ℕ)) (are_within : Shares → Bool) (unit n periods destinations : ℕ) (weight : ℕ → ℕ)
+        (value : ℕ → ℕ → ℤ) (shares : Shares) → ComeLater lists
+        → (AreBestShares (fewer lists) are_within unit n periods destinations weight value shares
+            ↔ AreBestShares lists are_within unit n periods destinations weight value shares) }
+{}
+
+/// No schedule is worth more than the ultimate pit mined in the first period. The weights of periods must not rise, as those of discounting,
+/// and no destination may be worth more than the block's value in the pit. Undiscounted, every weight is one.
+pub fn no_schedule_is_worth_more()
+    ensures whole { (lists : List (List ℕ)) (n periods : ℕ) (weight : ℕ → ℕ) (value : ℕ → ℤ) (pit : ℕ → Bool) (period_of : ℕ → ℕ)
+        → Fall periods weight → IsUltimatePit lists n value pit → IsSchedule lists period_of
+        → (schedule_value n weight value period_of) ≤ℤ (pos (weight 0) *ℤ pit_value n value pit) }
+    ensures shares { (lists : List (List ℕ)) (unit n periods destinations : ℕ) (weight : ℕ → ℕ) (value : ℕ → ℤ) (worth : ℕ → ℕ → ℤ)
+        (pit : ℕ → Bool) (shares : Shares)
+        → Fall periods weight → IsUltimatePit lists n value pit → IsSharedOut lists unit destinations shares
+        → ((b d : ℕ) → d < destinations → (worth b d) ≤ℤ (value b))
+        → (shares_value n periods destinations weight worth shares) ≤ℤ (pos (weight 0 * unit) *ℤ pit_value n value pit) }
 {}
 
 /// Of lists that rise, what is left of each is some of it in its order. Each dropped block stands in the list of another one of it, and
