@@ -17,9 +17,10 @@ best_of P Q worth there back x best = (there x best.0, λ other own. best.1 othe
 
 module _ (lists : List (List ℕ)) (later : ComeLater lists) where
   pub best_pits : (n : ℕ) (value : ℕ → ℤ) (pit : ℕ → Bool) → IsUltimatePit (fewer lists) n value pit ↔ IsUltimatePit lists n value pit
-  best_pits n value pit =
-      (best_of (IsPit (fewer lists)) (IsPit lists) (pit_value n value) (pit_there lists later) (pit_back lists later) pit
-      , best_of (IsPit lists) (IsPit (fewer lists)) (pit_value n value) (pit_back lists later) (pit_there lists later) pit)
+  best_pits n value pit = (
+    best_of (IsPit (fewer lists)) (IsPit lists) (pit_value n value) (pit_there lists later) (pit_back lists later) pit,
+    best_of (IsPit lists) (IsPit (fewer lists)) (pit_value n value) (pit_back lists later) (pit_there lists later) pit,
+  )
 
   pub best_schedules : (is_within : (ℕ → ℕ) → Bool) (n : ℕ) (weight : ℕ → ℕ) (value : ℕ → ℤ) (period_of : ℕ → ℕ)
       → IsBestSchedule (fewer lists) is_within n weight value period_of ↔ IsBestSchedule lists is_within n weight value period_of
@@ -33,14 +34,14 @@ module _ (lists : List (List ℕ)) (later : ComeLater lists) where
 
   pub best_shares : (are_within : Shares → Bool) (unit n periods destinations : ℕ) (weight : ℕ → ℕ) (value : ℕ → ℕ → ℤ) (shares : Shares)
       → AreBestShares (fewer lists) are_within unit n periods destinations weight value shares
-          ↔ AreBestShares lists are_within unit n periods destinations weight value shares
+      ↔ AreBestShares lists are_within unit n periods destinations weight value shares
   best_shares are_within unit n periods destinations weight value shares =
       let few = λ (other : Shares). IsSharedOut (fewer lists) unit destinations other × (are_within other ≡ true) in
       let all = λ (other : Shares). IsSharedOut lists unit destinations other × (are_within other ≡ true) in
       let there : (other : Shares) → few other → all other = λ other own.
-          (record { order = mined_there lists later (mined_by destinations other) own.0.order; most = own.0.most; }, own.1) in
+      (record { order = mined_there lists later (mined_by destinations other) own.0.order; most = own.0.most }, own.1) in
       let back : (other : Shares) → all other → few other = λ other own.
-          (record { order = mined_back lists later (mined_by destinations other) own.0.order; most = own.0.most; }, own.1) in
+      (record { order = mined_back lists later (mined_by destinations other) own.0.order; most = own.0.most }, own.1) in
       let worth = shares_value n periods destinations weight value in
       (best_of few all worth there back shares, best_of all few worth back there shares)
 
@@ -84,7 +85,7 @@ module _ (lists : List (List ℕ)) (n : ℕ) (value : ℕ → ℤ) (pit : ℕ �
 
     in_two : (last : ℕ) (weight : ℕ → ℕ) → Fall (suc last) weight → (b : ℕ)
         → pos (weight (period_of b)) *ℤ value b
-          ≡ (pos (weight last) *ℤ (if by_end last b then value b else pos 0)) +ℤ (pos (lower weight last (period_of b)) *ℤ value b)
+        ≡ (pos (weight last) *ℤ (if by_end last b then value b else pos 0)) +ℤ (pos (lower weight last (period_of b)) *ℤ value b)
     in_two last weight fall b = by (by_end last b) refl
       where
         by : (t : Bool) → ltb (period_of b) (suc last) ≡ t → pos (weight (period_of b)) *ℤ value b
@@ -139,8 +140,14 @@ module _ (lists : List (List ℕ)) (n : ℕ) (value : ℕ → ℤ) (pit : ℕ �
       let rest = λ (b : ℕ). pos (below b) *ℤ value b in
       let cut = sum_same n (λ b. pos (amount b) *ℤ value b) (λ b. first b +ℤ rest b) (λ b. in_two b (whole b) refl) ∙ sum_of_two n first rest in
       let is : IsPit lists whole = λ b c arc own. lt-ltb unit (amount c) (omega (arith, order b c arc, ltb-true unit (amount b) own)) in
-      omega (arith, ints, cut, best.1 whole is, one_more unit most
-          , part_below unit below (λ b c arc. omega (arith, order b c arc)) (λ b. omega arith))
+      omega (
+        arith,
+        ints,
+        cut,
+        best.1 whole is,
+        one_more unit most,
+        part_below unit below (λ b c arc. omega (arith, order b c arc)) (λ b. omega arith),
+      )
     where
       in_two : (b : ℕ) (t : Bool) → ltb unit (amount b) ≡ t
           → pos (amount b) *ℤ value b ≡ (if t then value b else pos 0) +ℤ (pos (min (amount b) unit) *ℤ value b)
@@ -155,7 +162,7 @@ module _ (lists : List (List ℕ)) (n : ℕ) (value : ℕ → ℤ) (pit : ℕ �
   -- a sum by the weights of periods is one by what they have above the last weight, and that weight of all
   weighed : (periods last : ℕ) (weight : ℕ → ℕ) (f : ℕ → ℕ) → ((period : ℕ) → period < periods → weight last ≤ weight period)
       → count periods (λ period. weight period * f period)
-        ≡ weight last * count periods f + count periods (λ period. lower weight last period * f period)
+      ≡ weight last * count periods f + count periods (λ period. lower weight last period * f period)
   weighed zero last weight f low = omega arith
   weighed (suc periods) last weight f low =
       let here : weight periods ≡ weight last + lower weight last periods = omega (arith, low periods (omega arith)) in
@@ -183,18 +190,18 @@ module _ (lists : List (List ℕ)) (n : ℕ) (value : ℕ → ℤ) (pit : ℕ �
         let low : weight last ≤ weight 0 = omega (arith, falls_to (suc last) weight fall 0 last, ap weight from) in
         let whole : weight last + lower weight last 0 ≡ weight 0 = omega (arith, low) in
         let all = sym (times_more (weight last * unit) (lower weight last 0 * unit) most)
-            ∙ ap (λ k. pos k *ℤ most) (sym (add-mul (weight last) (lower weight last 0) unit) ∙ ap (λ k. k * unit) whole) in
+        ∙ ap (λ k. pos k *ℤ most) (sym (add-mul (weight last) (lower weight last 0) unit) ∙ ap (λ k. k * unit) whole) in
         omega (arith, ints, cut, parts, one, times_times (weight last) unit most, amounts_below last (lower weight last) (lower_falls last weight fall), all)
       where
         in_two : (b : ℕ) → pos (amounts (suc last) weight b) *ℤ value b
             ≡ (pos (weight last) *ℤ (pos (count (suc last) (f b)) *ℤ value b)) +ℤ (pos (amounts last (lower weight last) b) *ℤ value b)
         in_two b =
             let low : (period : ℕ) → period < suc last → weight last ≤ weight period = λ period lt.
-                let back : period + (last - period) ≡ last = omega (arith, lt) in
-                omega (arith, falls_to (suc last) weight fall period (last - period), ap weight back) in
+            let back : period + (last - period) ≡ last = omega (arith, lt) in
+            omega (arith, falls_to (suc last) weight fall period (last - period), ap weight back) in
             let none : lower weight last last * f b last ≡ 0 = ap (λ k. k * f b last) (lower_falls last weight fall).ends ∙ zero-mul (f b last) in
             let split : amounts (suc last) weight b ≡ weight last * count (suc last) (f b) + amounts last (lower weight last) b
-                = omega (arith, weighed (suc last) last weight (f b) low, none) in
+            = omega (arith, weighed (suc last) last weight (f b) low, none) in
             ap (λ k. pos k *ℤ value b) split ∙ times_more (weight last * count (suc last) (f b)) (amounts last (lower weight last) b) (value b)
             ∙ ap (λ x. x +ℤ (pos (amounts last (lower weight last) b) *ℤ value b)) (times_times (weight last) (count (suc last) (f b)) (value b))
 
@@ -204,21 +211,32 @@ module _ (lists : List (List ℕ)) (n : ℕ) (value : ℕ → ℤ) (pit : ℕ �
         → (sum upto (λ d. pos (w * share d) *ℤ worth b d)) ≤ℤ (pos (w * count upto share) *ℤ value b)
     at_all zero up b w share = omega (arith, ints, ap (λ k. pos k *ℤ value b) (mul-zero w), none_of (value b))
     at_all (suc upto) up b w share =
-        omega (arith, ints, at_all upto (omega (arith, up)) b w share, times_mono (w * share upto) (worth b upto) (value b) (above b upto (omega (arith, up)))
-            , times_more (w * count upto share) (w * share upto) (value b), ap (λ k. pos k *ℤ value b) (mul-add w (count upto share) (share upto)))
+        omega (
+          arith,
+          ints,
+          at_all upto (omega (arith, up)) b w share,
+          times_mono (w * share upto) (worth b upto) (value b) (above b upto (omega (arith, up))),
+          times_more (w * count upto share) (w * share upto) (value b),
+          ap (λ k. pos k *ℤ value b) (mul-add w (count upto share) (share upto)),
+        )
 
     in_all : (periods : ℕ) (weight : ℕ → ℕ) (shares : Shares) (b : ℕ)
         → (sum periods (λ period. sum destinations (λ d. pos (weight period * shares b period d) *ℤ worth b d)))
-          ≤ℤ (pos (count periods (λ period. weight period * mined_in destinations shares b period)) *ℤ value b)
+        ≤ℤ (pos (count periods (λ period. weight period * mined_in destinations shares b period)) *ℤ value b)
     in_all zero weight shares b = omega (arith, ints, none_of (value b))
     in_all (suc periods) weight shares b =
-        omega (arith, ints, in_all periods weight shares b, at_all destinations (omega arith) b (weight periods) (shares b periods)
-            , times_more (count periods (λ period. weight period * mined_in destinations shares b period))
-              (weight periods * mined_in destinations shares b periods) (value b))
+        omega (
+          arith,
+          ints,
+          in_all periods weight shares b,
+          at_all destinations (omega arith) b (weight periods) (shares b periods),
+          times_more (count periods (λ period. weight period * mined_in destinations shares b period))
+              (weight periods * mined_in destinations shares b periods) (value b),
+        )
 
     pub shares_below : (unit periods : ℕ) (weight : ℕ → ℕ) (shares : Shares) → Fall periods weight → IsSharedOut lists unit destinations shares
         → (shares_value n periods destinations weight worth shares) ≤ℤ (pos (weight 0 * unit) *ℤ most)
     shares_below unit periods weight shares fall is =
         let each = sum_le n (λ b. sum periods (λ period. sum destinations (λ d. pos (weight period * shares b period d) *ℤ worth b d)))
-            (λ b. pos (count periods (λ period. weight period * mined_in destinations shares b period)) *ℤ value b) (in_all periods weight shares) in
+        (λ b. pos (count periods (λ period. weight period * mined_in destinations shares b period)) *ℤ value b) (in_all periods weight shares) in
         omega (arith, ints, each, amounts_below unit (mined_in destinations shares) (λ last b c arc. is.order b c arc last) is.most periods weight fall)

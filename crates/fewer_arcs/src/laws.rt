@@ -53,7 +53,7 @@ pub fn optima_are_the_same()
     ensures pcpsp { (lists : List (List ℕ)) (are_within : Shares → Bool) (unit n periods destinations : ℕ) (weight : ℕ → ℕ)
         (value : ℕ → ℕ → ℤ) (shares : Shares) → ComeLater lists
         → (AreBestShares (fewer lists) are_within unit n periods destinations weight value shares
-            ↔ AreBestShares lists are_within unit n periods destinations weight value shares) }
+        ↔ AreBestShares lists are_within unit n periods destinations weight value shares) }
 {}
 
 /// No schedule is worth more than the ultimate pit mined in the first period. The weights of periods must not rise, as those of discounting,
