@@ -15,9 +15,9 @@ from pit_tools.instance import TEXTS
 #: What a batch writes beside the texts of its instances.
 TABLES = ("MANIFEST", "SIZES", "BUILD")
 
-#: Bytes that a list may have, and a line: a plan and 64 zone files, each of as long a name as there
-#: is.
-MOST_BYTES, MOST_LINE = 1 << 27, 65 * 4096
+#: Bytes that a list may have, a name, and a line, of a plan and 64 zone files.
+MOST_BYTES, MOST_NAME = 1 << 27, 4096
+MOST_LINE = 65 * MOST_NAME
 
 
 @dataclass(frozen=True)
@@ -100,6 +100,8 @@ def _entries(path: str, content: bytes) -> Iterator[tuple[int, Entry]]:
         place = f"{path}: line {number}"
         if len(line) > MOST_LINE:
             raise UserError(f"{place}: it has more than {MOST_LINE:,} bytes")
+        if max(map(len, line.split()), default=0) > 2 * MOST_NAME:
+            raise UserError(f"{place}: a name has more than {MOST_NAME:,} bytes")
         try:
             words = shlex.split(line.decode("utf-8-sig" if number == 1 else "utf-8"), comments=True)
         except UnicodeDecodeError:

@@ -11,15 +11,20 @@ import json
 import os
 import re
 from dataclasses import dataclass
+from itertools import islice
 from typing import IO, Any, Iterable, Iterator, Optional
 
 from pit_tools import outputs
 from pit_tools.batch_list import Entry, Part
 from pit_tools.batch_making import Made
 from pit_tools.errors import UserError
+from pit_tools.published_lines import numbered_lines
 from pit_tools.records import sum_of
 
 NAME = "RECORD"
+
+#: Characters of a line: the names of 64 zone files, with their sums.
+MOST_LINE = 1 << 20
 
 
 @dataclass(frozen=True)
@@ -51,8 +56,8 @@ def build_of(path: str) -> Optional[str]:
     """The text of BUILD that a record begins with; None where there is no record, or nothing in
     it."""
     try:
-        with outputs.looking(), open(path, encoding="utf-8", errors="replace") as file:
-            first = file.readline()
+        with outputs.looking():
+            _, first = next(numbered_lines(path, MOST_LINE), (1, ""))
     except FileNotFoundError:
         return None
     build = _parsed(first).get("build")
@@ -64,9 +69,8 @@ def build_of(path: str) -> Optional[str]:
 
 
 def _lines(path: str) -> Iterator[Made]:
-    with outputs.looking(), open(path, encoding="utf-8", errors="replace") as file:
-        next(file, None)
-        for line in file:
+    with outputs.looking():
+        for _, line in islice(numbered_lines(path, MOST_LINE), 1, None):
             found = _parsed(line)
             try:
                 plan, *zones = found["files"]
@@ -79,7 +83,7 @@ def _parsed(line: str) -> dict[str, Any]:
     """What a line says by name: nothing, where it is no record."""
     try:
         found = json.loads(line)
-    except ValueError:
+    except (ValueError, RecursionError):
         return {}
     return found if isinstance(found, dict) else {}
 

@@ -14,7 +14,7 @@ from typing import Iterable, Optional, Sequence
 import numpy as np
 import pandas as pd
 
-from pit_tools.decimals import LONGEST, MOST_EXACT, floats_of, is_decimal, is_held, parts_of
+from pit_tools.decimals import LONGEST, MOST_EXACT, fault_of, floats_of, is_decimal, parts_of
 from pit_tools.decimals import plain as plain_decimal
 from pit_tools.errors import UserError
 
@@ -68,7 +68,7 @@ class Marks:
                 return None
             text = text.replace(",", ".")
         text = re.sub(r"(?<=[\d.])[dD](?=[-+]?\d)", "E", text)
-        return text if is_decimal(text) and is_held(text) else None
+        return None if fault_of(text) else text
 
     def spelled(self, cells: pd.Series, as_percent: bool = False) -> Spelled:
         """Cells as plain decimals. Most are plain already, and are taken as they are; each odd

@@ -14,7 +14,7 @@ import traceback
 from contextlib import contextmanager
 from typing import Any, Iterator, Optional, Sequence
 
-from pit_tools import VERSION, outputs
+from pit_tools import VERSION, commands, outputs
 from pit_tools.errors import UserError
 
 # The subcommands with one line on each, in the order of the work.
@@ -102,10 +102,10 @@ def whole_parser() -> argparse.ArgumentParser:
                        help="print the version, the interpreter and the packages")
     whole.add_argument(DEBUG, action="store_true",
                        help="show where in the program an error of its own arose")
-    commands = whole.add_subparsers(title="commands", metavar="COMMAND")
+    parsers = whole.add_subparsers(title="commands", metavar="COMMAND")
     for command, told in COMMANDS.items():
-        _filled(commands.add_parser(command, help=told, **FORM), command)
-    about_help = commands.add_parser("help", help="the help of a command", **FORM)
+        _filled(parsers.add_parser(command, help=told, **FORM), command)
+    about_help = parsers.add_parser("help", help="the help of a command", **FORM)
     about_help.add_argument("command", nargs="?", metavar="COMMAND", choices=list(COMMANDS),
                             help="which command; without it, all")
     return whole
@@ -115,6 +115,9 @@ def _filled(parser: argparse.ArgumentParser, command: str) -> argparse.ArgumentP
     """The parser of a subcommand with its words, by its module."""
     module = importlib.import_module("pit_tools.commands." + module_path(command))
     parser.description = module.HELP
+    # Python's own take `1_0` and digits of other scripts.
+    parser.register("type", int, commands.whole)
+    parser.register("type", float, commands.number)
     module.add_arguments(parser)
     if command not in UNJUDGED:
         parser.add_argument("--edited", action="store_true",

@@ -13,7 +13,7 @@ from typing import Optional, Sequence, Union
 import numpy as np
 import pandas as pd
 
-from pit_tools.errors import UserError
+from pit_tools.errors import UserError, quoted
 
 # What a float of 53 bits may be off of the decimal that was written, relative to it, with some
 # room.
@@ -59,21 +59,39 @@ def is_number_like(text: str) -> bool:
     return len(bare) <= LONGEST and is_decimal("".join(bare.split()).translate(_SPELLINGS))
 
 
-def is_held(text: str) -> bool:
-    """Whether a decimal stays the same number as a double, but for what 15 digits do not show. It
-    does not where it becomes infinite, or 0 for no 0, or another integer."""
+def fault_of(text: str) -> str:
+    """Why a double does not hold the number of a text: it is none, would become infinite, or 0 for
+    no 0, or another number with its decimals, six at most. Empty if the double holds it."""
+    if not is_decimal(text):
+        return "no number"
     value = float(text)
     digits = text.lower().partition("e")[0].strip("+-").replace(".", "").strip("0")
-    if not math.isfinite(value) or (digits and not value):
-        return False
-    return (len(digits) <= DIGITS or abs(value) < MOST_EXACT
-            or Decimal(text) == Decimal(value))
+    if not math.isfinite(value):
+        return "too great"
+    if digits and not value:
+        return "too small"
+    if len(digits) <= DIGITS or Decimal(text) == Decimal(value):
+        return ""
+    places = min(6, -int(Decimal(text).normalize().as_tuple().exponent))
+    is_same = abs(value) < MOST_EXACT and rounded(text, places) == rounded(Decimal(value), places)
+    return "" if is_same else "of more digits than can be held"
+
+
+def number_of(text: str) -> Optional[float]:
+    """The double of a decimal; None if the text is none, or no double holds it."""
+    return None if fault_of(text) else float(text)
 
 
 def may_be_misread(text: bytes) -> bool:
-    """Whether pandas may take a field of lines for another number than it is."""
+    """Whether pandas may take a field of lines for another number than it is, or a double may not
+    hold it."""
     return (((b"e" in text or b"E" in text) and _MISREAD.search(text) is not None)
-            or _VANISHES in text)
+            or _VANISHES in text or _longest_field(text) > DIGITS)
+
+
+def _longest_field(text: bytes) -> int:
+    blanks = np.flatnonzero(np.frombuffer(text, dtype=np.uint8) <= 32)
+    return int(np.diff(blanks, prepend=-1, append=len(text)).max()) - 1
 
 
 def rounded(text: Union[str, Decimal, int], places: int) -> int:
@@ -93,8 +111,7 @@ def floats_of(texts: pd.Series) -> np.ndarray:
     floats = pd.to_numeric(texts, errors="coerce").to_numpy(np.float64, na_value=np.nan).copy()
     if LONG_EXPONENT.search("\n".join(texts.dropna())):
         is_long = texts.str.contains(LONG_EXPONENT, na=False).to_numpy()
-        floats[is_long] = [float(text) if is_decimal(text) and is_held(text) else np.nan
-                           for text in texts[is_long]]
+        floats[is_long] = [number_of(text) for text in texts[is_long]]
     return floats
 
 
@@ -139,8 +156,7 @@ def texts_of(parts: Union[np.ndarray, Sequence[int]], places: int) -> np.ndarray
 
 def shortest(parts: int, places: int) -> str:
     """One such number as the shortest text: no needless zero, and no point without a fraction."""
-    text = str(texts_of([parts], places)[0])
-    return text.rstrip("0").rstrip(".") if "." in text else text
+    return plain(Decimal(int(parts)).scaleb(-places))
 
 
 def plain(value: Union[Decimal, int]) -> str:
@@ -154,9 +170,9 @@ def decimal_of(text: str, what: str) -> Decimal:
     """A decimal of a plan or a word, exact. It raises UserError, which names what it was for."""
     value = Decimal(text) if is_decimal(text := text.strip()) else None
     if value is None:
-        raise UserError(f"{what}: `{text[:60]}` is no number")
+        raise UserError(f"{what}: {quoted(text)} is no number")
     if abs(value.adjusted()) > MOST_DIGITS:
-        raise UserError(f"{what}: `{text[:60]}` is too great or too small a number")
+        raise UserError(f"{what}: {quoted(text)} is too great or too small a number")
     return value
 
 

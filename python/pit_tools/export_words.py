@@ -24,6 +24,9 @@ KINDS = {"x": "length", "y": "length", "z": "length", "i": "", "j": "", "k": "",
          "ore_share": "share", "waste_share": "share", "grade": "grade", "size_x": "length",
          "size_y": "length", "size_z": "length"}
 
+# Characters that a table of zones or densities may have.
+MOST_TABLE = 1 << 24
+
 
 @dataclass
 class Words:
@@ -321,7 +324,9 @@ def _records_of(path: str) -> list[list[str]]:
     outputs.reads(path)
     try:
         with open(path, encoding="utf-8-sig", newline="") as file:
-            text = file.read()
+            text = file.read(MOST_TABLE + 1)
+        if len(text) > MOST_TABLE:
+            raise UserError(f"{path}: it has more than {MOST_TABLE:,} characters")
         sign = closest_separator(text) if text.strip() else ","
         reader = csv.reader(io.StringIO(text, newline=""), delimiter=sign, skipinitialspace=True)
         for record in reader:

@@ -11,8 +11,8 @@ from typing import Optional, Sequence
 import numpy as np
 from scipy.spatial import cKDTree
 
-from pit_tools.decimals import shortest
-from pit_tools.errors import UserError
+from pit_tools.decimals import number_of, shortest
+from pit_tools.errors import UserError, quoted
 
 AXES = "xyz"
 
@@ -110,13 +110,11 @@ def rotation_of(text: str) -> np.ndarray:
     found = np.eye(3)
     for turn in text.split(","):
         axis, _, degrees = turn.strip().lower().partition(" ")
-        try:
-            angle = math.radians(float(degrees))
-        except ValueError:
-            angle = math.nan
-        if axis not in ("x", "y", "z") or not math.isfinite(angle):
+        found_degrees = number_of(degrees.strip())
+        if axis not in ("x", "y", "z") or found_degrees is None:
             raise UserError("--rotation: give turns about axes, as 'z 40, x 20', and not "
-                            f"`{text}`")
+                            f"{quoted(text)}")
+        angle = math.radians(found_degrees)
         along, across = math.cos(angle), math.sin(angle)
         first, second = [(1, 2), (2, 0), (0, 1)]["xyz".index(axis)]
         turned = np.eye(3)

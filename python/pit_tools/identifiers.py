@@ -13,8 +13,9 @@ from scipy import sparse
 
 from pit_tools import outputs, spelling
 from pit_tools.decimals import whole_of
-from pit_tools.errors import UserError
+from pit_tools.errors import UserError, quoted
 from pit_tools.instance import Blocks, Instance, Problem, Uses, arcs_of
+from pit_tools.published_lines import numbered_lines
 
 
 @dataclass(frozen=True)
@@ -47,15 +48,15 @@ def read_identifiers(path: str) -> Identifiers:
 
     Raises UserError where it is none.
     """
-    outputs.reads(path)
-    try:
-        with open(path, encoding="ascii") as file:
-            fields = np.array([line.split() for line in file], dtype=np.int64).reshape(-1, 2)
-    except (ValueError, OverflowError):
-        raise UserError(f"{path}: a line is no block with its published identifier") from None
-    blocks, published = fields.T
+    rows: list[list[Optional[int]]] = []
+    for number, line in numbered_lines(path):
+        rows.append([whole_of(field) for field in line.split()])
+        if len(rows[-1]) != 2 or None in rows[-1]:
+            raise UserError(f"{path}: line {number}: no block with its published identifier: "
+                            f"{quoted(line.strip())}")
+    blocks, published = np.array(rows, dtype=np.int64).reshape(-1, 2).T
     ids = np.sort(published)
-    if not np.array_equal(blocks, np.arange(len(fields))) \
+    if not np.array_equal(blocks, np.arange(len(rows))) \
             or not np.array_equal(ids, ids[:1] + np.arange(len(ids))):
         raise UserError(f"{path}: blocks are not 0, 1, 2, .., or identifiers not consecutive")
     return Identifiers(published)
@@ -68,16 +69,14 @@ def lines_renamed(path: str, identifiers: Identifiers, to_published: bool) -> It
     """
     first = 0 if to_published else identifiers.first
     names = (identifiers.published if to_published else identifiers.blocks()).tolist()
-    outputs.reads(path)
-    with open(path, encoding="utf-8", errors="replace") as file:
-        for number, line in enumerate(file, 1):
-            fields = line.split()
-            if not fields:
-                continue
-            block = whole_of(fields[0])
-            if block is None or not 0 <= block - first < len(names):
-                raise UserError(f"{path}: line {number}: `{fields[0][:60]}` is no block")
-            yield " ".join([str(names[block - first]), *fields[1:]]) + "\n"
+    for number, line in numbered_lines(path):
+        fields = line.split()
+        if not fields:
+            continue
+        block = whole_of(fields[0])
+        if block is None or not 0 <= block - first < len(names):
+            raise UserError(f"{path}: line {number}: {quoted(fields[0])} is no block")
+        yield " ".join([str(names[block - first]), *fields[1:]]) + "\n"
 
 
 def order_of(precedence: sparse.csr_matrix) -> Optional[np.ndarray]:

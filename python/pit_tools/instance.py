@@ -26,11 +26,11 @@ import pandas as pd
 from scipy import sparse
 
 from pit_tools import outputs, spelling
-from pit_tools.decimals import may_be_misread
-from pit_tools.errors import UserError
+from pit_tools.decimals import fault_of, may_be_misread, number_of
+from pit_tools.errors import UserError, quoted
 from pit_tools.formats import (MOST_AMOUNT, MOST_BLOCKS, MOST_DESTINATIONS, MOST_INDEX,
                                MOST_PERIODS, MOST_RESOURCES, MOST_ZONE, NAME, WHAT_A_NAME_IS)
-from pit_tools.published_lines import whole_lines
+from pit_tools.published_lines import integers_of, line_lengths, whole_lines
 from pit_tools.records import status_of
 
 TEXTS = ("blocks", "prec", "upit", "pcpsp", "cpit")
@@ -253,26 +253,31 @@ def _table(piece: bytes, path: str, what: str, kinds: Sequence[_Kind]) -> list[n
     """The fields of lines that have as many as there are kinds, a column each."""
     if len(_first(piece).split()) != len(kinds):
         raise BadInstance(f"{path}: no line of {what}, of {len(kinds)} fields: {_shown(piece)}")
-    if may_be_misread(piece):
-        _refuse_misread(path)
+    is_hard = may_be_misread(piece)
+    if is_hard:
+        _look_at_each(piece, path)
     types = {at: np.float64 if isinstance(kind, int) else np.int64 for at, kind in enumerate(kinds)}
     try:
         table = pd.read_csv(io.BytesIO(piece), sep=r"\s+", header=None, dtype=types,
                             na_filter=False, names=range(len(kinds)), index_col=False,
-                            quoting=csv.QUOTE_NONE)
+                            quoting=csv.QUOTE_NONE,
+                            float_precision="round_trip" if is_hard else "high")
     except (ValueError, OverflowError, pd.errors.ParserError) as error:
         raise BadInstance(f"{path}: {_first_line(error)}") from None
     return [_rounded(table[at].to_numpy(), path, kind) if isinstance(kind, int)
             else _narrow(table[at].to_numpy(), path, kind) for at, kind in enumerate(kinds)]
 
 
-def _refuse_misread(path: str) -> None:
-    """Refuses the first line that has such a field, below the header of a model."""
-    with open(path, "rb") as file:
-        for number, line in enumerate(file, 1):
-            if may_be_misread(line) and b":" not in line and not line.lstrip().startswith(b"%"):
-                raise BadInstance(f"{path}: line {number}: a field is too great, too small or a "
-                                  f"word: {_shown(line)}")
+def _look_at_each(piece: bytes, path: str) -> None:
+    """Refuses the first line with a field that is no number which can be held."""
+    for line in filter(may_be_misread, piece.splitlines(True)):
+        for cell in line.decode("utf-8", "replace").split():
+            if fault := fault_of(cell):
+                with open(path, "rb") as file:
+                    number = next(number for number, one in enumerate(file, 1)
+                                  if one.split() == line.split())
+                raise BadInstance(f"{path}: line {number}: {quoted(cell)} is {fault}: "
+                                  f"{_shown(line)}")
 
 
 def _narrow(whole: np.ndarray, path: str, kind: Type[np.signedinteger]) -> np.ndarray:
@@ -365,19 +370,7 @@ def _first(piece: bytes) -> bytes:
 
 
 def _shown(piece: bytes) -> str:
-    return f"`{_first(piece)[:60].decode('utf-8', 'replace')}`"
-
-
-def _line_lengths(piece: bytes) -> np.ndarray:
-    """How many fields each line has that has one."""
-    text = np.frombuffer(piece, dtype=np.uint8)
-    is_blank = text <= 32
-    begins = ~is_blank
-    begins[1:] &= is_blank[:-1]
-    line_ends = np.flatnonzero(text == 10)
-    so_far = np.searchsorted(np.flatnonzero(begins), line_ends)
-    lengths = np.diff(so_far, prepend=0)
-    return lengths[lengths > 0]
+    return quoted(_first(piece).decode("utf-8", "replace"))
 
 
 def precedence_pieces(path: str) -> Iterator[tuple[np.ndarray, np.ndarray]]:
@@ -388,13 +381,10 @@ def precedence_pieces(path: str) -> Iterator[tuple[np.ndarray, np.ndarray]]:
     done = 0
     with _opened(path) as file:
         for piece in _pieces(file, path):
-            lengths = _line_lengths(piece)
+            lengths = line_lengths(piece)
             if not len(lengths):
                 continue
-            try:
-                fields = np.fromstring(piece, dtype=np.int64, sep=" ")
-            except ValueError:
-                fields = np.empty(0, dtype=np.int64)
+            fields = integers_of(piece)
             starts = np.cumsum(lengths) - lengths
             if len(fields) != lengths.sum() or lengths.min() < 2 \
                     or not np.array_equal(fields[starts], np.arange(done, done + len(starts))) \
@@ -441,17 +431,14 @@ def count_predecessors(path: str) -> np.ndarray:
     """
     counts, done = [], 0
     with _opened(path) as file:
-        for piece in _pieces(file, path):
-            heads = _heads(piece)
-            try:
-                fields = np.fromstring(heads, dtype=np.int64, sep=" ").reshape(-1, 2)
-            except ValueError:
-                raise BadInstance(f"{path}: no line of the precedence file of these "
-                                  "blocks") from None
-            if not np.array_equal(fields[:, 0], np.arange(done, done + len(fields))):
+        for piece in filter(bytes.strip, _pieces(file, path)):
+            fields = integers_of(_heads(piece))
+            ids = fields[::2]
+            if not len(ids) or len(fields) % 2 \
+                    or not np.array_equal(ids, np.arange(done, done + len(ids))):
                 raise BadInstance(f"{path}: no line of the precedence file of these blocks")
-            done += len(fields)
-            counts.append(fields[:, 1])
+            done += len(ids)
+            counts.append(fields[1::2])
     return np.concatenate(counts) if counts else np.empty(0, dtype=np.int64)
 
 
@@ -503,33 +490,33 @@ class _Model:
         """A line of the header."""
         if key not in KEYS or section:
             where = f"below {section}" if section else "in the header"
-            raise BadInstance(f"{self.path}: no key `{key[:60]}` stands {where} of a model")
+            raise BadInstance(f"{self.path}: no key {quoted(key)} stands {where} of a model")
         if key in self.header:
             raise BadInstance(f"{self.path}: {key} stands twice")
         self.header[key] = value
 
     def number(self, key: str) -> float:
-        try:
-            number = np.array([float(self.header[key])])
-        except (KeyError, ValueError):
-            raise BadInstance(f"{self.path}: no number behind {key}") from None
-        return float(_rounded(number, self.path, 6)[0])
+        text = self.header.get(key, "")
+        number = number_of(text)
+        if number is None:
+            raise BadInstance(f"{self.path}: no number behind {key}: {quoted(text)}")
+        return float(_rounded(np.array([number]), self.path, 6)[0])
 
     def count(self, key: str, least: int = 0, most: Optional[int] = None) -> int:
         """The whole number behind a key. Raises BadInstance where it is none, or lies outside."""
         number = self.number(key)
         if number % 1 or number < 0:
-            raise BadInstance(f"{self.path}: {key} is no count: {self.header[key]}")
+            raise BadInstance(f"{self.path}: {key} is no count: {quoted(self.header[key])}")
         if number < least or most is not None and number > most:
-            raise BadInstance(f"{self.path}: {key} is {self.header[key]}, and no number from "
-                              f"{least} to {most}")
+            raise BadInstance(f"{self.path}: {key} is {quoted(self.header[key])}, and no number "
+                              f"from {least} to {most}")
         return int(number)
 
     def name(self) -> str:
         """Its NAME. Raises BadInstance where it has none, or one that is none."""
         name = self.header.get("NAME", "")
         if not NAME.fullmatch(name):
-            raise BadInstance(f"{self.path}: NAME is `{name[:64]}`, and has {WHAT_A_NAME_IS}")
+            raise BadInstance(f"{self.path}: NAME is {quoted(name)}, and has {WHAT_A_NAME_IS}")
         return name
 
 
@@ -584,19 +571,18 @@ def _uses_part(model: _Model, piece: bytes, fields: int) -> list[np.ndarray]:
 
 
 def _limits_of(model: _Model, pieces: Iterable[bytes]) -> list[Limit]:
-    limits = []
-    for line in b"".join(pieces).decode("utf-8", "replace").splitlines():
-        fields = line.split()
+    limits: list[Limit] = []
+    for line in b"".join(pieces).decode("utf-8", "replace").split("\n"):
+        fields = line.split(maxsplit=5)
         if not fields:
             continue
-        try:
-            resource, period, letter = int(fields[0]), int(fields[1]), fields[2]
-            ends = _rounded(np.array(fields[3:], dtype=float), model.path, 6).tolist()
-        except (ValueError, IndexError):
-            raise BadInstance(f"{model.path}: no limit: `{line}`") from None
-        if len(ends) != {"L": 1, "G": 1, "I": 2}.get(letter):
-            raise BadInstance(f"{model.path}: no limit: `{line}`")
-        limits.append(Limit.of(resource, period, letter, ends))
+        letter, cells = "".join(fields[2:3]), fields[:2] + fields[3:]
+        numbers = [number for number in map(number_of, cells) if number is not None]
+        if not len(cells) == len(numbers) == {"L": 3, "G": 3, "I": 4}.get(letter) \
+                or numbers[0] % 1 or numbers[1] % 1:
+            raise BadInstance(f"{model.path}: no limit: {quoted(line)}")
+        resource, period, *ends = _rounded(np.array(numbers), model.path, 6).tolist()
+        limits.append(Limit.of(int(resource), int(period), letter, ends))
     return limits
 
 
@@ -613,7 +599,7 @@ def _read_model(path: str, kind: str, take_uses: Callable[[_Model, bytes, int], 
     for section, piece in model.sections():
         if not piece:
             if to_come[:1] != [section]:
-                raise BadInstance(f"{path}: a section `{section[:60]}` stands where a {kind} file "
+                raise BadInstance(f"{path}: a section {quoted(section)} stands where a {kind} file "
                                   f"has {to_come[0] if to_come else 'none'}")
             to_come.pop(0)
             if section == OBJECTIVE:
@@ -643,7 +629,8 @@ def _read_model(path: str, kind: str, take_uses: Callable[[_Model, bytes, int], 
 def _destinations_of(model: _Model, kind: str) -> int:
     """How many values a block has. Raises BadInstance where the model is of another kind."""
     if model.header.get("TYPE") != kind:
-        raise BadInstance(f"{model.path}: TYPE is `{model.header.get('TYPE', '')}` and not {kind}")
+        raise BadInstance(f"{model.path}: TYPE is {quoted(model.header.get('TYPE', ''))} and not "
+                          f"{kind}")
     return model.count("NDESTINATIONS", 1, MOST_DESTINATIONS) if kind == "PCPSP" else 1
 
 
@@ -822,7 +809,7 @@ def _judge_for_pitc(instance: Instance) -> None:
         _judge(not instance.precedence.diagonal().any(), "a block is its own predecessor")
     for name in [part.name for part in problems] + ([instance.upit.name] if instance.upit else []):
         _judge(NAME.fullmatch(name) is not None,
-               f"the name is `{name[:64]}`, and has {WHAT_A_NAME_IS}")
+               f"the name is {quoted(name)}, and has {WHAT_A_NAME_IS}")
     for problem in problems:
         _judge_problem(problem)
 

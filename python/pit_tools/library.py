@@ -20,7 +20,7 @@ from pit_tools.deposits import ZONES, Deposit
 from pit_tools.errors import UserError
 from pit_tools.instance import TEXTS, Instance, cents, present, write_instance
 from pit_tools.plan_file import plan_of
-from pit_tools.records import ENDING, File, read_record, status_of
+from pit_tools.records import ENDING, MOST_JSON, File, read_record, status_of
 from pit_tools.schedules import check, read_schedule
 from pit_tools.valuation import blocks_of, instance_of
 from pit_tools.zone_files import read_zone_files
@@ -84,6 +84,8 @@ def _table(path: str, name: str) -> pd.DataFrame:
     """TABLE or FOUND of a path. Raises UserError where it is none."""
     columns = {"TABLE": COLUMNS, "FOUND": FOUND_COLUMNS}[name]
     try:
+        if os.path.getsize(path) > MOST_JSON:
+            raise ValueError(f"it has more than {MOST_JSON:,} bytes")
         table = pd.read_csv(path, sep=SEPARATORS[name], dtype=str, keep_default_na=False)
         if tuple(table.columns) != columns:
             raise ValueError(f"its columns are {', '.join(map(str, table.columns))[:200]}")

@@ -19,8 +19,8 @@ from pit_tools.errors import UserError
 from pit_tools.formats import MOST_AMOUNT, MOST_BLOCKS, MOST_INDEX, MOST_ZONE
 from pit_tools.identifiers import Identifiers, order_of, reordered
 from pit_tools.instance import Blocks, Instance, Problem, UltimatePit, Uses, write_instance
-from pit_tools.published_lines import (Piece, Rounding, Told, line_lengths, numbers_of, pieces_of,
-                                       refuse_row, whole_of)
+from pit_tools.published_lines import (Piece, Rounding, Told, integers_of, line_lengths, numbers_of,
+                                       pieces_of, refuse_row)
 from pit_tools.published_models import read_problem, read_upit
 
 
@@ -56,8 +56,8 @@ class _Blocks:
         numbers = numbers_of(piece, self.fields, "a block line")
         if not self.parts:
             self._tell_fields(piece)
-        whole = [whole_of(piece, numbers[0], "the identifier", 0, MOST_BLOCKS)]
-        whole += [whole_of(piece, numbers[at], f"the index {name}", -2**31)
+        whole = [piece.whole(numbers[0], "the identifier", 0, MOST_BLOCKS)]
+        whole += [piece.whole(numbers[at], f"the index {name}", -2**31)
                   for at, name in enumerate("xyz", 1)]
         own: dict[str, np.ndarray] = {
             "tonnes": np.zeros(numbers.shape[1]), "grade": np.zeros(numbers.shape[1]),
@@ -69,7 +69,7 @@ class _Blocks:
     def _own(self, piece: Piece, name: str, column: np.ndarray) -> np.ndarray:
         """A column of tonnes, grades or zones, within what `pitc check` takes."""
         if name == "zone":
-            return whole_of(piece, column, "the zone", 0, MOST_ZONE)
+            return piece.whole(column, "the zone", 0, MOST_ZONE)
         is_wrong = (column < 0) | (column > MOST_AMOUNT)
         if is_wrong.any():
             row = int(is_wrong.argmax())
@@ -140,10 +140,7 @@ def read_blocks(path: str, columns: Columns, told: Told) -> tuple[Blocks, int]:
 def _arcs_of(piece: Piece) -> tuple[np.ndarray, np.ndarray, np.ndarray]:
     """The identifiers, numbers of predecessors, and predecessors of lines `id k p1 .. pk`."""
     lengths = line_lengths(piece.text)
-    try:
-        fields = np.fromstring(piece.text, dtype=np.int64, sep=" ")
-    except ValueError:
-        fields = np.empty(0, dtype=np.int64)
+    fields = integers_of(piece.text)
     starts = np.cumsum(lengths) - lengths
     if len(fields) != lengths.sum() or lengths.min() < 2:
         for row, (_, line) in enumerate(piece.lines()):

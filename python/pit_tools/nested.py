@@ -2,14 +2,15 @@
 from __future__ import annotations
 
 from dataclasses import dataclass
-from decimal import Decimal, InvalidOperation
+from decimal import Decimal
 from typing import Iterator, Optional, Sequence
 
 import numpy as np
 
 from pit_tools import progress
 from pit_tools.closure import pit_by_cones
-from pit_tools.errors import UserError
+from pit_tools.decimals import decimal_of
+from pit_tools.errors import UserError, quoted
 from pit_tools.plan_file import Plan, plan_of
 from pit_tools.report import Sums, columns, head, pit_sums
 from pit_tools.spelling import with_commas
@@ -45,17 +46,14 @@ def factors_of(words: str) -> list[Decimal]:
     """
     found = []
     for word in words.split(","):
-        try:
-            factor = Decimal(word.strip())
-        except InvalidOperation:
-            raise UserError(f"--factors: `{word}` is no number") from None
-        if not (factor.is_finite() and 0 < factor <= 1000):
-            raise UserError(f"--factors: `{word}` is not above 0 and up to 1000")
+        factor = decimal_of(word, "--factors")
+        if not 0 < factor <= 1000:
+            raise UserError(f"--factors: {quoted(word)} is not above 0 and up to 1000")
         if factor != round(factor, DECIMALS):
-            raise UserError(f"--factors: `{word}` has more than {DECIMALS} decimals")
+            raise UserError(f"--factors: {quoted(word)} has more than {DECIMALS} decimals")
         found.append(factor)
     if len(set(found)) < len(found):
-        raise UserError(f"--factors: `{words}` has a factor twice")
+        raise UserError(f"--factors: {quoted(words)} has a factor twice")
     return sorted(found)
 
 

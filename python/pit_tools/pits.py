@@ -7,9 +7,10 @@ import numpy as np
 
 from pit_tools import outputs
 from pit_tools.decimals import whole_of
-from pit_tools.errors import UserError
+from pit_tools.errors import UserError, quoted
 from pit_tools.instance import Blocks
 from pit_tools.plan_note import PlanNote
+from pit_tools.published_lines import numbered_lines
 from pit_tools.spelling import multiples_of
 
 
@@ -19,16 +20,14 @@ def read_pit(path: str, blocks: Optional[int] = None) -> np.ndarray:
     Raises UserError where a line begins with no identifier below `blocks`, or one stands twice.
     """
     found = []
-    outputs.reads(path)
-    with open(path, encoding="utf-8", errors="replace") as file:
-        for number, line in enumerate(file, 1):
-            fields = line.split()
-            if not fields:
-                continue
-            block = whole_of(fields[0])
-            if block is None or (blocks is not None and block >= blocks):
-                raise UserError(f"{path}: line {number}: `{fields[0][:60]}` is no block")
-            found.append(block)
+    for number, line in numbered_lines(path):
+        fields = line.split()
+        if not fields:
+            continue
+        block = whole_of(fields[0])
+        if block is None or (blocks is not None and block >= blocks):
+            raise UserError(f"{path}: line {number}: {quoted(fields[0])} is no block")
+        found.append(block)
     taken = np.unique(np.array(found, dtype=np.int64))
     if len(taken) != len(found):
         raise UserError(f"{path}: a block stands twice")

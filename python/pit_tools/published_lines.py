@@ -7,8 +7,10 @@ from __future__ import annotations
 
 import csv
 import io
+import itertools
 import os
 import re
+import warnings
 from dataclasses import dataclass
 from typing import BinaryIO, Iterable, Iterator, NoReturn, Optional, Sequence
 
@@ -16,13 +18,16 @@ import numpy as np
 import pandas as pd
 
 from pit_tools import outputs
-from pit_tools.decimals import is_decimal, may_be_misread
-from pit_tools.errors import UserError
+from pit_tools.decimals import fault_of, may_be_misread
+from pit_tools.errors import UserError, quoted
 from pit_tools.spelling import EXACT, FEWEST, NotHeld, nearest
 
 #: Bytes that are read at a time, and that a line may have.
 _PIECE = 1 << 22
-_LONGEST = 1 << 26
+LONGEST = 1 << 26
+
+#: Characters of a line of few fields, and bytes of a file of such lines.
+MOST_LINE, MOST_FILE = 1 << 16, 2_000_000_000
 
 _COMMENT = re.compile(rb"%[^\n]*")
 _END = re.compile(rb"(?im)^[ \t]*eof[ \t]*$")
@@ -70,7 +75,20 @@ class Piece:
     def refuse(self, row: int, told: str) -> NoReturn:
         """Raises UserError for a row, with its line."""
         number, text = self.line_of(row)
-        raise UserError(f"{self.path}: line {number}: {told}: `{text[:60]}`")
+        raise UserError(f"{self.path}: line {number}: {told}: {quoted(text)}")
+
+    def whole(self, numbers: np.ndarray, what: str, least: int = 0,
+              most: int = 2**31 - 1) -> np.ndarray:
+        """Numbers of its rows as int32.
+
+        Raises UserError, with the line, where one is not whole or lies outside.
+        """
+        is_wrong = (numbers != np.floor(numbers)) | (numbers < least) | (numbers > most)
+        if is_wrong.any():
+            row = int(is_wrong.argmax())
+            self.refuse(row, f"{what} is {numbers[row]:.15g}, and no whole number from {least} to "
+                             f"{most}")
+        return numbers.astype(np.int32)
 
     def between(self, start: int, end: int) -> "Piece":
         """The lines between two places of its text, each behind a line end."""
@@ -93,6 +111,30 @@ def refuse_row(pieces: Iterable[Piece], row: int, told: str) -> NoReturn:
     piece.refuse(row, told)
 
 
+def numbered_lines(path: str, most: int = MOST_LINE) -> Iterator[tuple[int, str]]:
+    """The lines of a text in UTF-8 that the command reads, with their numbers from 1 on. A mark at
+    the front is dropped.
+
+    Raises UserError, with the line, if it has more than `most` characters, or the file more than
+    2 GB; OSError if the file cannot be read.
+    """
+    outputs.reads(path)
+    with open(path, encoding="utf-8-sig", errors="replace") as file:
+        size, taken = os.fstat(file.fileno()).st_size, 0
+        for number in itertools.count(1):
+            line = file.readline(most + 1)
+            if not line:
+                return
+            taken += len(line)
+            # A pipe has no size.
+            if max(size, taken) > MOST_FILE:
+                raise UserError(f"{path}: line {number}: the file has more than {MOST_FILE:,} "
+                                "bytes")
+            if len(line) > most:
+                raise UserError(f"{path}: line {number}: it has more than {most:,} characters")
+            yield number, line
+
+
 def whole_lines(file: BinaryIO, path: str) -> Iterator[bytes]:
     """The bytes of a file, cut at line ends, without a mark at the front.
 
@@ -108,8 +150,8 @@ def whole_lines(file: BinaryIO, path: str) -> Iterator[bytes]:
             rest = more[cut:]
         else:
             rest += more
-        if len(rest) > _LONGEST:
-            raise UserError(f"{path}: line {number} is longer than {_LONGEST >> 20} MB")
+        if len(rest) > LONGEST:
+            raise UserError(f"{path}: line {number} is longer than {LONGEST >> 20} MB")
     if rest:
         yield rest + b"\n"
 
@@ -162,6 +204,16 @@ def line_lengths(text: bytes) -> np.ndarray:
     return lengths[lengths > 0]
 
 
+def integers_of(text: bytes) -> np.ndarray:
+    """The whole numbers of a text, int64, with blanks between; none of them where one is none."""
+    with warnings.catch_warnings():
+        warnings.simplefilter("error", DeprecationWarning)
+        try:
+            return np.fromstring(text, dtype=np.int64, sep=" ")
+        except (ValueError, DeprecationWarning):
+            return np.empty(0, dtype=np.int64)
+
+
 def numbers_of(piece: Piece, fields: Sequence[int], what: str,
                length: Optional[int] = None) -> np.ndarray:
     """The numbers of some fields of each row, float64 (fields, rows); fields count from 0.
@@ -176,13 +228,14 @@ def numbers_of(piece: Piece, fields: Sequence[int], what: str,
         wanted = f"at least {last + 1}" if length is None else str(length)
         row = int(is_wrong.argmax())
         piece.refuse(row, f"{lengths[row]} fields, and {what} has {wanted}")
-    if may_be_misread(piece.text):
+    is_hard = may_be_misread(piece.text)
+    if is_hard:
         _look_at_each(piece, fields, what)
     try:
         table = pd.read_csv(io.BytesIO(piece.text), sep=r"\s+", header=None, dtype=float,
                             names=range(max(last + 1, int(lengths.max()))), index_col=False,
-                            usecols=sorted(set(fields)), na_filter=False, float_precision="high",
-                            quoting=csv.QUOTE_NONE)
+                            usecols=sorted(set(fields)), na_filter=False, quoting=csv.QUOTE_NONE,
+                            float_precision="round_trip" if is_hard else "high")
         found = np.stack([table[field].to_numpy() for field in fields])
     except (ValueError, OverflowError, pd.errors.ParserError):
         found = np.full((1, 1), np.nan)
@@ -198,27 +251,8 @@ def _look_at_each(piece: Piece, fields: Sequence[int], what: str) -> None:
         cells = line.split()
         for field in fields:
             cell = "".join(cells[field:field + 1])
-            told = f"field {field + 1} of {what}, `{cell[:60]}`, is"
-            if not is_decimal(cell):
-                piece.refuse(row, f"{told} no number")
-            if abs(float(cell)) == np.inf:
-                piece.refuse(row, f"{told} too great")
-            if float(cell) == 0 and re.search("[1-9]", re.split("[eE]", cell)[0]):
-                piece.refuse(row, f"{told} too small")
-
-
-def whole_of(piece: Piece, numbers: np.ndarray, what: str, least: int = 0,
-             most: int = 2**31 - 1) -> np.ndarray:
-    """Numbers of a piece's rows as int32.
-
-    Raises UserError, with the line, where one is not whole or lies outside.
-    """
-    is_wrong = (numbers != np.floor(numbers)) | (numbers < least) | (numbers > most)
-    if is_wrong.any():
-        row = int(is_wrong.argmax())
-        piece.refuse(row, f"{what} is {numbers[row]:.15g}, and no whole number from {least} to "
-                          f"{most}")
-    return numbers.astype(np.int32)
+            if fault := fault_of(cell):
+                piece.refuse(row, f"field {field + 1} of {what}, {quoted(cell)}, is {fault}")
 
 
 def _first_row(is_it: np.ndarray) -> int:

@@ -11,12 +11,13 @@ from typing import Iterator, Optional
 
 import numpy as np
 
-from pit_tools.errors import UserError
+from pit_tools.decimals import number_of, whole_of
+from pit_tools.errors import UserError, quoted
 from pit_tools.formats import MOST_BLOCKS, MOST_DESTINATIONS, MOST_PERIODS, MOST_RESOURCES
 from pit_tools.instance import (COEFFICIENTS, KEYS, LIMITS, OBJECTIVE, SECTIONS, Limit, Problem,
                                 UltimatePit, Uses)
 from pit_tools.published_lines import (Piece, Rounding, Told, line_lengths, numbers_of, pieces_of,
-                                       refuse_row, whole_of)
+                                       refuse_row)
 
 #: Orders of the fields of a coefficient, in front of its amount: block, destination, resource.
 ORDERS = ("bdr", "brd", "rbd")
@@ -82,7 +83,7 @@ class Model:
         if name in KEYS:
             piece.refuse(0, f"{name} has no value")
         if name not in SECTIONS and not name.startswith("GENERAL"):
-            near = difflib.get_close_matches(name, SECTIONS, 1, 0.7)
+            near = difflib.get_close_matches(name[:60], SECTIONS, 1, 0.7)
             piece.refuse(0, f"no section that is known{': is it ' + near[0] if near else ''}")
         if name in self.sections:
             piece.refuse(0, f"the section stands in line {self.sections[name]} too")
@@ -93,9 +94,9 @@ class Model:
         if name in self.header:
             piece.refuse(0, f"{name} stands twice")
         if name not in KEYS:
-            self.unknown.append(f"{name} in line {piece.first}")
-            self.told.tell(f"{self.file_name}: line {piece.first}: {name} is no key that is known, "
-                           "and was left out")
+            self.unknown.append(f"{name[:60]} in line {piece.first}")
+            self.told.tell(f"{self.file_name}: line {piece.first}: {name[:60]} is no key that is "
+                           "known, and was left out")
         self.header[name] = value
 
     def number(self, key: str, least: float, most: float, default: Optional[float] = None) -> float:
@@ -103,15 +104,12 @@ class Model:
         if key not in self.header:
             if default is not None:
                 return default
-            others = f"; not known: {', '.join(self.unknown)}" if self.unknown else ""
+            others = f"; not known: {', '.join(self.unknown[:9])}" if self.unknown else ""
             raise UserError(f"{self.path}: no {key}{others}")
-        try:
-            number = float(self.header[key])
-        except ValueError:
-            number = np.nan
-        if not least <= number <= most:
-            percent = " (is it in percent?)" if key == "DISCOUNT_RATE" and number > 1 else ""
-            raise UserError(f"{self.path}: {key} is `{self.header[key]}`, and no number from "
+        number = number_of(self.header[key])
+        if number is None or not least <= number <= most:
+            percent = " (is it in percent?)" if key == "DISCOUNT_RATE" and (number or 0) > 1 else ""
+            raise UserError(f"{self.path}: {key} is {quoted(self.header[key])}, and no number from "
                             f"{least} to {most}{percent}")
         return number
 
@@ -119,7 +117,8 @@ class Model:
         """The whole number behind a key, as `number`."""
         number = self.number(key, least, most, default)
         if number % 1:
-            raise UserError(f"{self.path}: {key} is `{self.header[key]}`, and no whole number")
+            raise UserError(f"{self.path}: {key} is {quoted(self.header[key])}, and no whole "
+                            "number")
         return int(number)
 
     def name(self) -> str:
@@ -147,7 +146,7 @@ class _Values:
             piece.refuse(0, f"a line of the objective of a {self.model.kind} is a block and "
                             f"{'its values' if self.model.kind == 'PCPSP' else 'one value'}")
         numbers = numbers_of(piece, range(length), "a line of the objective", length)
-        self.ids.append(whole_of(piece, numbers[0], "the block"))
+        self.ids.append(piece.whole(numbers[0], "the block"))
         self.parts.append(self.rounding.of(piece, numbers[1:], "a value"))
 
     def by_block(self) -> np.ndarray:
@@ -186,7 +185,7 @@ class _Coefficients:
         """Takes lines of two or three places and an amount."""
         what, places = f"a coefficient of a {self.model.kind}", self.places
         numbers = numbers_of(piece, range(places + 1), what, places + 1)
-        whole = [whole_of(piece, numbers[at], f"field {at + 1} of {what}") for at in range(places)]
+        whole = [piece.whole(numbers[at], f"field {at + 1} of {what}") for at in range(places)]
         self.parts.append([*whole, self.rounding.of(piece, numbers[places], "an amount")])
 
     def uses(self, first: int, ends: tuple[int, int, int], order: Optional[str]) -> Uses:
@@ -253,15 +252,14 @@ class _Coefficients:
 def _limit_of(piece: Piece, row: int, line: str, model: Model,
               ends: tuple[int, int]) -> Optional[Limit]:
     """The limit of a line, None where it sets none."""
-    fields = line.split()
-    try:
-        resource, period, letter = int(fields[0]), int(fields[1]), LETTERS[fields[2].upper()]
-        numbers = [_end_of(cell) for cell in fields[3:]]
-        if not len(numbers) == 2 and not (len(numbers) == 1 and letter != "I"):
-            raise ValueError
-    except (ValueError, IndexError, KeyError):
+    fields = line.split(maxsplit=5)
+    resource, period = (whole_of(cell) for cell in [*fields[:2], "", ""][:2])
+    letter = LETTERS.get("".join(fields[2:3]).upper())
+    numbers = [number for cell in fields[3:] if (number := _end_of(cell)) is not None]
+    if resource is None or period is None or letter is None \
+            or not (5 if letter == "I" else 4) <= 3 + len(numbers) == len(fields) <= 5:
         piece.refuse(row, "no limit `r t L v`, `r t G v` or `r t I v w`")
-    if not (0 <= resource < ends[0] and 0 <= period < ends[1]):
+    if not (resource < ends[0] and period < ends[1]):
         piece.refuse(row, f"there are {ends[0]} resources and {ends[1]} periods, from 0")
     if letter != "I" and len(numbers) == 2:
         model.told.tell(_told(model, piece, row, "the second number was left out"))
@@ -279,14 +277,12 @@ def _limit_of(piece: Piece, row: int, line: str, model: Model,
     return Limit(resource, period, kept, least, most)
 
 
-def _end_of(cell: str) -> float:
-    """A number of a limit, which may be infinite."""
+def _end_of(cell: str) -> Optional[float]:
+    """A number of a limit, which may be infinite; None where it is none."""
     if re.fullmatch("[+-]?inf(inity)?", cell.lower()):
         return float(cell)
-    number = float(cell)
-    if not abs(number) < 9e9 or "_" in cell:
-        raise ValueError
-    return number
+    number = number_of(cell)
+    return None if number is None or abs(number) >= 9e9 else number
 
 
 def _told(model: Model, piece: Piece, row: int, text: str) -> str:
@@ -344,8 +340,8 @@ def _read(path: str, kind: str, first: int, without_general: bool,
     if "NBLOCKS" not in model.header:
         told.tell(f"{model.file_name}: no NBLOCKS; the objective has {len(by_block)} blocks")
     elif model.count("NBLOCKS", 0, MOST_BLOCKS) != len(by_block):
-        raise UserError(f"{path}: NBLOCKS is {model.header['NBLOCKS']}, and the objective has "
-                        f"{len(by_block)} lines")
+        raise UserError(f"{path}: NBLOCKS is {quoted(model.header['NBLOCKS'])}, and the objective "
+                        f"has {len(by_block)} lines")
     return model, by_block, uses, limits
 
 
@@ -353,8 +349,8 @@ def _look_at_type(model: Model) -> None:
     if "TYPE" not in model.header:
         model.told.tell(f"{model.file_name}: no TYPE; it was read as a {model.kind}")
     elif model.header["TYPE"].upper() != model.kind:
-        raise UserError(f"{model.path}: TYPE is `{model.header['TYPE']}`, and it is given as a "
-                        f"{model.kind}")
+        raise UserError(f"{model.path}: TYPE is {quoted(model.header['TYPE'])}, and it is given as "
+                        f"a {model.kind}")
 
 
 def _look_at_general(model: Model, without_general: bool) -> None:

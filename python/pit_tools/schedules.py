@@ -14,9 +14,10 @@ import pandas as pd
 from scipy import sparse
 
 from pit_tools import outputs
-from pit_tools.decimals import floats_of
-from pit_tools.errors import UserError
+from pit_tools.decimals import fault_of, floats_of, is_decimal
+from pit_tools.errors import UserError, quoted
 from pit_tools.instance import Limit, Problem, arcs_of
+from pit_tools.published_lines import numbered_lines
 from pit_tools.spelling import shortest
 
 #: What is off by so much of a block is not counted.
@@ -89,13 +90,10 @@ def table_of(path: str, fields: int) -> pd.DataFrame:
     """The fields of a file's lines as texts, `fields` of them and what stands after them; the index
     is the number of the line. A byte order mark, blank lines and lines of `%` are passed over, as
     in the files of an instance."""
-    outputs.reads(path)
-    with open(path, encoding="utf-8-sig", errors="replace") as file:
-        # Readers of numbers end a text at a zero byte.
-        lines = pd.Series(file.read().replace("\0", "\ufffd").split("\n"), dtype=str)
-    lines.index += 1
-    begins = lines.str.lstrip().str[:1]
-    return lines[(begins != "") & (begins != "%")].str.split(n=fields, expand=True)
+    # Readers of numbers end a text at a zero byte.
+    found = {number: line.replace("\0", "\ufffd").strip().split(None, fields)
+             for number, line in numbered_lines(path) if line.lstrip()[:1] not in ("", "%")}
+    return pd.DataFrame(list(found.values()), list(found), dtype=object)
 
 
 def read_schedule(path: str, problem: Problem) -> Schedule:
@@ -129,7 +127,7 @@ def _refuse(path: str, lines: np.ndarray, bad: np.ndarray, table: pd.DataFrame, 
     if bad.any():
         at = int(np.flatnonzero(bad)[0])
         raise UserError(f"{path}: line {lines[at]}: {told}: "
-                        f"`{' '.join(table.iloc[at]).strip()[:60]}`")
+                        f"{quoted(' '.join(table.iloc[at]).strip())}")
 
 
 def write_schedule(schedule: Schedule, path: str, is_pcpsp: bool) -> None:
@@ -263,19 +261,15 @@ def read_variables(path: str) -> dict[tuple, float]:
     """
     found: dict[tuple, float] = {}
     name = None
-    outputs.reads(path)
-    with open(path, encoding="utf-8", errors="replace") as file:
-        for line in file:
-            for field in line.split():
-                if match := _VARIABLE.match(field):
-                    name = (match[1],
-                            *(int(part) for part in match.groups()[1:] if part is not None))
-                elif name is not None:
-                    try:
-                        found.setdefault(name, float(field))
-                        name = None
-                    except ValueError:
-                        pass
+    for number, line in numbered_lines(path):
+        for field in line.split():
+            if match := _VARIABLE.match(field):
+                name = (match[1], *(int(part) for part in match.groups()[1:] if part is not None))
+            elif name is not None and is_decimal(field):
+                if fault := fault_of(field):
+                    raise UserError(f"{path}: line {number}: {quoted(field)} is {fault}")
+                found.setdefault(name, float(field))
+                name = None
     if not found:
         raise UserError(f"{path}: no variable of a program that `pit-tools lp` writes: has the "
                         "solver found a solution?")

@@ -9,7 +9,8 @@ from typing import Mapping, Optional, Sequence
 import numpy as np
 
 from pit_tools.contacts import Contacts
-from pit_tools.errors import UserError
+from pit_tools.decimals import number_of
+from pit_tools.errors import UserError, quoted
 from pit_tools.plan_file import SIDES, FourSlopes, Grid, Slope, Zone
 from pit_tools.walls import MOST_BENCHES, asked_straight, straight_walls
 
@@ -73,10 +74,10 @@ def _one_slope(text: str) -> Slope:
         if not (1 <= slope.rise <= 1000 and 1 <= slope.run <= 1000):
             raise UserError(f"`{text}`: rise and run are 1 to 1000")
         return slope
-    try:
-        return slope_of(float(re.sub(r"(?<!\s)\s*(°|degrees|deg)$", "", text)))
-    except ValueError:
-        raise UserError(f"`{text}` is no slope: give degrees, or p:q") from None
+    degrees = number_of(re.sub(r"(?<!\s)\s*(°|degrees|deg)$", "", text))
+    if degrees is None:
+        raise UserError(f"{quoted(text)} is no slope: give degrees, or p:q")
+    return slope_of(degrees)
 
 
 def K_for(benches: int) -> int:

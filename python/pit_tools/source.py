@@ -440,14 +440,14 @@ def _has_width(piece: bytes, separator: str, width: int) -> bool:
 
 def widths_of(text: TextIO, separator: str) -> Iterator[tuple[int, int]]:
     """The line on which each record ends, counted from 1, and its number of cells; blank lines are
-    none."""
+    none. It raises csv.Error where a line is too long."""
     if separator == " ":
-        for line, row in enumerate(text, 1):
+        for line, row in enumerate(_lines_of(text), 1):
             if row.strip():
                 yield line, len(row.split())
         return
-    line = 0
-    for row in text:
+    line, rows = 0, _lines_of(text)
+    for row in rows:
         line += 1
         if '"' not in row:
             if row.strip(" \t\r\n"):
@@ -455,11 +455,18 @@ def widths_of(text: TextIO, separator: str) -> Iterator[tuple[int, int]]:
             continue
         # A quoted cell may go on over lines.
         pieces, quotes = [row], row.count('"')
-        while quotes % 2 and (more := text.readline()):
+        while quotes % 2 and (more := next(rows, "")):
             pieces.append(more)
             quotes += more.count('"')
             line += 1
         yield line, len(next(csv.reader(pieces, delimiter=separator), []))
+
+
+def _lines_of(text: TextIO) -> Iterator[str]:
+    while row := text.readline(MOST_LINE):
+        if len(row) == MOST_LINE and row[-1] not in "\r\n":
+            raise csv.Error(f"a line has more than {MOST_LINE:,} characters")
+        yield row
 
 
 def head_of(path: str, encoding: str) -> str:

@@ -7,8 +7,10 @@ import itertools
 from dataclasses import dataclass
 from typing import Iterator, Sequence
 
-from pit_tools.errors import UserError
+from pit_tools.decimals import number_of
+from pit_tools.errors import UserError, quoted
 from pit_tools.formats import NAME
+from pit_tools.spelling import shortest
 
 #: Cells of a record by name, counted from 0 with the key; -1 is the last one.
 CELLS = {"name": {"name": 1},
@@ -107,13 +109,11 @@ def _value(old: str, value: str) -> str:
     """A value, or the old one times what stands behind an x."""
     if not value.startswith("x"):
         return value
-    try:
-        found = float(old) * float(value[1:])
-        if not abs(found) < MOST:
-            raise ValueError
-    except ValueError:
-        raise UserError(f"`{value}`: `{old}` cannot be multiplied so") from None
-    return f"{found:.6f}".rstrip("0").rstrip(".") if "." in old else str(round(found))
+    before, times = number_of(old), number_of(value[1:])
+    if before is None or times is None or abs(before * times) >= MOST:
+        raise UserError(f"{quoted(value)}: {quoted(old)} cannot be multiplied so")
+    found = before * times
+    return shortest(found) if "." in old else str(round(found))
 
 
 def variations(text: str, base: str, changes: Sequence[Change]) -> Iterator[tuple[str, str]]:

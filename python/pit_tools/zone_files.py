@@ -5,7 +5,6 @@ g/t, all int64, as `pitc` holds them."""
 from __future__ import annotations
 
 import csv
-import os
 from typing import IO, Sequence
 
 import numpy as np
@@ -14,6 +13,7 @@ import pandas as pd
 from pit_tools import outputs
 from pit_tools.decimals import parts_of
 from pit_tools.errors import UserError
+from pit_tools.published_lines import line_lengths, whole_lines
 from pit_tools.source import refuse_pipe, widths_of
 from pit_tools.spelling import lines_of
 
@@ -37,6 +37,7 @@ def read_zone_file(path: str) -> pd.DataFrame:
     outputs.reads(path)
     chunks: list[pd.DataFrame] = []
     try:
+        _judge_widths(path)
         # Without a header, a row with more cells than the first is a fault and not an index.
         with pd.read_csv(path, dtype=str, header=None, keep_default_na=False, encoding="utf-8-sig",
                          chunksize=CHUNK, compression=None) as reader:
@@ -44,7 +45,6 @@ def read_zone_file(path: str) -> pd.DataFrame:
                 if not chunks:
                     at = _columns_of(table.iloc[0], path)
                     table = table.iloc[1:]
-                    _judge_widths(path, table.shape[1])
                 chunks.append(_numbers_of(table, at, path))
     except pd.errors.EmptyDataError:
         raise UserError(f"{path}: it is empty") from None
@@ -63,11 +63,13 @@ def _columns_of(header: pd.Series, path: str) -> dict[str, int]:
     return {column: names.index(column) for column in COLUMNS}
 
 
-def _judge_widths(path: str, width: int) -> None:
+def _judge_widths(path: str) -> None:
     """Stops at the first row that has fewer cells than the header, whose last ones pandas takes for
     empty."""
+    width = 0
     with open(path, encoding="utf-8-sig", newline="") as text:
         for row, (_, cells) in enumerate(widths_of(text, ","), 1):
+            width = width or cells
             if cells < width:
                 raise UserError(f"{path}: row {row} has fewer cells than the header")
 
@@ -110,9 +112,4 @@ def count_lines(path: str) -> int:
     refuse_pipe(path)
     outputs.reads(path)
     with open(path, "rb") as file:
-        return max(sum(1 for line in file if line.strip()) - 1, 0)
-
-
-def name_of(path: str) -> str:
-    """The name of a zone by its file: `from-east.csv` is told as from-east.csv."""
-    return os.path.basename(path)
+        return max(sum(len(line_lengths(piece)) for piece in whole_lines(file, path)) - 1, 0)

@@ -4,22 +4,36 @@ import contextlib
 import gzip
 import io
 import itertools
+import os
 import signal
+import subprocess
 import time
 import zipfile
 from decimal import Decimal
 
+import numpy as np
 import pytest
 
+from pit_tools import instance, minelib, published_lines, published_models
+from pit_tools.back import read_mined
 from pit_tools.batch_list import read_list
+from pit_tools.batch_records import recorded_in
 from pit_tools.cli import main
 from pit_tools.errors import UserError
+from pit_tools.export_words import table_of
 from pit_tools.formulas import formula_of
+from pit_tools.identifiers import read_identifiers
 from pit_tools.imported import read_imported
-from pit_tools.plan_file import Grid
-from pit_tools.plan_words import Purse, Spoken, Told, plan_from, price_of, sides_of
-from pit_tools.published_lines import numbers_of, pieces_of
+from pit_tools.instance import Problem, Uses
+from pit_tools.pits import read_pit
+from pit_tools.plan_file import Grid, plan_of, read_plan
+from pit_tools.plan_words import Purse, Spoken, plan_from, price_of, sides_of
+from pit_tools.plan_words import Told as Words
+from pit_tools.published_lines import Told
 from pit_tools.records import read_record
+from pit_tools.resource_report import Known, Statement, read_report
+from pit_tools.schedules import read_schedule, read_variables
+from pit_tools.zone_files import read_zone_file
 
 # Characters of a small text and of a large one. A reader whose time grows with the square of the
 # size takes 256 times as long for the large one, and by the margin it may take 80 times.
@@ -34,7 +48,7 @@ REPEATED = {
     "exponents": "1e", "minuses": "-", "parentheses": "(", "brackets": "[", "quotes": '"',
     "quoted": '"a",', "apostrophes": "'1", "percents": "1%", "accents": "\u0315\u0300",
     "words": "a 1 ", "dashes": "1-", "strokes": "/", "lines": "\n", "ends": "\r\n",
-    "padded lines": " \n", "rows": "1 1\n", "heads": "a:\n", "braces": "{", "if": "if ",
+    "padded_lines": " \n", "rows": "1 1\n", "heads": "a:\n", "braces": "{", "if": "if ",
     "powers": "1**", "calls": "abs(", "escapes": "\\", "comments": "%\n", "carets": "x^"}
 
 
@@ -80,26 +94,32 @@ ROWS = "".join(f"{x},{y},{z},1000,{x % 3}.5,a\n" for x in (0, 10, 20) for y in (
                for z in (0, 10))
 WORDS = ["--x", "X", "--y", "Y", "--z", "Z", "--tonnes", "T", "--grade", "AU", "--zone", "ZONE"]
 
-#: An export around a hostile text.
-EXPORTS = {"row": HEAD + ROWS + "{}\n", "cell": HEAD + ROWS + "0,0,20,1000,{},a\n",
-           "padded cell": HEAD + ROWS + "0,0,20,1000,{}1{}x,a\n",
-           "zone": HEAD + ROWS + "0,0,20,1000,1,{}\n", "above": "{}\n" + HEAD + ROWS,
-           "name": HEAD.strip() + ",{}\n" + ROWS.replace("\n", ",1\n"),
-           "list": "title\n3\nX\nY\nZ\n1 2 3\n{}\n", "blanks": HEAD.replace(",", " ")
-           + ROWS.replace(",", " ") + "{}\n", "unit": HEAD + "m,m,m,t,{},\n" + ROWS}
+#: An export around a hostile text, and the texts that what is read there may take long over.
+EXPORTS = {
+    "row": (HEAD + ROWS + "{}\n", "blanks digits commas quotes quoted lines ends comments"),
+    "cell": (HEAD + ROWS + "0,0,20,1000,{},a\n",
+             "digits points exponents minuses parentheses apostrophes percents accents"),
+    "padded cell": (HEAD + ROWS + "0,0,20,1000,{}1{}x,a\n", "blanks digits"),
+    "zone": (HEAD + ROWS + "0,0,20,1000,1,{}\n", "blanks letters accents quoted words"),
+    "above": ("{}\n" + HEAD + ROWS, "blanks colons letters quotes padded_lines heads comments"),
+    "name": (HEAD.strip() + ",{}\n" + ROWS.replace("\n", ",1\n"), "accents brackets words"),
+    "list": ("title\n3\nX\nY\nZ\n1 2 3\n{}\n", "blanks digits words rows"),
+    "blanks": (HEAD.replace(",", " ") + ROWS.replace(",", " ") + "{}\n", "blanks digits words rows"),
+    "unit": (HEAD + "m,m,m,t,{},\n" + ROWS, "blanks brackets parentheses percents strokes")}
 
 
-@pytest.mark.parametrize("kind, name", itertools.product(EXPORTS, REPEATED))
+@pytest.mark.parametrize("kind, name", [(kind, name) for kind, (_, names) in EXPORTS.items()
+                                        for name in names.split()])
 def test_an_export(tmp_path, kind, name):
     path = tmp_path / "a.csv"
 
     def step(text):
-        path.write_text(EXPORTS[kind].replace("{}", text), encoding="utf-8")
+        path.write_text(EXPORTS[kind][0].replace("{}", text), encoding="utf-8")
         main(["import", str(path), *WORDS])
     judge(step, lambda size: repeated(name, size))
 
 
-@pytest.mark.parametrize("name", ["lines", "padded lines", "blanks", "digits", "quoted"])
+@pytest.mark.parametrize("name", ["lines", "padded_lines", "blanks", "digits", "quoted"])
 def test_a_packed_export(tmp_path, name):
     path = tmp_path / "a.csv.gz"
 
@@ -171,7 +191,8 @@ def test_a_formula(name):
 
 # Plans, and lists of them
 
-@pytest.mark.parametrize("name", REPEATED)
+@pytest.mark.parametrize("name", "blanks digits points commas colons letters exponents minuses "
+                         "percents accents words dashes strokes".split())
 def test_words_of_a_plan(name):
     grid = Grid.of([Decimal(0)] * 3 + [Decimal(10)] * 3)
 
@@ -182,18 +203,15 @@ def test_words_of_a_plan(name):
             tried(plan_from, Spoken(**{option: ["a: " + text]}), grid, ["a"], 5)
         for words in (text, "1" + text + "x", "45, " + text + "x", "1-2" + text + "x"):
             tried(price_of, words, 1, Purse())
-            tried(sides_of, words, 0, Told())
+            tried(sides_of, words, 0, Words())
     judge(step, lambda size: repeated(name, size))
 
 
-@pytest.mark.parametrize("name", REPEATED)
-def test_a_list_of_plans(tmp_path, name):
-    path = tmp_path / "LIST"
-
-    def step(text):
-        path.write_text(text, encoding="utf-8")
-        read_list(str(path))
-    judge(step, lambda size: repeated(name, size))
+def test_a_list_of_plans_has_names_of_measure(tmp_path):
+    (tmp_path / "LIST").write_text("\n" + "a" * (1 << 18))
+    assert seconds_of(read_list, str(tmp_path / "LIST")) < 0.2
+    with pytest.raises(UserError, match="line 2: a name has more than 4,096 bytes"):
+        read_list(str(tmp_path / "LIST"))
 
 
 def test_a_list_of_plans_has_lines_of_measure(tmp_path):
@@ -202,23 +220,112 @@ def test_a_list_of_plans_has_lines_of_measure(tmp_path):
         read_list(str(tmp_path / "LIST"))
 
 
-# Files of instances
+# Files of lines, which are read whole
 
-@pytest.mark.parametrize("name", REPEATED)
-def test_numbers_of_other_programs(tmp_path, name):
-    path = tmp_path / "a.blocks"
+HEADER = ("NAME: a\nTYPE: {}\nNBLOCKS: 1\nNPERIODS: 2\nNDESTINATIONS: 1\nDISCOUNT_RATE: 0.1\n"
+          "NRESOURCE_SIDE_CONSTRAINTS: 1\nNGENERAL_SIDE_CONSTRAINTS: 0\nOBJECTIVE_FUNCTION:\n0 1\n"
+          "RESOURCE_CONSTRAINT_COEFFICIENTS:\n0 0 0 1\nRESOURCE_CONSTRAINT_LIMITS:\n")
+PCPSP = HEADER.replace("{}", "PCPSP")
+CPIT = HEADER.replace("{}", "CPIT").replace("NDESTINATIONS: 1\n", "").replace(
+    "NGENERAL_SIDE_CONSTRAINTS: 0\n", "").replace("0 0 0 1\n", "0 0 1\n")
+UPIT = "NAME: a\nTYPE: UPIT\nNBLOCKS: 1\nOBJECTIVE_FUNCTION:\n0 {}\n"
+PLAN = ("name,pit\ngrid,0,0,0,10,10,10\nzone,1,1,1\nmill,mill,900,6000000,1500\nperiods,2\n"
+        "rate,0.08\n")
+ONE = Problem("PCPSP", "a", 2, 0, 0.1, np.zeros((1, 1)), Uses(*[np.empty(0, int)] * 3, np.empty(0)))
 
-    def step(text):
-        for cell in (text, "1" + text.replace("\n", "") + "x"):
-            path.write_text(f"1 2 1e400\n1 {cell} 1e300\n", encoding="utf-8")
-            for piece in pieces_of(str(path)):
-                tried(numbers_of, piece, [1, 2], "a line")
-    judge(step, lambda size: repeated(name, size))
+
+def published(kind):
+    """A reader of published models."""
+    if kind == "UPIT":
+        return lambda path: published_models.read_upit(path, 0, True, Told())
+    return lambda path: published_models.read_problem(path, kind, 0, None, True,
+                                                      Told())
+
+
+#: What reads a file of lines, and what stands around a hostile text.
+READERS = {
+    "blocks": (instance.read_blocks, "{}", "0 0 0 0 1 {} 0\n", "% {}\n0 0 0 0 1 1 0\n"),
+    "prec": (instance.read_precedence, "{}", "0 0\n1 1 {}\n"),
+    "counted": (instance.count_predecessors, "{}", "0 0\n1 1 {}\n"),
+    "upit": (instance.read_upit, "{}", UPIT, UPIT.replace("NBLOCKS: 1", "NBLOCKS: {}")),
+    "cpit": (lambda path: instance.read_problem(path, "CPIT"), "{}", CPIT + "0 0 L {}\n"),
+    "pcpsp": (lambda path: instance.read_problem(path, "PCPSP"), "{}", PCPSP + "{}\n",
+              PCPSP.replace("0.1", "{}"), PCPSP.replace("0 0 0 1\n", "0 0 0 {}\n")),
+    "outline": (instance.read_outline, PCPSP + "0 0 L {}\n"),
+    "published blocks": (lambda path: minelib.read_blocks(path, minelib.Columns(5), Told()),
+                         "{}", "0 0 0 0 1\n1 1 0 0 {}\n"),
+    "published prec": (lambda path: minelib.read_precedence(path, 2, 0, Told()), "{}", "0 1 {}\n"),
+    "published upit": (published("UPIT"), "{}", UPIT, UPIT.replace("NBLOCKS: 1", "NBLOCKS: {}"),
+                       UPIT.replace("NBLOCKS", "{}")),
+    "published cpit": (published("CPIT"), "{}", CPIT + "0 0 L {}\n"),
+    "published pcpsp": (published("PCPSP"), "{}", PCPSP + "{}\n", PCPSP.replace("0.1", "{}")),
+    "lines of numbers": (lambda path: [tried(published_lines.numbers_of, piece, [1, 2], "a line")
+                                       for piece in published_lines.pieces_of(path)],
+                         "1 2 1e400\n1 {} 1e300\n", "1 2 1e400\n1 1{}x 1e300\n"),
+    "schedule": (lambda path: read_schedule(path, ONE), "{}", "0 0 0 {}\n", "0 0 0 1{}x\n"),
+    "mined": (lambda path: read_mined(path, plan_of(PLAN), 1), "{}", "0 0 0 {}\n"),
+    "variables": (read_variables, "{}", "x0 {}\n", "x{} 1\n"),
+    "pit": (lambda path: read_pit(path, 1), "{}", "0 {}\n", "0{}\n"),
+    "identifiers": (read_identifiers, "{}", "0 {}\n"),
+    "record of a batch": (lambda path: list(recorded_in(os.path.dirname(path))), "{}",
+                          '{"build": "{}"}\n', '{"build": ""}\n{}'),
+    "plan": (read_plan, "{}", PLAN + "{}\n", PLAN + "dump,{},1\n", PLAN.replace("0.08", "{}")),
+    "report": (lambda path: read_report(path, Known(["a"]), Statement()), "{}",
+               "zone,tonnes,{}\na,1 kt,1\n", "zone,tonnes\na,{}\n", "zone,tonnes\n{},1 kt\n"),
+    "zone file": (read_zone_file, "{}", "x,y,z,tonnes,grade\n0,0,0,{},1\n"),
+    "table of zones": (lambda path: table_of(path, "zone", ["A", "zone"]), "{}", "A,zone\n{},b\n")}
+
+#: The texts that they get, each alone and within these.
+OF_LINES = ("blanks digits points commas quotes accents words padded_lines rows heads braces "
+            "comments").split()
+
+
+@pytest.mark.parametrize("kind", READERS)
+def test_a_file_of_lines(tmp_path, kind):
+    read, *around = READERS[kind]
+    path = tmp_path / "RECORD"
+    for whole, name in itertools.product(around, OF_LINES):
+        def step(text, whole=whole):
+            path.write_text(whole.replace("{}", text), encoding="utf-8")
+            read(str(path))
+        try:
+            judge(step, lambda size, name=name: repeated(name, size))
+        except Exception as error:
+            raise AssertionError(f"{name} in {whole}") from error
+
+
+@pytest.mark.parametrize("kind", ["schedule", "mined", "variables", "pit", "identifiers",
+                                  "record of a batch"])
+def test_a_file_of_lines_has_a_measure(tmp_path, monkeypatch, kind):
+    path = tmp_path / "RECORD"
+    first = {"record of a batch": '{"build": "a"}\n', "identifiers": "0 0\n"}.get(kind, "\n")
+    path.write_text(first + "1" * (1 << 21))
+    most = "1,048,576" if kind == "record of a batch" else "65,536"
+    with pytest.raises(UserError, match=f"RECORD: line 2: it has more than {most} characters"):
+        READERS[kind][0](str(path))
+    path.write_text(first + "\n")
+    with open(path, "r+b") as file:
+        file.truncate(2_000_000_001)
+    with pytest.raises(UserError, match="RECORD: line 1: the file has more than 2,000,000,000 bytes"):
+        READERS[kind][0](str(path))
+    monkeypatch.setattr(published_lines, "MOST_FILE", 100)
+    os.mkfifo(tmp_path / "pipe")
+    with subprocess.Popen(["sh", "-c", f"yes '' | head -n 200 > {tmp_path}/pipe"]):
+        with pytest.raises(UserError, match="pipe: line 101: the file has more than 100 bytes"):
+            list(published_lines.numbered_lines(str(tmp_path / "pipe")))
+
+
+def test_a_line_of_a_zone_file_has_a_measure(tmp_path):
+    path = tmp_path / "a.csv"
+    path.write_text("x,y,z,tonnes,grade\n" + "1" * (1 << 25))
+    with pytest.raises(UserError, match="a.csv: a line has more than 16,777,216 characters"):
+        read_zone_file(str(path))
 
 
 # Files of JSON, and records
 
-@pytest.mark.parametrize("text", ["[" * (1 << 20), " " * (1 << 25) + "{}", '{"told": 1' + "1" * 5000])
+@pytest.mark.parametrize("text", ["[" * (1 << 20), " " * (1 << 25) + "{}", '{"told": 1' + "1" * 5000],
+                         ids=["nested", "padded", "digits"])
 def test_a_file_of_json_has_a_measure(tmp_path, text):
     path = tmp_path / "from.json"
     path.write_text(text)

@@ -61,7 +61,7 @@ SECTION = ["section", "mine.plan", "mine", "--out", "a.png"]
 
 REFUSED = [
     (["slopes", "mine.plan", "--decimals", "-1"], "--decimals: -1 is not from 0 to 9"),
-    (["slopes", "mine.plan", "--within", "nan"], "--within: nan is not from 0 to 90"),
+    (["slopes", "mine.plan", "--within", "91"], "--within: 91 is not from 0 to 90"),
     (["slopes", "thin.plan"], "record 1: `0.0004` has more decimals: a size of the grid has 3"),
     (["slopes", "vast.plan"], "`1e999999999` is no number"),
     (["slopes", "large.plan"], "it has more than 1,048,576 bytes, and so it is no plan"),
@@ -80,7 +80,7 @@ REFUSED = [
     (["deposit", "--seed", "1-9999999"], "from 1 to 1000000"),
     (["deposit", "--name", "é"], "no name `é`: it has 1 to 64 letters"),
     (["deposit", "--name", "a,b"], "no name `a,b`"),
-    ([*SECTION, "--y", "nan"], "no block lies at y = nan m"),
+    ([*SECTION, "--y", "1e300"], "no block lies at y = 1e+300 m"),
     ([*SECTION, "--y", "1e300"], "no block lies at y = 1e+300 m"),
     ([*SECTION, "--pit", "two"], "two: line 1: `²` is no block"),
     ([*SECTION, "--pit", "long"], "long: line 1: `999"),
@@ -95,7 +95,7 @@ REFUSED = [
     (["vary", "short.plan", "--name", "a", "--set", "dump.a.cost=1"], "0 cells after `dump`, which takes 2"),
     (["vary", "mine.plan", "--set", "K=٣"], "`٣` is no number"),
     (["minelib", "--to-published", "two", "--ids", "ids", "--out", "out"],
-     "ids: a line is no block with its published identifier"),
+     "ids: line 2: no block with its published identifier"),
     (["back", "mine.plan", "mine", "inf.schedule"], "inf.schedule: line 2: no line of a pit"),
     (["sample-export", "empty.csv"], "there is no block in empty.csv"),
     (["sample-export", "far.csv"], "do two groups of them lie far apart?"),
@@ -117,6 +117,14 @@ def test_words_that_cannot_be_right_are_told_in_a_line(here, capsys, words, told
 def test_a_number_of_seconds_is_none_below_0_and_none_without_end(here, capsys, words):
     assert main(words) == 2
     assert capsys.readouterr().err.endswith("is no number from 0 on\n")
+
+
+@pytest.mark.parametrize("option, number", [
+    *[("--decimals", text) for text in ("1_0", "\uff13", " 1", "3" * 5000)],
+    *[("--within", text) for text in ("1_0", "\uff13", "nan", "1e999", "1.5.", "3" * 5000)]])
+def test_a_number_of_an_option_has_digits_of_ascii(here, capsys, option, number):
+    assert main(["slopes", "mine.plan", f"{option}={number}"]) == 2
+    assert f"argument {option}: invalid" in capsys.readouterr().err
 
 
 def test_a_cell_of_a_plan_that_is_too_long_is_told(monkeypatch, tmp_path):
@@ -146,7 +154,6 @@ REFUSED_IMPORTS = [
     (["--size", "1e30,10,10"], "--size: `1e30,10,10` goes beyond 1,000,000,000"),
     (["--first", "-1e30,0,0", "--size", "10,10,10"], "--first: `-1e30,0,0` goes beyond"),
     (["--blocks", "4.5,2,2"], "--blocks: `4.5,2,2`: numbers of blocks are whole"),
-    (["--x-bearing", "nan"], "--x-bearing, --y-azimuth: give degrees"),
     (["--x-bearing", "60", "--about", "inf,0"], "--about: give x and y of the point"),
     (["--grade", 'where(AU > 1, "high", AU)'], "cannot be computed: could not convert string"),
     (["--grade", '"%9999999999d" % AU'], "a text is compared with others, and nothing is computed"),

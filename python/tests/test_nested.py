@@ -118,7 +118,7 @@ def test_the_table_and_the_picture(tmp_path, monkeypatch, capsys):
 
 @pytest.mark.parametrize("text, told", [
     ("1,x", "`x` is no number"), ("", "`` is no number"), ("1,1.0", "has a factor twice"),
-    ("0", "not above 0"), ("nan", "not above 0"), ("1e9", "up to 1000"),
+    ("0", "not above 0"), ("nan", "`nan` is no number"), ("1_0", "`1_0` is no number"), ("1e9", "up to 1000"),
     ("0.1234567", "more than 6 decimals")])
 def test_what_is_no_factor_is_told(text, told):
     with pytest.raises(UserError, match=told):

@@ -8,6 +8,9 @@ from __future__ import annotations
 
 import argparse
 import math
+import re
+
+from pit_tools.errors import quoted
 
 #: What a command says of its precedence file.
 PRECEDENCE = "BASE.prec, or what pitc_thin wrote"
@@ -19,12 +22,27 @@ def add_precedence_option(parser: argparse.ArgumentParser) -> None:
                         help="a precedence file in place of BASE.prec, as that of pitc_thin")
 
 
+def whole(text: str) -> int:
+    """A whole number of an option. It raises ValueError for what is none."""
+    if not re.fullmatch(r"[-+]?[0-9]{1,18}", text):
+        raise ValueError(text)
+    return int(text)
+
+
+def number(text: str) -> float:
+    """A finite number of an option. It raises ValueError for what is none."""
+    if (len(text) > 60 or not math.isfinite(float(text))
+            or not re.fullmatch(r"[-+]?[0-9.]+([eE][-+]?[0-9]+)?", text)):
+        raise ValueError(text)
+    return float(text)
+
+
 def from_zero(text: str) -> float:
     """A number from 0 on, as of seconds. It raises ArgumentTypeError for what is none."""
     try:
-        number = float(text)
+        found = number(text)
     except ValueError:
-        number = -1.0
-    if not 0 <= number < math.inf:
-        raise argparse.ArgumentTypeError(f"`{text}` is no number from 0 on")
-    return number
+        found = -1.0
+    if found < 0:
+        raise argparse.ArgumentTypeError(f"{quoted(text)} is no number from 0 on")
+    return found

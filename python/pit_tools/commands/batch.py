@@ -98,12 +98,14 @@ def _made(args: argparse.Namespace) -> int:
 
     from pit_tools import progress
     from pit_tools.batch_build import Way, found_program
-    from pit_tools.batch_list import Part
+    from pit_tools.batch_list import MOST_NAME, Part
     from pit_tools.batches import Batch
     from pit_tools.errors import UserError
 
     if args.relax == 0:
         raise UserError("--relax: give seconds above 0, or leave it out for no relaxations")
+    if len(args.options or "") > MOST_NAME:
+        raise UserError(f"--options has more than {MOST_NAME:,} characters")
     try:
         options = tuple(shlex.split(args.options or ""))
     except ValueError as error:

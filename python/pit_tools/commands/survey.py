@@ -80,18 +80,15 @@ def _survey(args: argparse.Namespace) -> None:
 
 def _plane(facts: Facts, text: str) -> Plane:
     """The plane of a word, as y=2320. It raises UserError for what is none."""
-    from math import isfinite
-
-    from pit_tools.errors import UserError
+    from pit_tools.decimals import number_of
+    from pit_tools.errors import UserError, quoted
     from pit_tools.pictures import plane_at
 
     axis, _, metres = text.partition("=")
-    try:
-        if axis in ("x", "y", "z") and isfinite(float(metres)):
-            return plane_at(facts, axis, float(metres))
-    except ValueError:
-        pass
-    raise UserError(f"--section: `{text}`: give an axis and metres, as y=2320")
+    place = number_of(metres.strip())
+    if axis not in ("x", "y", "z") or place is None:
+        raise UserError(f"--section: {quoted(text)}: give an axis and metres, as y=2320")
+    return plane_at(facts, axis, place)
 
 
 def _write_pictures(facts: Facts, planes: Sequence[Plane], folder: str) -> None:

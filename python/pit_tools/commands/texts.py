@@ -23,19 +23,23 @@ def add_arguments(parser: argparse.ArgumentParser) -> None:
 def run(args: argparse.Namespace) -> int:
     import sys
     from contextlib import ExitStack
+    from functools import partial
 
     from pit_tools import outputs
-    from pit_tools.errors import UserError
+    from pit_tools.errors import UserError, quoted
     from pit_tools.instance import TEXTS
+    from pit_tools.published_lines import LONGEST
 
     found: list[_Section] = []
     with outputs.together(record=args.base), ExitStack() as files:
-        for line in sys.stdin.buffer:
+        for line in iter(partial(sys.stdin.buffer.readline, LONGEST + 1), b""):
+            if len(line) > LONGEST:
+                raise UserError(f"standard input has a line of more than {LONGEST >> 20} MB")
             if line.startswith(b"== "):
                 name = line[3:].strip().decode("ascii", "replace")
                 if name not in TEXTS or name in [section.name for section in found]:
-                    raise UserError(f"`{line.decode('utf-8', 'replace').strip()}` is no section of "
-                                    "an instance, or stands twice")
+                    raise UserError(f"{quoted(line.decode('utf-8', 'replace').strip())} is no "
+                                    "section of an instance, or stands twice")
                 found.append(_Section(name))
                 file = files.enter_context(outputs.opened(f"{args.base}.{name}",
                                                           outputs.ENDINGS["." + name]))
