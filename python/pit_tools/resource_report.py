@@ -329,6 +329,8 @@ def _value(cell: str, kind: str, unit: str, known: Known, marks: Marks, place: s
     if kind not in ("blocks", *EXTENTS):
         factor = known.factor(unit, kind) or 1.0
     number = Decimal(text)
+    if number < 0 and kind not in EXTENTS and not (known.is_money and kind in ("grade", "metal")):
+        raise UserError(f"{place}: the {kind} `{cell.strip()}` is below 0")
     exponent = number.as_tuple().exponent
     last = 10.0 ** min(exponent, 0) if isinstance(exponent, int) else 1.0
     return Value(float(number) * factor, 0.5 * last * factor)
@@ -345,6 +347,9 @@ def take_expected(text: str, known: Known, statement: Statement) -> None:
     if not found:
         raise UserError(f"--expect: `{text}`: give it as 'west: 1.975 Mt at 0.226 g/t'")
     place = f"--expect '{text}'"
+    if found["zone"] is not None and not found["zone"].strip():
+        raise UserError(f"{place}: no zone stands before the colon: name it, or leave out the "
+                        "colon for all zones")
     cells = {"tonnes": found["tonnes"], "grade": found["grade"], "metal": found["metal"],
              "cut-off": found["cut"]}
     marks = _marks_of([cell for cell in cells.values() if cell], "--expect")

@@ -190,7 +190,12 @@ def test_a_report_that_is_not_understood_is_refused_by_its_place(report, message
 
 
 @pytest.mark.parametrize("text, message", [("west", "`west` is no number"), ("x: 1 t", "no zone `x`"),
-                                           ("west: 1 t at 2", "unit"), ("west: 1 furlong", "unit")])
+                                           ("west: 1 t at 2", "unit"), ("west: 1 furlong", "unit"),
+                                           (": 1 Mt", "no zone stands before the colon"),
+                                           (" : 1 Mt", "no zone stands before the colon"),
+                                           ("west: -3 Mt", "the tonnes `-3 Mt` is below 0"),
+                                           ("west: (3) Mt", "the tonnes `.3. Mt` is below 0"),
+                                           ("3 t at -2 g/t", "the grade `-2 g/t` is below 0")])
 def test_words_that_are_not_understood_are_refused(text, message, tmp_path):
     if message == "unit" and text.endswith("2"):
         found = reconciled(tmp_path, "", expected=[text])
