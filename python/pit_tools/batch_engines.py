@@ -33,7 +33,8 @@ def in_turn(entries: Sequence[Entry], way: Way, build: str) -> Iterator[Union[Ma
 
 
 def by_processes(jobs: int) -> Engine:
-    """So many at a time, each in a process of its own."""
+    """So many at a time, each in a process of its own. A program that uses this needs the usual
+    `if __name__ == "__main__":`, since each process loads it."""
 
     def engine(entries: Sequence[Entry], way: Way, build: str) -> Iterator[Union[Made, Failed]]:
         with _processes(min(jobs, max(1, len(entries)))) as executor:
@@ -45,9 +46,13 @@ def by_processes(jobs: int) -> Engine:
 @contextmanager
 def _processes(jobs: int) -> Iterator[Executor]:
     """Processes that end with this one: they are told to where an exception leaves the block, and
-    see it where this one is killed."""
+    see it where this one is killed. Each is a new interpreter: a copy of this one would lack the
+    threads that libraries have started, as HiGHS does, and could wait for them for ever."""
     others = set(multiprocessing.active_children())
-    executor = ProcessPoolExecutor(jobs, initializer=_end_with_parent)
+    executor = ProcessPoolExecutor(jobs, multiprocessing.get_context("spawn"), _end_with_parent)
+    # A new interpreter would look for the modules of Python in the current folder first.
+    before = os.environ.get("PYTHONSAFEPATH")
+    os.environ["PYTHONSAFEPATH"] = "1"
     try:
         yield executor
     except BaseException:
@@ -55,6 +60,8 @@ def _processes(jobs: int) -> Iterator[Executor]:
             process.terminate()
         raise
     finally:
+        if before is None:
+            del os.environ["PYTHONSAFEPATH"]
         executor.shutdown(cancel_futures=True)
 
 
@@ -62,6 +69,7 @@ def _end_with_parent() -> None:
     """Leaves Ctrl-C to the first process, which tells the others by TERM."""
     parent = multiprocessing.parent_process()
     signal.signal(signal.SIGINT, signal.SIG_IGN)
+    signal.pthread_sigmask(signal.SIG_UNBLOCK, {signal.SIGINT})
     signal.signal(signal.SIGTERM, _end)
 
     def watch() -> None:
@@ -116,8 +124,13 @@ def _through(executor: Executor, width: int, entries: Sequence[Entry], way: Way,
     waiting = iter(entries)
     running: dict[Future, Entry] = {}
     while True:
-        for entry in islice(waiting, width - len(running)):
-            running[executor.submit(make, entry, way, build)] = entry
+        # A process that is being started for it would tell of Ctrl-C.
+        mask = signal.pthread_sigmask(signal.SIG_BLOCK, {signal.SIGINT})
+        try:
+            for entry in islice(waiting, width - len(running)):
+                running[executor.submit(make, entry, way, build)] = entry
+        finally:
+            signal.pthread_sigmask(signal.SIG_SETMASK, mask)
         if not running:
             return
         for future in wait(running, return_when=FIRST_COMPLETED).done:

@@ -13,7 +13,7 @@ import time
 import pytest
 
 import mines
-from pit_tools import batch_build, batch_engines
+from pit_tools import batch_build, batch_engines, programs
 from pit_tools.batch_build import Way, sum_of_modules
 from pit_tools.batch_engines import by_processes, in_turn
 from pit_tools.batch_list import Part, read_list
@@ -23,6 +23,8 @@ from pit_tools.batch_making import make
 from pit_tools.batches import Batch
 from pit_tools.cli import main
 from pit_tools.errors import UserError
+from pit_tools.instance import read_instance
+from pit_tools.programs import program_of
 
 PITC = """#!{python}
 import os, sys
@@ -482,6 +484,16 @@ def test_several_at_a_time_make_the_same(here):
     (here / "two.plan").write_text("refused\n")
     batch, whole = run_batch(engine=by_processes(3))
     assert not whole and batch.failed == ["two.plan: pitc compile: pitc: plan row 1: Name"]
+
+
+def test_a_batch_ends_in_a_program_that_has_used_a_solver(here):
+    """HiGHS keeps threads, which a copy of this process would wait for and not have."""
+    mine = read_instance(mines.six_blocks(here))
+    assert programs._solved(program_of(mine.cpit, mine.precedence), None, 0.0, None).status == "best"
+    (here / "pickle.py").write_text("raise SystemExit(7)\n")
+    batch, whole = run_batch(engine=by_processes(2), seconds=60.0)
+    assert whole and len(batch.made) == 2
+    assert "PYTHONSAFEPATH" not in os.environ
 
 
 def test_processes_end_though_one_ended_with_a_lock(here, monkeypatch):
