@@ -15,7 +15,7 @@ from contextlib import contextmanager
 from typing import Any, Iterator, Optional, Sequence
 
 from pit_tools import VERSION, commands, outputs
-from pit_tools.errors import UserError
+from pit_tools.errors import UserError, quoted
 
 # The subcommands with one line on each, in the order of the work.
 COMMANDS = {
@@ -164,7 +164,13 @@ def run(words: Sequence[str]) -> int:
     if command not in COMMANDS:
         raise UserError(_unknown(command))
     args = parser_of(command).parse_args(joined(words[1:]))
+    base, out = getattr(args, "base", None) or "", getattr(args, "out", None) or ""
+    if base.endswith("/") or out.endswith("/"):
+        raise UserError(f"{quoted(out if out.endswith('/') else base)} ends in a slash, and names "
+                        "no file: give a name in that folder")
     with outputs.of_command(args.force, args.edited, command):
+        if base:
+            outputs.looks_beside(base)
         status = args.run(args)
         _flush()
         return status

@@ -43,8 +43,9 @@ def held(base: str) -> Iterator[None]:
                                    f"{base}: another command writes this instance: wait for its "
                                    "end")
             except OSError as error:
-                raise UserError(f"{base}: its folder cannot be written ({error.strerror}): name "
-                                "another place, or let the folder be written") from None
+                raise UserError(f"{base}: its folder cannot be written ({error.strerror}), where "
+                                "the lock and the record of sums are: let it be written, or name "
+                                "another place; `pitc compile` itself has neither") from None
             try:
                 if os.path.samestat(os.fstat(descriptor), os.stat(path)):
                     break

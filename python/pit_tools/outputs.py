@@ -198,6 +198,13 @@ def reads(*paths: str) -> None:
                 command.reading.take(path)
 
 
+def looks_beside(base: str) -> None:
+    """Says that the command reads an instance: what --edited let pass when that was made passes."""
+    if _Command.now is not None:
+        with looking():
+            _Command.now.reading.look_beside(base)
+
+
 def edited() -> Sequence[str]:
     """What was read by the command although a record names another file, in a line each."""
     return _Command.now.reading.edited if _Command.now is not None else ()

@@ -18,6 +18,7 @@ import json
 import os
 import re
 import stat
+from contextlib import suppress
 from dataclasses import dataclass
 from typing import Any, Iterable, Iterator, Optional
 
@@ -243,6 +244,11 @@ class Reading:
         self._used |= new
         self._judge_inputs(new.values(), self._read)
         self._judge_inputs([one for one in self._used.values() if one.path not in new], [at])
+
+    def look_beside(self, base: str) -> None:
+        """Learns what passed when the files of a base were made, before any other file is read."""
+        with suppress(UserError, OSError):
+            self._named(os.path.realpath(base))
 
     def _named(self, at: str) -> list[tuple[Record, File]]:
         """The records beside a file that name it as an output."""

@@ -71,6 +71,11 @@ REFUSED = [
     (["pit", "mine", "--plan", "mine.plan", "--K", "²"], "--K: `²` is neither 1 to 20"),
     (["pit", "mine", "--out", ""], "an empty word stands behind --out"),
     (["pit", "mine", "--out="], "an empty word stands behind --out"),
+    *[([*words], f"`{words[-1]}` ends in a slash, and names no file") for words in (
+        ["pit", "mine", "--out", "f/"], ["read", "mine", "--write", "f/"], ["texts", "f/"],
+        ["compile", "--plan", "mine.plan", "one.csv", "--out", "./"], [*SECTION[:-1], "f/"],
+        ["import", "export.csv", "--x", "X", "--y", "Y", "--z", "Z", "--base", "f/"],
+        ["minelib", "--publish", "mine", "--out", "f/"], ["nested", "mine.plan", "mine", "--out", "f/"])],
     (["read", ""], "an empty word stands behind read"),
     (["by-zone", "both", "mine:²"], "give an instance and its zones"),
     (["deposit", "--size", "²,2,2"], "is no list of whole numbers"),

@@ -151,6 +151,25 @@ def test_an_edited_file_passes_with_what_was_made_of_it(here, capsys, name, old,
     assert f"{name}: it is not the file that" in refusal(SURVEY, capsys)
 
 
+@pytest.mark.parametrize("name, old, new", [("mine.plan", "0.08", "0.09"),
+                                            ("from-west.csv", ",1000,", ",1001,")])
+def test_an_edited_file_passes_with_an_instance_in_another_folder(here, capsys, name, old, new):
+    os.mkdir("other")
+    change(here / name, old, new)
+    other = [["other/mine" if word == "mine" else word for word in words] for words in (
+        COMPILE, SURVEY, ["report", "mine.plan", "mine", "some.pit"])]
+    (here / "some.pit").write_text("0\n")
+    assert f"{name}: it is not the file that" in refusal(other[0], capsys)
+    assert main([*other[0], "--edited"]) == 0
+    for words in other[1:]:
+        assert main(words) == 0
+    assert main(other[1]) == 0
+    assert f"- FILES: {name}: it is not the file that" in capsys.readouterr().out
+    assert f"{name}: it is not the file" in refusal(SURVEY, capsys)
+    change(here / name, new, new + "1")
+    assert f"{name}: it is not the file" in refusal(other[1], capsys)
+
+
 def test_whole_runs_that_do_not_belong_together_are_refused(here, capsys):
     change(here / "export.csv", ",0.5,", ",0.75,")
     assert main(["back", "mine.plan", "mine", "mine.cpit", "--onto", "from.json"]) == 2
@@ -275,7 +294,25 @@ def test_compile_refuses_sums_of_the_user_before_it_replaces_files(here, capsys)
 def test_compile_names_the_base_where_its_folder_cannot_be_written(here, capsys):
     told = refusal(["nowhere/mine" if word == "mine" else word for word in COMPILE], capsys)
     assert told == ("pit-tools compile: nowhere/mine: its folder cannot be written (No such file "
-                    "or directory): name another place, or let the folder be written\n")
+                    "or directory), where the lock and the record of sums are: let it be written, "
+                    "or name another place; `pitc compile` itself has neither\n")
+
+
+def test_compile_replaces_no_file_where_it_can_write_files_but_not_their_folder(
+        here, capsys, monkeypatch):
+    before, real = {name: (here / name).read_bytes() for name in os.listdir(here)}, os.open
+
+    def refusing(path, flags, *words, **named):
+        if flags & os.O_CREAT and not os.path.exists(path):
+            raise PermissionError(errno.EACCES, "Permission denied", path)
+        return real(path, flags, *words, **named)
+
+    monkeypatch.setattr(os, "open", refusing)
+    (here / "made.blocks").write_text("new\n")
+    told = refusal(COMPILE, capsys)
+    assert "mine: its folder cannot be written (Permission denied)" in told
+    assert {name: (here / name).read_bytes() for name in before} == {**before,
+                                                                     "made.blocks": b"new\n"}
 
 
 def test_a_refused_stat_is_an_error(here, monkeypatch, capsys):
@@ -304,6 +341,8 @@ def killed(words, name, nth):
             calls.append(given)
             if len(calls) == nth:
                 os.kill(os.getpid(), signal.SIGKILL)
+                # Another thread may take the signal a while later.
+                signal.pause()
             return real(*given, **named)
 
         setattr(os, name, call)
