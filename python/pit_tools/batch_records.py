@@ -14,7 +14,7 @@ from dataclasses import dataclass
 from itertools import islice
 from typing import IO, Any, Iterable, Iterator, Optional
 
-from pit_tools import outputs
+from pit_tools import inputs, outputs
 from pit_tools.batch_list import Entry, Part
 from pit_tools.batch_making import Made
 from pit_tools.errors import UserError
@@ -56,7 +56,7 @@ def build_of(path: str) -> Optional[str]:
     """The text of BUILD that a record begins with; None where there is no record, or nothing in
     it."""
     try:
-        with outputs.looking():
+        with inputs.looking():
             _, first = next(numbered_lines(path, MOST_LINE), (1, ""))
     except FileNotFoundError:
         return None
@@ -69,7 +69,7 @@ def build_of(path: str) -> Optional[str]:
 
 
 def _lines(path: str) -> Iterator[Made]:
-    with outputs.looking():
+    with inputs.looking():
         for _, line in islice(numbered_lines(path, MOST_LINE), 1, None):
             found = _parsed(line)
             try:
@@ -136,7 +136,7 @@ class Sums:
         """The sum of a file, None where it cannot be read."""
         if name not in self.found:
             try:
-                with outputs.looking():
+                with inputs.looking():
                     self.found[name] = sum_of(os.path.join(self.folder, name))
             except OSError:
                 self.found[name] = None

@@ -9,7 +9,7 @@ import os
 from contextlib import ExitStack
 from typing import Iterable, Sequence
 
-from pit_tools import outputs, progress, records
+from pit_tools import file_kinds, inputs, outputs, progress, records, renames
 from pit_tools.batch_build import Way, build_told
 from pit_tools.batch_engines import Engine, in_turn
 from pit_tools.batch_list import TABLES, BatchList, Entry, Part, read_list
@@ -33,7 +33,7 @@ class Batch:
         self.way, self.part = way, part
         self.list = read_list(path, texts_of(way), [record_path("", part)])
         self.entries = self.list.entries_of(part)
-        outputs.reads(*(name for entry in self.entries for name in entry.inputs))
+        inputs.reads(*(name for entry in self.entries for name in entry.inputs))
         self.made: dict[Entry, Made] = {}
         self.kept: set[Entry] = set()
         self.failed: list[str] = []
@@ -48,7 +48,7 @@ class Batch:
                 self._keep(build)
             _judge_old(self.way.folder, [entry for entry in self.entries if entry not in self.made],
                        texts_of(self.way))
-            outputs.clear_left([record_path(self.way.folder, self.part),
+            renames.clear_left([record_path(self.way.folder, self.part),
                                 *(TABLES if self.part.is_whole else ())])
             with Record(self.way.folder, self.part, build, goes_on) as record:
                 _remove(TABLES)
@@ -84,7 +84,7 @@ class Batch:
 
 def _kind(name: str) -> str:
     """The kind of a file that a batch writes."""
-    return KINDS.get(name) or outputs.ENDINGS[os.path.splitext(name)[1]]
+    return KINDS.get(name) or file_kinds.ENDINGS[os.path.splitext(name)[1]]
 
 
 def _judge_old(folder: str, entries: Iterable[Entry], texts: Sequence[str]) -> None:
@@ -165,7 +165,7 @@ class Joining:
                        (*TEXTS, "thin"))
             texts = [name for _, made in whole for name in made.sums
                      if name not in made.entry.inputs]
-            outputs.clear_left([record_path(""), *TABLES, *texts])
+            renames.clear_left([record_path(""), *TABLES, *texts])
             _remove(TABLES)
             for folder, made in whole:
                 _copied(folder, made)

@@ -14,7 +14,7 @@ import traceback
 from contextlib import contextmanager
 from typing import Any, Iterator, Optional, Sequence
 
-from pit_tools import VERSION, commands, outputs
+from pit_tools import VERSION, commands, inputs
 from pit_tools.errors import UserError, quoted
 
 # The subcommands with one line on each, in the order of the work.
@@ -168,9 +168,9 @@ def run(words: Sequence[str]) -> int:
     if base.endswith("/") or out.endswith("/"):
         raise UserError(f"{quoted(out if out.endswith('/') else base)} ends in a slash, and names "
                         "no file: give a name in that folder")
-    with outputs.of_command(args.force, args.edited, command):
+    with inputs.of_command(args.force, args.edited, command):
         if base:
-            outputs.looks_beside(base)
+            inputs.looks_beside(base)
         status = args.run(args)
         _flush()
         return status

@@ -9,7 +9,7 @@ from dataclasses import dataclass, field, fields
 from decimal import Decimal
 from typing import Any, Optional, Sequence
 
-from pit_tools import outputs
+from pit_tools import inputs
 from pit_tools.errors import UserError
 from pit_tools.formula_values import code_name
 from pit_tools.formulas import Formula, Lacking, formula_of, plain_name
@@ -321,7 +321,7 @@ def _records_of(path: str) -> list[list[str]]:
     """The cells of a table in a file, by its lines that have any. It raises UserError, with the
     line, where one has more or fewer cells than the first."""
     records: list[list[str]] = []
-    outputs.reads(path)
+    inputs.reads(path)
     try:
         with open(path, encoding="utf-8-sig", newline="") as file:
             text = file.read(MOST_TABLE + 1)

@@ -6,7 +6,7 @@ from dataclasses import dataclass
 from operator import index
 from typing import Optional
 
-from pit_tools import outputs
+from pit_tools import inputs
 from pit_tools.decimals import decimal_of
 from pit_tools.errors import UserError
 from pit_tools.export_words import Words
@@ -53,7 +53,7 @@ class ImportedFile:
 
 def read_imported(path: str) -> ImportedFile:
     """Reads BASE.json. It raises UserError where it is none, OSError where it cannot be read."""
-    outputs.reads(path)
+    inputs.reads(path)
     try:
         told = read_json(path, "replace")
         if "turn" in told:

@@ -12,7 +12,7 @@ from __future__ import annotations
 
 from typing import Sequence
 
-from pit_tools import outputs, progress
+from pit_tools import inputs, progress
 from pit_tools.errors import UserError
 from pit_tools.export_words import Words
 from pit_tools.import_placing import Placing
@@ -39,7 +39,7 @@ def import_export(paths: Sequence[str], words: Words, wanted: Wanted = Wanted())
         words, told = words_by_package(words, paths)
         report.facts.append(told)
     words.judge()
-    outputs.reads(*paths)
+    inputs.reads(*paths)
     progress.step("reads rows")
     reading = Reading(words)
     sources = [source for path in paths for source in read_export(path, words, reading, report)]

@@ -25,7 +25,7 @@ import numpy as np
 import pandas as pd
 from scipy import sparse
 
-from pit_tools import outputs, spelling
+from pit_tools import inputs, outputs, spelling
 from pit_tools.decimals import fault_of, may_be_misread, number_of
 from pit_tools.errors import UserError, quoted
 from pit_tools.formats import (MOST_AMOUNT, MOST_BLOCKS, MOST_DESTINATIONS, MOST_INDEX,
@@ -294,7 +294,7 @@ def _first_line(error: Exception) -> str:
 
 def _opened(path: str) -> BinaryIO:
     try:
-        outputs.reads(path)
+        inputs.reads(path)
         return open(path, "rb")
     except OSError as error:
         raise BadInstance(f"cannot open {path}: {error.strerror}") from None

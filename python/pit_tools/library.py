@@ -14,7 +14,7 @@ from typing import Iterator
 
 import pandas as pd
 
-from pit_tools import outputs
+from pit_tools import file_kinds, inputs, outputs
 from pit_tools.closure import ultimate_pit
 from pit_tools.deposits import ZONES, Deposit
 from pit_tools.errors import UserError
@@ -76,7 +76,7 @@ def table_of(folder: str, name: str) -> pd.DataFrame:
     if status_of(path) is None:
         raise UserError(f"{folder}: no library, since it has no {name}: `library --write` makes "
                         "one")
-    with outputs.looking():
+    with inputs.looking():
         return _table(path, name)
 
 
@@ -104,7 +104,7 @@ def known(name: str, folder: str = "") -> Known:
     if len(rows) != 1:
         raise UserError(f"the library has no `{name}`: it has {', '.join(table['name'])}")
     path = os.path.join(folder or FOLDER, "SUMS")
-    with outputs.looking():
+    with inputs.looking():
         record = read_record(path)
     if record is None:
         raise UserError(f"{path}: it is not there, or no record of sums: `library --write` makes "
@@ -160,7 +160,7 @@ def write_all(folder: str) -> None:
         with outputs.together():
             outputs.folder(folder)
             for name in sorted(name for name in os.listdir(made) if not name.endswith(ENDING)):
-                kind = outputs.ENDINGS.get(os.path.splitext(name)[1], "zone file")
+                kind = file_kinds.ENDINGS.get(os.path.splitext(name)[1], "zone file")
                 outputs.copied(os.path.join(made, name), os.path.join(folder, name), kind)
             for deposit in DEPOSITS:
                 _copy_schedules(deposit.name, FOLDER, folder)

@@ -10,7 +10,7 @@ from typing import Any, Iterator, Optional, Sequence
 
 import pandas as pd
 
-from pit_tools import VERSION, library, outputs
+from pit_tools import VERSION, inputs, library, outputs
 from pit_tools.bounds import bounds_of
 from pit_tools.commands.lp import fewer_arcs
 from pit_tools.deposits import Deposit
@@ -104,7 +104,7 @@ def search_on(word: str, seconds: float, folder: str) -> str:
     deposit, kind = named(word)
     mine = instance_of(deposit, folder)
     problem = mine.problem(kind)
-    with outputs.looking():
+    with inputs.looking():
         starts = [read_schedule(library.schedule_path(deposit.name, kind, folder), problem)]
         if kind == "pcpsp":
             starts.append(at_best_destinations(read_schedule(library.schedule_path(

@@ -11,7 +11,7 @@ from typing import Iterator, NamedTuple, Optional
 
 import numpy as np
 
-from pit_tools import outputs
+from pit_tools import inputs
 from pit_tools.destination_doubts import destination_doubts
 from pit_tools.plan_file import Limit
 from pit_tools.rock_doubts import RockModel, rock_doubts, zones_apart
@@ -193,7 +193,7 @@ def _little_used(facts: Facts) -> Iterator[str]:
 
 def _note(facts: Facts) -> Iterator[str]:
     yield from filter(None, [facts.note.why_not])
-    yield from outputs.edited()
+    yield from inputs.edited()
 
 
 def _resources(facts: Facts) -> Iterator[str]:

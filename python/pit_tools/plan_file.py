@@ -9,7 +9,7 @@ from dataclasses import dataclass, field
 from decimal import Decimal
 from typing import Optional, Sequence, Tuple
 
-from pit_tools import outputs
+from pit_tools import inputs
 from pit_tools.decimals import MOST_DIGITS, plain
 from pit_tools.errors import UserError
 from pit_tools.formats import (MOST_DESTINATIONS, MOST_PERIODS, MOST_PLAN_BYTES, MOST_RESOURCES,
@@ -405,7 +405,7 @@ class _Reader:
 def read_text(path: str) -> str:
     """The text of a plan. It raises UserError where it is longer than any plan, OSError for a file
     that cannot be read."""
-    outputs.reads(path)
+    inputs.reads(path)
     with open(path, "rb") as file:
         content = file.read(MOST_PLAN_BYTES + 1)
     if len(content) > MOST_PLAN_BYTES:

@@ -10,7 +10,7 @@ import json
 import os
 from dataclasses import asdict, dataclass, field
 
-from pit_tools import VERSION, outputs, records
+from pit_tools import VERSION, inputs, outputs, records
 from pit_tools.errors import UserError
 from pit_tools.gridding import Frame
 from pit_tools.reconciling import Reconciled
@@ -76,7 +76,7 @@ def read_note(plan_path: str) -> PlanNote:
     path = path_of_note(plan_path)
     if records.status_of(path) is None:
         return PlanNote()
-    outputs.reads(path)
+    inputs.reads(path)
     if not _are_of_one_run(plan_path, path):
         return PlanNote(why_not=f"{path} was written for another plan than {plan_path} is now: "
                         + NOT_TAKEN)

@@ -17,7 +17,7 @@ from typing import BinaryIO, Iterable, Iterator, NoReturn, Optional, Sequence
 import numpy as np
 import pandas as pd
 
-from pit_tools import outputs
+from pit_tools import inputs
 from pit_tools.decimals import fault_of, may_be_misread
 from pit_tools.errors import UserError, quoted
 from pit_tools.spelling import EXACT, FEWEST, NotHeld, nearest
@@ -118,7 +118,7 @@ def numbered_lines(path: str, most: int = MOST_LINE) -> Iterator[tuple[int, str]
     Raises UserError, with the line, if it has more than `most` characters, or the file more than
     2 GB; OSError if the file cannot be read.
     """
-    outputs.reads(path)
+    inputs.reads(path)
     with open(path, encoding="utf-8-sig", errors="replace") as file:
         size, taken = os.fstat(file.fileno()).st_size, 0
         for number in itertools.count(1):
@@ -162,7 +162,7 @@ def pieces_of(path: str) -> Iterator[Piece]:
     Raises UserError where it cannot be opened, is no text, or has lines behind `EOF`.
     """
     number, has_ended = 1, False
-    outputs.reads(path)
+    inputs.reads(path)
     try:
         file = open(path, "rb")
     except OSError as error:

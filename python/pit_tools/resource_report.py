@@ -18,7 +18,7 @@ from typing import Any, NamedTuple, Optional, Sequence
 
 import pandas as pd
 
-from pit_tools import outputs
+from pit_tools import inputs
 from pit_tools.cells import Marks, marks_of
 from pit_tools.errors import UserError
 from pit_tools.units import MONEY, POUND, SHORT_TON, TROY_OUNCE, factor_of, is_money_a_tonne
@@ -195,7 +195,7 @@ def read_report(path: str, known: Known, statement: Statement) -> None:
 
 def _records_of(path: str) -> list[tuple[int, list[str]]]:
     """The lines of a report with their cells, beginning with the first that has any."""
-    outputs.reads(path)
+    inputs.reads(path)
     with open(path, "rb") as file:
         content = file.read(MOST_BYTES + 1)
     if len(content) > MOST_BYTES:

@@ -10,7 +10,7 @@ from typing import IO, Sequence
 import numpy as np
 import pandas as pd
 
-from pit_tools import outputs
+from pit_tools import inputs, outputs
 from pit_tools.decimals import parts_of
 from pit_tools.errors import UserError
 from pit_tools.published_lines import line_lengths, whole_lines
@@ -34,7 +34,7 @@ def read_zone_file(path: str) -> pd.DataFrame:
     Columns are found by name, in any order and in upper or lower case; others are ignored. It
     raises UserError for a missing column or a cell that is no number, with its row, and OSError."""
     refuse_pipe(path)
-    outputs.reads(path)
+    inputs.reads(path)
     chunks: list[pd.DataFrame] = []
     try:
         _judge_widths(path)
@@ -110,6 +110,6 @@ def append_rows(file: IO[bytes], rows: pd.DataFrame) -> None:
 def count_lines(path: str) -> int:
     """How many lines a zone file has below its header, blank ones left out."""
     refuse_pipe(path)
-    outputs.reads(path)
+    inputs.reads(path)
     with open(path, "rb") as file:
         return max(sum(len(line_lengths(piece)) for piece in whole_lines(file, path)) - 1, 0)

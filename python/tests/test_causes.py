@@ -11,7 +11,7 @@ import openpyxl
 import pytest
 
 import mines
-from pit_tools import compiled, library, outputs, source, workbook
+from pit_tools import compiled, inputs, library, outputs, source, workbook
 from pit_tools.batch_list import read_list
 from pit_tools.cli import main
 from pit_tools.errors import UserError
@@ -314,12 +314,12 @@ def test_a_record_of_an_import_that_was_changed_is_told(here, capsys, key, value
 
 def test_an_export_whose_first_column_is_a_name_is_no_plan(here):
     (here / "blocks.csv").write_text("name,x,y\n1,2,3\n")
-    with outputs.of_command(), pytest.raises(UserError, match="of another kind than `plan`"):
+    with inputs.of_command(), pytest.raises(UserError, match="of another kind than `plan`"):
         with outputs.opened("blocks.csv", "plan", "ascii") as file:
             file.write("name,a\n")
     for text in ((here / "mine.plan").read_text(), "name,a,,,\r\ngrid,0,0,0,1,1,1,,\r\n"):
         (here / "old.plan").write_text(text, newline="")
-        with outputs.of_command(), outputs.opened("old.plan", "plan", "ascii") as file:
+        with inputs.of_command(), outputs.opened("old.plan", "plan", "ascii") as file:
             file.write("name,a\ngrid,0,0,0,1,1,1\n")
 
 

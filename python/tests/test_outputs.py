@@ -11,7 +11,7 @@ from dataclasses import replace
 
 import pytest
 
-from pit_tools import outputs
+from pit_tools import inputs, outputs
 from pit_tools.cli import main
 from pit_tools.errors import UserError
 from pit_tools.records import File, read_record
@@ -86,7 +86,7 @@ def test_a_file_of_another_kind_is_kept_but_by_force(here, capsys):
 
 def test_a_name_of_one_kind_is_not_taken_by_another(here):
     (here / "deposit.prec").write_text("0 1 2\n1 0\n2 0\n")
-    with outputs.of_command(), pytest.raises(UserError, match="deposit.prec: the file there is of "
+    with inputs.of_command(), pytest.raises(UserError, match="deposit.prec: the file there is of "
                                              "another kind"):
         write("deposit.prec", "0 1\n", "schedule")
 

@@ -429,7 +429,7 @@ def test_a_file_system_without_locks_is_written_all_the_same(here, monkeypatch, 
 
 
 def test_a_lock_that_never_goes_is_told(here, monkeypatch, capsys):
-    monkeypatch.setattr("pit_tools.outputs.SECONDS_OF_A_PUT", 0.1)
+    monkeypatch.setattr("pit_tools.renames.SECONDS_OF_A_PUT", 0.1)
     descriptor = os.open(".", os.O_RDONLY)
     fcntl.flock(descriptor, fcntl.LOCK_EX)
     before = sorted(os.listdir("."))

@@ -26,7 +26,7 @@ def add_arguments(parser: argparse.ArgumentParser) -> None:
 def run(args: argparse.Namespace) -> int:
     import numpy as np
 
-    from pit_tools import outputs
+    from pit_tools import inputs, outputs
     from pit_tools.by_zone import by_zone
     from pit_tools.decimals import whole_of
     from pit_tools.errors import UserError
@@ -44,7 +44,7 @@ def run(args: argparse.Namespace) -> int:
     with outputs.together(record=args.out):
         write_instance(made, args.out)
         first = args.parts[0].rpartition(":")[0] + ".prec"
-        outputs.reads(first)
+        inputs.reads(first)
         outputs.copied(first, args.out + ".prec", "prec")
     for text, (zones, _) in zip(args.parts, parts):
         count = int(np.isin(present(made.blocks, "block file").zone, zones).sum())

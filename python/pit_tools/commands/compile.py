@@ -31,7 +31,7 @@ def add_arguments(parser: argparse.ArgumentParser) -> None:
 def run(args: argparse.Namespace) -> int:
     from contextlib import nullcontext
 
-    from pit_tools import outputs
+    from pit_tools import inputs, outputs
     from pit_tools.batch_build import found_program
     from pit_tools.compiling import compile_shown
     from pit_tools.instance import TEXTS
@@ -42,7 +42,7 @@ def run(args: argparse.Namespace) -> int:
         if (value := getattr(args, name)) is not None:
             words += [f"--{name}", value]
     reads = [path for path in (args.plan, *args.zones) if path]
-    outputs.reads(*reads)
+    inputs.reads(*reads)
     if args.out:
         # Before pitc replaces files that no record would name afterwards.
         outputs.judged_old(f"{args.out}.sums", "sums")

@@ -151,7 +151,7 @@ def _add_contents(parser: argparse.ArgumentParser) -> None:
 def run(args: argparse.Namespace) -> int:
     from dataclasses import fields
 
-    from pit_tools import outputs, progress
+    from pit_tools import inputs, progress
     from pit_tools.errors import UserError
     from pit_tools.export_words import Words
     from pit_tools.importing import Wanted, import_export
@@ -174,7 +174,7 @@ def run(args: argparse.Namespace) -> int:
         print()
     for path in paths:
         print(f"written: {path}")
-    for path in outputs.removed():
+    for path in inputs.removed():
         print(f"removed: {path}")
     print()
     print("records for the plan, with slopes of 45 degrees until yours are said (pit-tools plan):")

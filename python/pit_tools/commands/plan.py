@@ -67,7 +67,7 @@ def run(args: argparse.Namespace) -> int:
     from dataclasses import fields
     from stat import S_ISREG
 
-    from pit_tools import outputs
+    from pit_tools import inputs, outputs
     from pit_tools.errors import UserError
     from pit_tools.formats import MOST_HEIGHT
     from pit_tools.imported import read_imported
@@ -82,7 +82,7 @@ def run(args: argparse.Namespace) -> int:
     if not 0 <= args.benches <= MOST_HEIGHT:
         raise UserError(f"--benches: {args.benches} is no height of a mine")
     imported = read_imported(args.imported)
-    outputs.reads(*imported.files)
+    inputs.reads(*imported.files)
     known = {field.name for field in fields(Spoken)}
     told = {key: value for key, value in vars(args).items() if key in known}
     words = Spoken(**told, grade_unit=imported.grade_unit, x_bearing=imported.x_bearing,

@@ -39,7 +39,7 @@ def add_arguments(parser: argparse.ArgumentParser) -> None:
 def run(args: argparse.Namespace) -> int:
     from dataclasses import replace
 
-    from pit_tools import outputs
+    from pit_tools import inputs, outputs
     from pit_tools.instance import read_instance, write_instance
 
     mine = read_instance(args.base, precedence=args.prec)
@@ -55,7 +55,7 @@ def run(args: argparse.Namespace) -> int:
             fewer = replace(mine, precedence=immediate(mine.precedence))
             print(fewer.counts())
             write_instance(fewer, args.immediate)
-    for path in outputs.removed():
+    for path in inputs.removed():
         print(f"removed: {path}")
     return 0
 

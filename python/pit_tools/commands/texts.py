@@ -25,7 +25,7 @@ def run(args: argparse.Namespace) -> int:
     from contextlib import ExitStack
     from functools import partial
 
-    from pit_tools import outputs
+    from pit_tools import file_kinds, outputs
     from pit_tools.errors import UserError, quoted
     from pit_tools.instance import TEXTS
     from pit_tools.published_lines import LONGEST
@@ -42,7 +42,7 @@ def run(args: argparse.Namespace) -> int:
                                     "section of an instance, or stands twice")
                 found.append(_Section(name))
                 file = files.enter_context(outputs.opened(f"{args.base}.{name}",
-                                                          outputs.ENDINGS["." + name]))
+                                                          file_kinds.ENDINGS["." + name]))
             elif not found:
                 raise UserError("standard input does not begin with a section, as `== blocks`: did "
                                 "pitc refuse its input?")
