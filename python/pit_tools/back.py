@@ -7,6 +7,7 @@ share 1.
 """
 from __future__ import annotations
 
+import csv
 from dataclasses import dataclass
 from typing import IO, Optional
 
@@ -241,15 +242,15 @@ def _rows_written(again: Imported, behind: Behind, out: IO[str]) -> tuple[int, i
     rows = found = 0
     for number, source in enumerate(again.sources):
         separator = "," if source.separator in ("", " ") else source.separator
+        lines = csv.writer(out, delimiter=separator, lineterminator="\n")
         if not number:
-            pd.DataFrame([[*source.names, *behind.told.columns]]).to_csv(
-                out, sep=separator, header=False, index=False, lineterminator="\n")
+            lines.writerow([*source.names, *behind.told.columns])
         of_record, cut = behind.of_file(number)
         left = len(source.units)
         for table in source.chunks(range(len(source.names))):
             texts, ids = behind.rows(table.index, of_record, cut)
-            pd.concat([table, texts], axis=1).to_csv(out, sep=separator, header=False, index=False,
-                                                     lineterminator="\n")
+            lines.writerows(zip(*(part.iloc[:, at].tolist() for part in (table, texts)
+                                  for at in range(part.shape[1]))))
             rows += max(0, len(table) - left)
             left = max(0, left - len(table))
             found += int((ids >= 0).sum())

@@ -4,9 +4,8 @@ from __future__ import annotations
 
 import re
 from collections import Counter
-from typing import Callable, Iterator, Sequence
+from typing import Iterator, Sequence
 
-import numpy as np
 import pandas as pd
 
 from pit_tools.cells import MISSING
@@ -17,24 +16,18 @@ from pit_tools.import_report import figure
 from pit_tools.rock_doubts import RockModel
 
 
-def export_doubts(rows: pd.DataFrame, air: pd.DataFrame, model: RockModel, axes: Sequence[Axis],
-                  reading: Reading, with_cells: Callable[[int], str]) -> Iterator[str]:
-    """A line for each doubt; `rows` are those of `model`, and `air` those without tonnes."""
+def export_doubts(rows: pd.DataFrame, model: RockModel, axes: Sequence[Axis],
+                  reading: Reading) -> Iterator[str]:
+    """A line for each doubt; `rows` are those of `model`."""
     words = reading.words
     if all(axis.step == 1000 for axis in axes) and not words.is_indexed:
         yield ("all sizes are 1: are x, y and z indices of blocks? Give them as --i, --j and --k, "
                "with --first and --size")
-    yield from _other_weights(rows, model, reading, with_cells)
-    if not words.is_merged and len(air):
-        both = air.merge(rows[["ix", "iy", "iz"]], "inner", ["ix", "iy", "iz"])
-        if len(both):
-            yield (f"{len(both):,} rows without tonnes have the place of a row with tonnes, as "
-                   f"{with_cells(int(both['row'].iloc[0]))}: do exports overlap?")
+    yield from _other_weights(rows, model, reading)
     yield from _names(rows, model.names)
 
 
-def _other_weights(rows: pd.DataFrame, model: RockModel, reading: Reading,
-                   with_cells: Callable[[int], str]) -> Iterator[str]:
+def _other_weights(rows: pd.DataFrame, model: RockModel, reading: Reading) -> Iterator[str]:
     """Tonnes of blocks below others beside those by a density or a volume that the export has
     too."""
     if "other" not in rows:
@@ -45,18 +38,11 @@ def _other_weights(rows: pd.DataFrame, model: RockModel, reading: Reading,
     tonnes, other = model.tonnes[below], rows["other"].to_numpy()[below]
     unnamed = reading.unnamed
     by = unnamed.told([at for at in (unnamed.weight, unnamed.volume) if at is not None][:1])
-    ratio = other / tonnes
     whole = float(other.sum() / tonnes.sum())
-    off = np.abs(ratio - whole) > 0.1 * whole
     if abs(whole - 1) > 0.02:
         yield (f"blocks below others have {tonnes.sum():,.0f} t, and by {by} {other.sum():,.0f} t, "
                f"{figure(whole)} times that: are blocks of another size than the grid's, or units "
                "others?")
-    elif off.sum() > 0.005 * len(ratio):
-        at = int(rows["row"].to_numpy()[below][np.flatnonzero(off)[0]])
-        yield (f"{int(off.sum()):,} blocks below others weigh a tenth more or less than by {by}, "
-               f"one {figure(1 / ratio[off][0])} times that: {with_cells(at)}: are they of another "
-               "size?")
 
 
 def _names(rows: pd.DataFrame, zones: Sequence[str]) -> Iterator[str]:

@@ -28,7 +28,7 @@ from pit_tools.imported_blocks import Imported, cut_zones
 from pit_tools.plan_file import Grid
 from pit_tools.reconciling import Circumstances, Wanted, compared, statement_of
 from pit_tools.resource_report import Known
-from pit_tools.rock_doubts import RockModel, rock_doubts
+from pit_tools.rock_doubts import RockModel, column_of_places, ends_of, rock_doubts
 from pit_tools.source import Source
 from pit_tools.units import Measures, grade_unit_of
 from pit_tools.walls import MOST_BENCHES
@@ -97,10 +97,9 @@ class Placing:
         held = self.holdings(read, aside, grid)
         report.facts += ["", *held.table(self.measures())]
         self.tell_grid(rows, axes)
-        solid = rows[rows["tonnes"] > 0]
+        solid = _those(rows, rows["tonnes"] > 0)
         model = self.model(solid, axes, zones)
-        report.doubts += [*rock_doubts(model), *export_doubts(solid, air, model, axes, self.reading,
-                                                              self.with_cells)]
+        report.doubts += [*rock_doubts(model), *export_doubts(solid, model, axes, self.reading)]
         rows, files = cut_zones(rows[["ix", "iy", "iz", "tonnes", "grade", "zone"]], zones)
         if len(files) > len(zones):
             report.facts.append(f"a zone file has {MOST_ROWS:,} rows at most: "
@@ -668,7 +667,7 @@ class Placing:
     def holdings(self, rows: pd.DataFrame, air: pd.DataFrame, grid: Grid) -> Holdings:
         """What the zones of the export hold, before rows of a block are summed."""
         names = list(self.reading.zone_numbers)
-        known, aside = rows[rows["zone"] >= 0], air[air["zone"] >= 0]
+        known, aside = (_those(table, table["zone"] >= 0) for table in (rows, air))
         zone = known["zone"].to_numpy()
         is_counted = None
         if self.parts is not None and self.parts.is_cut:
@@ -702,8 +701,8 @@ class Placing:
 
     def without_air(self, rows: pd.DataFrame) -> tuple[pd.DataFrame, pd.DataFrame]:
         """The rows with tonnes, and the others. Rock without a grade is waste, and has grade 0."""
-        missing = (rows["tonnes"] < 0).to_numpy()
-        air, rows = rows[missing], rows[~missing].copy()
+        missing = rows["tonnes"] < 0
+        air, rows = rows[missing], _those(rows, ~missing).copy(deep=False)
         if rows.empty:
             raise UserError("no row has tonnes: " + self.no_tonnes_told())
         graded = int((air["grade"] > 0).sum())
@@ -723,7 +722,7 @@ class Placing:
 
     def tell_zeros(self, rows: pd.DataFrame, air: pd.DataFrame) -> None:
         """Tells of rows below rock that were left out since they have 0, which may be waste."""
-        if "zero" not in air:
+        if "zero" not in air or not air["zero"].any():
             return
         tops = rows.groupby(["ix", "iy"])["iz"].max()
         top = tops.reindex(pd.MultiIndex.from_frame(air[["ix", "iy"]])).to_numpy()
@@ -763,8 +762,8 @@ class Placing:
             self.judge_fractions(rows, key)
         else:
             Repeats(rows, key, spot, again, self.reading.fine["tonnes"], self.volume_of(axes),
-                    self.report, self.with_cells, self.line).judge(by_density, words.is_merged,
-                                                                   bool(words.block_size))
+                    self.with_cells, self.line).judge(by_density, words.is_merged,
+                                                      bool(words.block_size))
         if not words.is_merged:
             return rows
         merged = _merged(rows, key, self.reading.fine)
@@ -891,9 +890,10 @@ class Placing:
     @staticmethod
     def without_row(rows: pd.DataFrame) -> str:
         """How many places between and below the rows of a column have none."""
-        columns = rows.groupby(["ix", "iy"])["iz"].agg(["min", "max", "count"])
-        between = int((columns["max"] - columns["min"] + 1 - columns["count"]).sum())
-        below = int((columns["min"] - rows["iz"].min()).sum())
+        z = rows["iz"].to_numpy()
+        floors, tops = ends_of(column_of_places(rows["ix"].to_numpy(), rows["iy"].to_numpy()), z)
+        between = int((tops - floors + 1).sum()) - len(rows)
+        below = int((floors - z.min()).sum())
         told = [f"{many:,} {where}" for many, where in (
             (between, "between the rows of a column"), (below, "below the lowest")) if many]
         return f"; {' and '.join(told)} have none" if told else ""
@@ -905,6 +905,11 @@ def _by_zone(texts: Counter[tuple[int, str]], names: dict[int, str]) -> dict[str
     for (zone, _), many in texts.items():
         found[names.get(zone, "")] += many
     return dict(found)
+
+
+def _those(rows: pd.DataFrame, which: pd.Series) -> pd.DataFrame:
+    """The rows that are meant; millions of them are copied only where some go."""
+    return rows if which.all() else rows[which]
 
 
 def key_of(rows: pd.DataFrame) -> np.ndarray:

@@ -262,7 +262,9 @@ class Piece:
         kept = np.zeros(len(self.table), bool)
         for at in numeric:
             kept |= (self.table[at] != "").to_numpy()
-        if not kept.all():
+            if kept.all():
+                break
+        else:
             self.reading.counts["empty lines"] += int((~kept).sum())
             self.table = self.table[kept]
         key = _key_column(self.columns)

@@ -11,7 +11,7 @@ import numpy as np
 import pandas as pd
 
 from pit_tools.errors import UserError
-from pit_tools.import_report import Report, figure
+from pit_tools.import_report import figure
 
 # Tonnes a cubic metre that most rock does not reach, and that most rock has.
 HEAVY, LIGHT = 4.2, 1.2
@@ -70,9 +70,9 @@ class Repeats:
     `line` tell where a row stands."""
 
     def __init__(self, rows: pd.DataFrame, key: np.ndarray, spot: np.ndarray, again: np.ndarray,
-                 fine: int, volume: float, report: Report, with_cells: Callable[[int], str],
+                 fine: int, volume: float, with_cells: Callable[[int], str],
                  line: Callable[[int], str]) -> None:
-        self.rows, self.key, self.spot, self.again, self.report = rows, key, spot, again, report
+        self.rows, self.key, self.spot, self.again = rows, key, spot, again
         self.tonnes = rows["tonnes"].to_numpy() / 10.0 ** fine
         self.volume, self.with_cells, self.line = volume, with_cells, line
 
@@ -134,5 +134,3 @@ class Repeats:
                             f"{self.told(at)}, and the place would count twice: do exports "
                             "overlap? Leave one of the rows out; or give the --volume of parts "
                             "that have a density")
-        if verdict == "unclear":
-            self.report.doubts.append(f"--merge: {weights.told()}: are they parts of a block?")

@@ -51,22 +51,21 @@ class RockModel:
     @cached_property
     def column(self) -> np.ndarray:
         """The number of each block's column, from 0."""
-        x, y = self.index[0].astype(np.int64), self.index[1].astype(np.int64)
-        return np.unique(y * (int(x.max()) + 1) + x, return_inverse=True)[1]
+        return column_of_places(self.index[0], self.index[1])
 
     @cached_property
-    def tops(self) -> np.ndarray:
-        """The highest index of each column."""
-        found = np.full(int(self.column.max()) + 1, -1)
-        np.maximum.at(found, self.column, self.index[2])
-        return found
+    def _ends(self) -> tuple[np.ndarray, np.ndarray]:
+        return ends_of(self.column, self.index[2])
 
-    @cached_property
+    @property
     def floors(self) -> np.ndarray:
         """The lowest index of each column."""
-        found = np.full(len(self.tops), int(self.index[2].max()))
-        np.minimum.at(found, self.column, self.index[2])
-        return found
+        return self._ends[0]
+
+    @property
+    def tops(self) -> np.ndarray:
+        """The highest index of each column."""
+        return self._ends[1]
 
     @cached_property
     def is_below(self) -> np.ndarray:
@@ -85,6 +84,27 @@ class RockModel:
         return len(self.tonnes) == sides[0] * sides[1] * sides[2] > 8
 
 
+def column_of_places(x: np.ndarray, y: np.ndarray) -> np.ndarray:
+    """Of places, by their indices along x and y, the number of each one's column, from 0."""
+    code = y.astype(np.int64) * (int(x.max()) + 1) + x
+    most = int(code.max()) + 1
+    if most > 4 * len(code) + 1000:
+        return np.unique(code, return_inverse=True)[1]
+    is_taken = np.zeros(most, bool)
+    is_taken[code] = True
+    return (np.cumsum(is_taken) - 1)[code]
+
+
+def ends_of(column: np.ndarray, z: np.ndarray) -> tuple[np.ndarray, np.ndarray]:
+    """The least and the greatest of these indices in each column."""
+    order = np.argsort(z.astype(np.int16), kind="stable")
+    floors, tops = (np.empty(int(column.max()) + 1, z.dtype) for _ in range(2))
+    # Of several values for one place the last one stays.
+    tops[column[order]] = z[order]
+    floors[column[order[::-1]]] = z[order[::-1]]
+    return floors, tops
+
+
 def rock_doubts(model: RockModel) -> Iterator[str]:
     """The lines of a model."""
     wrong = list(_density(model))
@@ -101,10 +121,10 @@ def rock_doubts(model: RockModel) -> Iterator[str]:
 def _density(model: RockModel) -> Iterator[str]:
     """Tonnes a cubic metre beyond rock: those in the middle, and what they may be in another
     unit."""
-    heavy = np.sort(model.tonnes[model.tonnes > 0] / model.volume)
+    heavy = model.tonnes[model.tonnes > 0] / model.volume
     if len(heavy) == 0:
         return
-    middle, most = float(np.median(heavy)), float(heavy[-1])
+    middle, most = float(np.median(heavy)), float(heavy.max())
     if LIGHT <= middle <= HEAVY:
         if most > HEAVIEST:
             count = int((heavy > HEAVIEST).sum())
@@ -118,7 +138,7 @@ def _density(model: RockModel) -> Iterator[str]:
             ("are lengths in kilometres? Give the unit km", 1e-9),
             ("is the grid of half the size of blocks?", 1 / 8)]
     fits = [why for why, factor in whys if 1.5 <= middle * factor <= HEAVY]
-    yield (f"tonnes a cubic metre are {figure(heavy[0])} to {figure(most)}, {figure(middle)} in "
+    yield (f"tonnes a cubic metre are {figure(heavy.min())} to {figure(most)}, {figure(middle)} in "
            f"the middle, and rock has 1.5 to {HEAVY:g}: "
            f"{'; '.join(fits) or 'are they the tonnes of other blocks? Look at --size'}")
 

@@ -129,6 +129,20 @@ def mistaken_exports() -> list[Export]:
              {"a.csv": table("X,Y,Z,TF,AU,ZONE", lambda b: ",".join(
                  [*usual(b)[:3], "12.0", *usual(b)[4:]])).encode()},
              {**USUAL, "tonnes": "", "density": "TF ft3/st"}, "give --x 'X ft' and the like"),
+        case("blocks of 40 m with some of 20 m among them, by a density", {"a.csv": "\n".join(
+            ["X,Y,Z,SG,AU,ZONE", *(f"{b.x},{b.y},{b.z},2.7,1.2,rock" for b in MINE
+                                   if b.k < 6 and not (b.i % 2 or b.j % 2 or b.k % 2)),
+             *(f"{b.x},{b.y},{b.z},2.7,1.2,rock" for b in MINE if b.k == 6 and not b.i * b.j),
+             ""]).encode()}, {**USUAL, "tonnes": "", "density": "SG"},
+             "rows lie along x on a grid of 20, and most have their next 40 away"),
+        case("a column without a grade", {"a.csv": table(HEAD, lambda b: ",".join(
+            [*usual(b)[:4], "0", b.zone])).encode()}, USUAL, "LOOK AT\n- no block has a grade",
+             truth(grade=lambda b: 0)),
+        case("coordinates as indices", {"a.csv": table(HEAD, lambda b: ",".join(
+            [f"{b.x}.5", *usual(b)[1:]])).encode()},
+             {"i": "X", "j": "Y", "k": "Z", "first": "1000,2000,300", "size": "20,20,10",
+              "index_from": 0, "tonnes": "TONNES", "grade": "AU"},
+             "the index i is 1000.5, no whole number: a coordinate"),
         case("hidden rows", {"a.xlsx": book(hidden=(5, 6))}, USUAL,
              "LOOK AT\n.*sheet `Sheet` has 2 hidden rows, as row 5, and they are read too", truth()),
         case("merged cells", {"a.xlsx": book(merged="F4:F9")}, USUAL,
