@@ -2,7 +2,8 @@
 
 Each function of a page becomes one of Python, by its clauses in their order; a word that it brings in is that of the page that it is brought
 in from, a constant of the code is read there, and a word of the library is found in `library`, by hand. Lists are chains `(head, rest)`, `()`
-being the empty one; natural numbers and integers are numbers, `pos n` and `negsuc n` those of 0 and more and below 0.
+being the empty one; natural numbers and integers are numbers, `pos n` and `negsuc n` those of 0 and more and below 0. A statement is a test
+of its arguments: what it says of each or of some value of a type, or of one that a field of it names, is tried on the values of `trying`.
 """
 import functools
 import glob
@@ -15,11 +16,14 @@ import shared
 TOKEN = re.compile(r'"[^"]*"|[(){};,]|\.\w+(?<=[)\w])|[^\s(){};,"]+')
 # How closely signs bind, and those that bind to the right.
 BINDING = {"^": 80, "*": 70, "/": 70, "%": 70, "*ℤ": 70, "+": 65, "-": 65, "+ℤ": 65, "-ℤ": 65, "∷": 60, "++": 55, "==": 50, "&&": 35, "||": 30,
-           ">>=": 10}
-TO_THE_RIGHT = {"∷", "^"}
+           "≡": 20, "≢": 20, "<": 20, "≤": 20, "×": 15, "⊎": 12, ">>=": 10, "↔": 8, "→": 5}
+TO_THE_RIGHT = {"∷", "^", "×", "⊎", "→"}
 SIGNS = {"+": "({} + {})", "*": "({} * {})", "^": "({} ** {})", "-": "minus({}, {})", "/": "over({}, {})", "%": "rest({}, {})",
          "+ℤ": "({} + {})", "-ℤ": "({} - {})", "*ℤ": "({} * {})", "∷": "({}, {})", "++": "joined({}, {})", "==": "({} == {})",
-         "&&": "({} and {})", "||": "({} or {})"}
+         "&&": "({} and {})", "||": "({} or {})", "≡": "same({}, {})", "≢": "(not same({}, {}))", "<": "({} < {})", "≤": "({} <= {})",
+         "×": "({} and {})", "⊎": "({} or {})", "↔": "({} == {})", "→": "(not {} or {})"}
+# The types of fields that name a value of which a statement speaks; its other fields are statements.
+DATA = {"ℕ", "List", "Option", "Bool"}
 # The constructors of numbers and truth values: as a value, as a test, and what it holds.
 NUMBERS = {"zero": ("0", "{} == 0", ""), "suc": ("({} + 1)", "{} > 0", "{} - 1"), "pos": ("{}", "{} >= 0", "{}"),
            "negsuc": ("(-{} - 1)", "{} < 0", "-{} - 1"), "true": ("True", "{} is True", ""), "false": ("False", "{} is False", "")}
@@ -119,6 +123,11 @@ class Reader:
         head = self.peek()
         if head == "λ":
             return self.function()
+        if head == "¬":
+            self.take()
+            return "not", self.operand()
+        if self.is_bound():
+            return self.quantified()
         if head == "let":
             self.take()
             name = self.take()
@@ -146,6 +155,25 @@ class Reader:
             else:
                 arguments.append(self.atom())
         return ("call", found, arguments) if arguments else found
+
+    def is_bound(self) -> bool:
+        """Whether names stand here in parentheses, with their type."""
+        words = [token.text for token in self.tokens[self.at : self.at + 9]]
+        return words[:1] == ["("] and ":" in words and all(re.fullmatch(r"\w+", word) for word in words[1 : words.index(":")])
+
+    def quantified(self):
+        """What is said of each, or of some, value of these types."""
+        found = []
+        while self.is_bound():
+            self.take("(")
+            names = []
+            while self.peek() != ":":
+                names.append(self.take())
+            self.take(":")
+            kind = told_type(self.term())
+            found += [(name, kind) for name in names]
+            self.take(")")
+        return ("each" if self.take() == "→" else "some"), found, self.term()
 
     def function(self):
         self.take("λ")
@@ -215,6 +243,13 @@ class Reader:
         return found
 
 
+def told_type(term) -> str:
+    """A type as it is written."""
+    if term[0] == "call":
+        return " ".join([told_type(term[1]), *(f"({part})" if " " in part else part for part in map(told_type, term[2]))])
+    return f"{told_type(term[2])} {term[1]} {told_type(term[3])}" if term[0] == "sign" else str(term[1])
+
+
 # Pages
 
 
@@ -224,6 +259,7 @@ class Page:
     def __init__(self, path: str):
         self.name = ".".join(["Rattle", path.split("/")[1], "specs", *path[: -len(".antt")].split("/")[3:]])
         self.clauses: Dict[str, List[List[str]]] = {}
+        self.statements: Dict[str, Tuple[List[str], List[List[str]]]] = {}
         self.variants: set = set()
         self.brought: Dict[str, Tuple[str, str]] = {}
         self.others: Dict[str, str] = {}
@@ -249,6 +285,10 @@ class Page:
                 self.brought[own or word] = source, word
         elif re.match(r"(?:pub )?data ", head):
             self.variants |= {name for line in chunk[1:] for name in re.findall(r"^ +(?:pub )?(\w+) :", line)}
+        elif stated := re.match(r"pub record (\w+)((?:.|\n)*?) : Type 0 where\n((?:.|\n)*)", "\n".join(chunk)):
+            name, parameters, fields = stated.groups()
+            parts = [part.splitlines() for part in re.split(r"(?m)^  pub ", fields)[1:]]
+            self.statements[name] = [name for names in re.findall(r"\(([\w ]+) : ", parameters) for name in names.split()], parts
         elif not re.match(r"(?:(?:abbrev|unfoldable|pub) )*(?:use|mod|record|module|infix\w*|\S+ :)(?: |$)", head):
             self.clauses.setdefault(self.defined_by(head), []).append(chunk)
 
@@ -265,9 +305,19 @@ class Pages:
     def __init__(self, library: Dict[str, Any]):
         found = [Page(path) for path in sorted(glob.glob("crates/*/specs/**/*.antt", recursive=True))]
         self.pages = {page.name: page for page in found}
-        self.library, self.ready = library, {}
+        self.library, self.ready, self.trying = library, {}, {}
         self.scope: Dict[str, Any] = {"Made": Made, "Function": Function, "applied": applied, "joined": joined, "minus": minus, "over": over,
-                                      "rest": rest, "with_fields": with_fields, "field": field, "chain": chain}
+                                      "rest": rest, "with_fields": with_fields, "field": field, "chain": chain, "same": self.same, "values_of": self.values_of}
+
+    def values_of(self, kind: str):
+        """The values of a type on which statements are tried."""
+        return self.trying[kind]
+
+    def same(self, one: Any, other: Any) -> bool:
+        """Whether two values are one; functions are of a text's name."""
+        if not isinstance(one, Function) or one is other:
+            return one == other
+        return all(applied(one, name) == applied(other, name) for name in self.values_of("TextName"))
 
     def word(self, page: str, name: str) -> Any:
         """What a word of a page is."""
@@ -281,12 +331,23 @@ class Pages:
         found = self.word(f"Rattle.{crate}.specs.{rest_of_it}", name)
         return applied(found, *arguments) if arguments else found
 
+    def below(self, name: str) -> List[Page]:
+        """A page and all that it stands on."""
+        found: Dict[str, Page] = {}
+        more = [name]
+        while more:
+            name = more.pop()
+            if name in self.pages and name not in found:
+                found[name] = self.pages[name]
+                more += [*(source for source, _ in found[name].brought.values()), *found[name].others.values()]
+        return list(found.values())
+
     def source(self, page: str, name: str) -> Optional[Tuple[str, str]]:
         """The page that has a word which this page uses, and its name there; None of what it does not bring in."""
         if page not in self.pages:
             return page, name
         for word in (name, name.strip("◌")):
-            if word in self.pages[page].clauses or word in self.pages[page].variants:
+            if any(word in words for words in (self.pages[page].clauses, self.pages[page].variants, self.pages[page].statements)):
                 return page, word
         brought = self.pages[page].brought.get(name)
         return self.source(*brought) if brought else None
@@ -312,7 +373,10 @@ class Pages:
             if name not in self.library:
                 raise NameError(f"{name} of {page} is no word of the library that stands here")
             return self.library[name]
-        clauses = [Clause(self, page, chunk) for chunk in self.pages[page].clauses[name]]
+        if name in self.pages[page].statements:
+            clauses = [Statement(self, page, *self.pages[page].statements[name])]
+        else:
+            clauses = [Clause(self, page, chunk) for chunk in self.pages[page].clauses[name]]
         count = len(clauses[0].patterns)
         lines = [f"def it({', '.join(f'a{n}' for n in range(count))}):"]
         for clause in clauses:
@@ -409,14 +473,32 @@ class Clause:
             inner[name] = f"l{len(inner)}_{len(names)}"
         return f"Function({len(bound)}, lambda {', '.join(inner[name] for name in bound)}: {self.python(body, inner)})"
 
+    def as_not(self, names, said):
+        return f"(not {self.python(said, names)})"
+
+    def as_each(self, names, bound, said):
+        return self.tried("all", names, bound, said)
+
+    def as_some(self, names, bound, said):
+        return self.tried("any", names, bound, said)
+
+    def tried(self, how, names, bound, said):
+        """What is said of values of these types, of all or of any."""
+        inner = dict(names)
+        loops = []
+        for name, kind in bound:
+            inner[name] = f"l{len(inner)}_{len(names)}"
+            loops.append(f"for {inner[name]} in values_of({kind!r})")
+        return f"{how}({self.python(said, inner)} {' '.join(loops)})"
+
     def as_sign(self, names, sign, left, right):
         told = self.python(left, names), self.python(right, names)
         return SIGNS[sign].format(*told) if sign in SIGNS else f"applied({self.global_word(f'◌{sign}◌')}, {told[0]}, {told[1]})"
 
     def as_name(self, names, name):
         first, *fields = name.split(".")
-        if name == "[]":
-            return "()"
+        if name in ("[]", "⊥", "Unit"):
+            return {"[]": "()", "⊥": "False", "Unit": "True"}[name]
         if first in names:
             return functools.reduce(lambda value, part: f"field({value}, {part!r})", fields, names[first])
         if name in NUMBERS:
@@ -450,6 +532,21 @@ class Clause:
             self.pages.scope["places"][owner, word] = known = key
             self.pages.scope[key] = lambda: self.pages.word(owner, word)
         return f"{known}()"
+
+
+class Statement(Clause):
+    """A statement by its fields, of which some name a value that the others speak of."""
+
+    def __init__(self, pages: Pages, page: str, parameters: List[str], fields: List[List[str]]):
+        self.pages, self.page, self.steps = pages, page, []
+        self.patterns, self.body = [("name", name) for name in parameters], ("name", "Unit")
+        for field in reversed(fields):
+            name, _, rest_of_it = field[0].partition(" : ")
+            said = Reader([token._replace(begins=False) for token in tokens_of([rest_of_it, *field[1:]])]).term()
+            if told_type(said).split()[0] in DATA:
+                self.body = "some", [(name, told_type(said))], self.body
+            else:
+                self.body = "sign", "×", said, self.body
 
 
 def joined(left: Tuple, right: Tuple) -> Tuple:

@@ -19,6 +19,9 @@ periods,1
 rate,0.1
 """
 
+# So many blocks take no time.
+FEW = 80
+
 # The tonnes and the grade of each block; and such of which some have no tonnage, or are worth
 # nothing, more or less.
 ALIKE = ["1,0"]
@@ -127,9 +130,11 @@ def written(text, lists):
     return {"out": b"rows %d arcs %d of %d\n" % counts, "left": {"thin": text}}
 
 
-def thinned(name, *given, **how):
-    """A row that is made so, which takes a second where many blocks have wide cones."""
-    return Later(name, lambda name: made(name, *given, **how))
+def thinned(name, cells, zones, *given, **how):
+    """A row that is made so, which takes long where there are many blocks."""
+    if sum(map(len, zones)) <= FEW:
+        return made(name, cells, zones, *given, **how)
+    return Later(name, lambda name: made(name, cells, zones, *given, **how))
 
 
 def made(name, cells, zones, sizes=(10, 10, 10), words=(), origin=(0, 0, 0), masses=ALIKE):

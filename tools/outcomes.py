@@ -1,0 +1,165 @@
+"""Outcomes of runs, as tools/run-pages tries the statement `Runs` of pit_compile on them: right ones, and such that are altered."""
+import itertools
+import re
+from typing import Any, Dict, Iterator, List, NamedTuple, Optional, Tuple
+
+from pages import Function, Made, Pages, chain, each
+from rows.trial import Trial
+from shared import ENDINGS
+
+NAMES = [Made(ending.title()) for ending in ENDINGS]
+VALUERS, CAPACITY, STARTS = 4, 64, 128
+
+
+class Outcome(NamedTuple):
+    """What a run answered, and of each sink whether it was begun, its bytes and how many calls it refused; how many valuers there were;
+    what a sink that was cut off lacks of its text; and the file whose feed failed, or -1."""
+
+    answer: Made
+    sinks: Tuple[Tuple[bool, bytes, int], ...]
+    valuers: int = VALUERS
+    lacking: bytes = b""
+    failed: int = -1
+
+
+UNTOUCHED = ((False, b"", 0),) * len(NAMES)
+
+
+def sinks_of(told: Tuple[Tuple[bool, bytes, int], ...]) -> Function:
+    """What the sinks tell, by the name of their text."""
+    states = [{"begun": begun, "before": (), "taken": Made("Some", (chain(taken),)), "failures": failures} for begun, taken, failures in told]
+    return Function(1, lambda name: states[NAMES.index(name)])
+
+
+def texts_wanted(trial: Trial) -> Optional[List[bytes]]:
+    """The whole texts that a row wants, by the pipe form or by `compile`."""
+    if isinstance(trial.out, bytes) and trial.out.startswith(b"== blocks\n"):
+        return re.split(rb"(?m)^== \w+\n", trial.out)[1:]
+    texts = [text for ending in ENDINGS for name, text in trial.left.items() if name.endswith("." + ending)]
+    return texts if len(texts) == len(ENDINGS) and all(isinstance(text, bytes) for text in texts) else None
+
+
+def refusal_wanted(trial: Trial) -> Optional[Made]:
+    """The refusal of a run that a row wants."""
+    line = trial.errors.decode() if isinstance(trial.errors, bytes) else ""
+    if line == "pitc: settings: Files\n":
+        return Made("Settings", (Made("Files"),))
+    if row := re.fullmatch(r"pitc: file (\d+) row (\d+) column (\w+): (\w+)\n", line):
+        return Made("Row", (int(row[1]), {"row": int(row[2]), "column": Made(row[3].title()), "kind": Made(row[4])}))
+    if rows := re.fullmatch(r"pitc: file (\d+) row (\d+) repeats file (\d+) row (\d+)\n", line):
+        again, first = ({"file": int(rows[at]), "row": int(rows[at + 1])} for at in (1, 3))
+        return Made("Same", (first, again))
+    return None
+
+
+def gathered(sent: List[List[Made]], valuers: int = VALUERS) -> Dict[str, Any]:
+    """What went through the lane: each message taken in turn, and then one Stop by each valuer."""
+    messages = [message for file in sent for message in file]
+    took = [[*messages[taker::valuers], Made("Stop")] for taker in range(valuers)]
+    return {"capacity": CAPACITY, "sent": chain(map(chain, sent)), "took": chain(map(chain, took))}
+
+
+def right(trial: Trial, sent: List[List[Made]]) -> Optional[Outcome]:
+    """The outcome that a row wants, where it wants the whole texts or a refusal of the run."""
+    texts = texts_wanted(trial)
+    if texts:
+        return Outcome(Made("Ok", (gathered(sent),)), tuple((True, text, 0) for text in texts))
+    refusal = refusal_wanted(trial)
+    return Outcome(Made("Err", (refusal,)), UNTOUCHED) if refusal else None
+
+
+def cut_off(outcome: Outcome, place: int, failures: int, refusal: Made) -> Outcome:
+    """The same, cut off in the middle of a text."""
+    _, text, _ = outcome.sinks[place]
+    half = len(text) // 2
+    return Outcome(Made("Err", (refusal,)), (*outcome.sinks[:place], (True, text[:half], failures), *UNTOUCHED[place + 1 :]), lacking=text[half:])
+
+
+def also_right(outcome: Outcome) -> Iterator[Tuple[str, Outcome]]:
+    """What may come of the same run where a sink, a feed or memory is refused."""
+    yield "a feed fails", Outcome(Made("Err", (Made("FeedFailed", (0,)),)), UNTOUCHED, failed=0)
+    yield "no thread", Outcome(Made("Err", (Made("NoThread"),)), UNTOUCHED)
+    yield "no memory", Outcome(Made("Err", (Made("OutOfMemory"),)), UNTOUCHED)
+    for place, name in enumerate(NAMES) if outcome.answer.tag == "Ok" else ():
+        yield f"cut off at {ENDINGS[place]}", cut_off(outcome, place, 1, Made("SinkFailed", (name,)))
+        yield f"no memory at {ENDINGS[place]}", cut_off(outcome, place, 0, Made("OutOfMemory"))
+
+
+def with_took(outcome: Outcome, change) -> Outcome:
+    """The same, where what the valuers took is changed."""
+    view = outcome.answer.held[0]
+    took = [list(each(taken)) for taken in each(view["took"])]
+    change(took)
+    return outcome._replace(answer=Made("Ok", ({**view, "took": chain(map(chain, took))},)))
+
+
+def altered(outcome: Outcome) -> Iterator[Tuple[str, Outcome]]:
+    """Outcomes that differ from a right one in one thing, each with what it is."""
+    settings = [Made("Settings", (Made(kind),)) for kind in ("Files", "Valuers", "Capacity", "Destinations")]
+    same = Made("Same", tuple({"file": 0, "row": row} for row in (2, 3)))
+    for other in [*settings, same]:
+        if outcome.answer != Made("Err", (other,)):
+            yield f"refused by {other.held[0]}", outcome._replace(answer=Made("Err", (other,)), sinks=UNTOUCHED)
+    yield "a feed that did not fail", Outcome(Made("Err", (Made("FeedFailed", (0,)),)), UNTOUCHED)
+    if outcome.answer.tag == "Err":
+        refusal = outcome.answer.held[0]
+        yield "taken", Outcome(Made("Ok", (gathered([]),)), tuple((True, b"", 0) for _ in NAMES))
+        yield "a sink is begun", outcome._replace(sinks=((True, b"", 0), *UNTOUCHED[1:]))
+        if refusal.tag == "Row":
+            file, fault = refusal.held
+            for name, other in [("file", (file + 1, fault)), ("row", (file, {**fault, "row": fault["row"] + 1})), ("kind", (file, {**fault, "kind": Made("Order")}))]:
+                yield f"another {name}", outcome._replace(answer=Made("Err", (Made("Row", other),)))
+        if refusal.tag == "Same":
+            first, again = refusal.held
+            for name, pair in [("turned", (again, first)), ("the row before", (first, {**again, "row": again["row"] - 1})), ("the row behind", (first, {**again, "row": again["row"] + 1}))]:
+                yield f"{name} repeats", outcome._replace(answer=Made("Err", (Made("Same", pair),)))
+        return
+    for place, which in enumerate(NAMES):
+        stopped, begun = cut_off(outcome, place, 1, Made("SinkFailed", (which,))), (True, b"", 0)
+        yield f"cut off at {ENDINGS[place]}, which refused nothing", cut_off(outcome, place, 0, Made("SinkFailed", (which,)))
+        yield f"cut off at {ENDINGS[place]}, another is told", stopped._replace(answer=Made("Err", (Made("SinkFailed", (NAMES[place - 1],)),)))
+        if place + 1 < len(NAMES):
+            yield f"cut off at {ENDINGS[place]}, one behind is begun", stopped._replace(sinks=(*stopped.sinks[:-1], begun))
+        begun, text, _ = outcome.sinks[place]
+        others = [("another text", (begun, text + b"\n", 0)), ("a call refused", (begun, text, 1)), ("not begun", (False, text, 0))]
+        for name, other in others:
+            yield f"{ENDINGS[place]}: {name}", outcome._replace(sinks=(*outcome.sinks[:place], other, *outcome.sinks[place + 1 :]))
+    for name, change in [
+        ("a message is not taken", lambda took: took[0].pop(0)), ("a message is taken twice", lambda took: took[1].insert(0, took[0][0])),
+        ("a Stop lacks", lambda took: took[-1].pop()), ("a Stop too many", lambda took: took[0].append(Made("Stop"))),
+        ("a Quit is taken", lambda took: took[0].insert(0, Made("Quit"))), ("a valuer less", lambda took: took.pop()),
+        ("another message", lambda took: took[0].insert(0, Made("End", (9, 0)))),
+    ]:
+        yield name, with_took(outcome, change)
+    sent = [list(each(file)) for file in each(outcome.answer.held[0]["sent"])]
+    if len(sent[0]) > VALUERS:
+        yield "rows of a file are taken from the last", with_took(outcome, lambda took: took[0].insert(0, took[0].pop(-2)))
+    yield "a row less was sent", outcome._replace(answer=Made("Ok", (gathered([sent[0][1:], *sent[1:]]),)))
+    yield "more valuers than were asked for", outcome._replace(valuers=VALUERS + 1)
+
+
+class Judge:
+    """Says of outcomes whether they are such as `Runs` states."""
+
+    def __init__(self, pages: Pages):
+        self.pages = pages
+
+    def sent(self, plan, texts) -> List[List[Made]]:
+        return [list(each(file)) for file in each(self.pages.call("pit_compile.Rows", "model_sends", plan, texts))]
+
+    def holds(self, plan, texts, outcome: Outcome) -> bool:
+        """Whether a run of this plan and these texts may come to this."""
+        word, blocks = self.pages.call, list(each(self.pages.call("pit_compile.Rows", "model_blocks", plan, texts)))
+        view = outcome.answer.held[0] if outcome.answer.tag == "Ok" else {"sent": (), "took": ()}
+        lists = list(each(view["sent"]))
+        most = max([len(blocks), *(len(list(each(file))) for file in [*lists, *each(view["took"])]), len(lists)]) + 2
+        names = [chain(NAMES[a:b]) for a, b in itertools.combinations_with_replacement(range(len(NAMES) + 1), 2)]
+        self.pages.trying = {
+            "ℕ": range(most), "Block": blocks[:1], "List Taken": lists, "TextName": NAMES, "List TextName": names, "List (List ℕ)": [texts],
+            "List ℕ": [chain(outcome.lacking)], "SettingsFault": [Made(kind) for kind in ("Files", "Valuers", "Capacity", "Destinations")],
+        }
+        settings = {"valuers": outcome.valuers, "capacity": CAPACITY}
+        lefts = chain(Made("Some", (text,)) for text in each(texts))
+        fails = Function(1, lambda file: file == outcome.failed)
+        return bool(word("pit_compile.Run", "Runs", plan, word("plan_parts.PlanFormulas", "formulas_of_plan", plan), settings, lefts, fails, STARTS,
+                         sinks_of(UNTOUCHED), sinks_of(outcome.sinks), outcome.answer))
