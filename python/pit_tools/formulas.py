@@ -45,8 +45,9 @@ class Lacking(UserError):
         self.hits, self.hint = 0, ""
 
     def __str__(self) -> str:
-        near = difflib.get_close_matches(self.name[:LIKE], [one for one in self.names
-                                                            if 0 < len(one) <= LIKE], 1, 0.6)
+        short = [one for one in self.names if 0 < len(one) <= LIKE]
+        near = (difflib.get_close_matches(self.name[:LIKE], short, 1, 0.6)
+                or [one for one in short if plain_name(one).startswith(plain_name(self.name))])
         like = f"; is it `{near[0]}`?" if near else ""
         return f"no column `{self.name[:MOST_SHOWN]}`{like}{self.hint}"
 

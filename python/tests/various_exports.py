@@ -87,6 +87,9 @@ def no_exports() -> Iterable[Export]:
     yield none("an empty file", b"", "there is no text")
     yield none("a header alone", (HEAD + "\n").encode(), "there is no row|no row below the header")
     yield none("a column that is not there", PLAIN.encode(), "no column `CU`", grade="CU")
+    yield Export("a column by the beginning of its name", {"a.csv": PLAIN.replace("AU", "AU_PPM", 1).encode()},
+                 {**USUAL, "grade": "AU_PPM"}, truth(), refused="no column `AU`; is it `AU_PPM`",
+                 first={"grade": "AU"})
     yield none("two columns of one name", table(HEAD.replace("AU", "AU,AU"), lambda b: ",".join(
         [*usual(b)[:5], *usual(b)[4:]])).encode(), "(?i)2 columns|twice|several columns|two columns")
     yield none("a file cut in the middle of a row", PLAIN[:30_000].rpartition(",")[0].encode(),
