@@ -95,19 +95,22 @@ class Placing:
         self.judge_ranges(rows)
         grid = self.grid(axes)
         held = self.holdings(read, aside, grid)
+        # Of millions of rows each table is let go before the next one.
+        del read, aside
         report.facts += ["", *held.table(self.measures())]
         self.tell_grid(rows, axes)
         solid = _those(rows, rows["tonnes"] > 0)
         model = self.model(solid, axes, zones)
         report.doubts += [*rock_doubts(model), *export_doubts(solid, model, axes, self.reading)]
+        del solid, model
         rows, files = cut_zones(rows[["ix", "iy", "iz", "tonnes", "grade", "zone"]], zones)
         if len(files) > len(zones):
             report.facts.append(f"a zone file has {MOST_ROWS:,} rows at most: "
                                 + ", ".join(f"{name} becomes {files.count(name)} files"
                                             for name in zones if files.count(name) > 1)
                                 + ", each a zone of the plan with the same record")
-        found = Imported(self.words, self.sources, grid, axes, self.frame, files,
-                         rows.reset_index(drop=True), records, report, benches, self.part_of)
+        found = Imported(self.words, self.sources, grid, axes, self.frame, files, rows, records,
+                         report, benches, self.part_of)
         self.reconcile(found, held)
         return found
 

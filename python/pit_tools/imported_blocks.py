@@ -26,10 +26,15 @@ from pit_tools.zone_files import write_zone_file
 
 def cut_zones(rows: pd.DataFrame, zones: Sequence[str],
               most: int = MOST_ROWS) -> tuple[pd.DataFrame, list[str]]:
-    """Rows with zones of at most so many of them, and the names of these: a greater zone becomes
-    several of one name, one behind the other. It raises UserError for more than a plan has."""
+    """Rows, numbered from 0, with zones of at most so many of them, and the names of these: a
+    greater zone becomes several of one name, one behind the other. It raises UserError for more
+    than a plan has."""
+    rows = rows.copy(deep=False)
+    rows.index = pd.RangeIndex(len(rows))
     counts = np.bincount(rows["zone"], minlength=len(zones))
     parts = np.maximum(1, -(-counts // most))
+    if parts.max(initial=1) == 1 and len(zones) <= MOST_ZONE + 1:
+        return rows, list(zones)
     if parts.sum() > MOST_ZONE + 1:
         raise UserError(f"{len(rows):,} rows in {len(zones):,} zones would be {parts.sum():,} "
                         f"files of at most {most:,} rows, and a plan has {MOST_ZONE + 1} zones: "
