@@ -2,6 +2,7 @@
 //! once, the messages of a file in order, and what is gathered at the end is whole.
 #![tactic(auto)]
 
+mod bells;
 mod closer;
 mod gathered;
 mod lane_ended;

@@ -9,6 +9,7 @@ ghost use Rattle.lane.specs.inner.Kept.{IsChannelOf, takes_left};
 ghost use Rattle.lane.specs.Rule.{all_parts};
 ghost use Rattle.plan_parts.specs.declared.ranges.TheConstants.{MAX_CAPACITY, MAX_VALUERS, MAX_ZONES};
 
+use crate::bells::Bells;
 use crate::closer::Closer;
 use crate::message::Taken;
 use crate::part::Part;
@@ -33,7 +34,7 @@ pub fn open(
     ensures opened { IfOk result (λ ends. IsOpened files valuers capacity ends.0 ends.1 ends.2) }
 {
     let (sender, receiver, pass) = bounded_with::<Taken, Parts, Rule, Global>(alloc, capacity)?;
-    let mut seat = SeatedSender::new(sender, pass);
+    let mut seat = SeatedSender::new(sender, pass, Bells::shared(alloc)?);
     count_files(&mut seat, files);
     count_takers(&mut seat, files, valuers);
     count_places(&mut seat, files, valuers, capacity);

@@ -1,8 +1,8 @@
 //! An end of the lane's channel with the pass that it shows, and what the two do together: one send, one receive, and the steps
 //! in which parts are made, handed on and joined. A send or receive is tried a few times before its thread sleeps, and tried
-//! again where the channel hands it back.
+//! again once it is woken.
 
-ghost use Rattle.std.specs.Prelude.{ℕ, ◌≡◌, ◌++◌, true, false, None, IfOk, OnOk, IfSome, OnSome};
+ghost use Rattle.std.specs.Prelude.{ℕ, ◌≡◌, ◌<◌, ◌++◌, true, false, None, IfOk, OnOk, IfSome, OnSome};
 ghost use Rattle.crossbeam_channel.specs.Claims.{view as known_by, IsSeatAt};
 ghost use Rattle.crossbeam_channel.specs.Ends.{sends_on, receives_on};
 ghost use Rattle.crossbeam_channel.specs.Fifo.{Forks};
@@ -13,23 +13,25 @@ ghost use Rattle.lane.specs.EndFields.{gathering_in, took_in, seated, room_of, S
 ghost use Rattle.lane.specs.inner.Views.{IsOrdered, without_second, second_alone};
 ghost use Rattle.lane.specs.inner.Kept.{IsChannelOf, MayGive, IsClosers, IsAllIn};
 
+use crate::bells::Bells;
 use crate::message::Taken;
 use crate::rule::{Gives, Joins, Looks, Parts, Receiver, Receives, Seat, Sender, Sends};
 use crossbeam_channel::protocol::Split;
-use std::alloc::AllocError;
+use std::alloc::{AllocError, Global};
+use std::hint;
 use std::marker::Model;
-use std::sync::Wait;
-use std::thread;
+use std::sync::{Arc, Wait};
 
-// How often a call is tried before its thread may sleep. A thread that sleeps has to be woken, which costs more than to give the
-// processor away a few times.
-const TRIES: u32 = 16;
+// How often a call is tried before its thread may sleep. To sleep and to be woken costs about as much as the pauses between these
+// tries, each twice as long as the one before.
+const TRIES: u32 = 8;
 
 /// A sender and its pass. Contracts see its lane and what it knows.
 #[derive(Drop)]
 pub struct SeatedSender {
     sender: Sender,
     pass: Seat,
+    bells: Arc<Bells, Global>,
 }
 
 impl Model for SeatedSender {
@@ -41,12 +43,16 @@ impl Model for SeatedSender {
 }
 
 impl SeatedSender {
-    /// A sender with the pass of its seat.
-    pub(crate) fn new(sender: Sender, pass: Seat) -> SeatedSender
+    /// A sender with the pass of its seat, and the bells of the lane.
+    pub(crate) fn new(sender: Sender, pass: Seat, bells: Arc<Bells, Global>) -> SeatedSender
         requires seat { IsSeatAt (sends_on sender) pass }
         ensures value { result ≡ seated (sends_on sender) pass }
     {
-        SeatedSender { sender, pass }
+        SeatedSender {
+            sender,
+            pass,
+            bells,
+        }
     }
 
     /// The sender and its pass, which has a seat of the sender's channel.
@@ -82,8 +88,13 @@ impl SeatedSender {
             ≡ record self.old { known = second_alone self.old.known }) }
     {
         let sender = self.sender.try_clone()?;
+        let bells = Arc::try_clone(&self.bells)?;
         let pass = self.sender.another::<Gives>(&mut self.pass);
-        Ok(SeatedSender { sender, pass })
+        Ok(SeatedSender {
+            sender,
+            pass,
+            bells,
+        })
     }
 
     /// The part behind the closer's, with a receiver of its own.
@@ -99,8 +110,13 @@ impl SeatedSender {
             ≡ record self.old { known = second_alone self.old.known }) }
     {
         let receiver = receiver.try_clone()?;
+        let bells = Arc::try_clone(&self.bells)?;
         let pass = self.sender.another::<Gives>(&mut self.pass);
-        Ok(SeatedReceiver { receiver, pass })
+        Ok(SeatedReceiver {
+            receiver,
+            pass,
+            bells,
+        })
     }
 
     /// Takes over the parts of another sender of the lane.
@@ -130,12 +146,8 @@ impl SeatedSender {
         requires may { MaySend (room_of self.old) self.old.known message }
         ensures sent { self.new ≡ record self.old { known = with_message self.old.known message } }
     {
-        if self.put_soon(rt, message) {
-            return;
-        }
-        let SeatedSender { sender, pass } = self;
         for _ in rt.forever() {
-            if sender.send_as::<Sends, R>(rt, pass, message).is_ok() {
+            if self.put_soon(rt, message) || self.put_or_sleep(rt, message) {
                 break;
             }
         }
@@ -148,12 +160,45 @@ impl SeatedSender {
             ≡ record self.old { known = with_message self.old.known message } }
         ensures kept { result ≡ false → self.new ≡ self.old }
     {
-        let SeatedSender { sender, pass } = self;
-        for _ in 0..TRIES {
-            if sender.try_send_as::<Sends, R>(rt, pass, message).is_ok() {
+        for turn in 0..TRIES {
+            if self.try_put(rt, message) {
                 return true;
             }
-            thread::yield_now();
+            pause(turn);
+        }
+        false
+    }
+
+    // Tries once more to send the message, sleeps until room was made if it could not, and answers whether the message is sent.
+    fn put_or_sleep<R: Wait>(&mut self, rt: &R, message: Taken) -> bool
+        requires may { MaySend (room_of self.old) self.old.known message }
+        ensures sent { result ≡ true → self.new
+            ≡ record self.old { known = with_message self.old.known message } }
+        ensures kept { result ≡ false → self.new ≡ self.old }
+    {
+        let heard = self.bells.takes.listen();
+        let is_sent = self.try_put(rt, message);
+        if !is_sent {
+            self.bells.takes.sleep(rt, heard);
+        }
+        self.bells.takes.leave();
+        is_sent
+    }
+
+    // Tries once to send the message, and answers whether it is sent.
+    fn try_put<R: Wait>(&mut self, rt: &R, message: Taken) -> bool
+        requires may { MaySend (room_of self.old) self.old.known message }
+        ensures sent { result ≡ true → self.new
+            ≡ record self.old { known = with_message self.old.known message } }
+        ensures kept { result ≡ false → self.new ≡ self.old }
+    {
+        if self
+            .sender
+            .try_send_as::<Sends, R>(rt, &mut self.pass, message)
+            .is_ok()
+        {
+            self.bells.puts.ring();
+            return true;
         }
         false
     }
@@ -176,6 +221,7 @@ impl SeatedSender {
 pub struct SeatedReceiver {
     receiver: Receiver,
     pass: Seat,
+    bells: Arc<Bells, Global>,
 }
 
 impl Model for SeatedReceiver {
@@ -201,12 +247,11 @@ impl SeatedReceiver {
         ensures took { self.new ≡ record self.old { known = with_message self.old.known result } }
         ensures ordered { IsOrdered (took_in self.new.known) }
     {
-        if let Some(message) = self.take_soon(rt) {
-            return message;
-        }
-        let SeatedReceiver { receiver, pass } = self;
         for _ in rt.forever() {
-            if let Ok(message) = receiver.recv_as::<Receives, R>(rt, pass) {
+            if let Some(message) = self.take_soon(rt) {
+                return message;
+            }
+            if let Some(message) = self.take_or_sleep(rt) {
                 return message;
             }
         }
@@ -221,13 +266,53 @@ impl SeatedReceiver {
         ensures ordered { OnSome result (IsOrdered (took_in self.new.known)) }
         ensures kept { result ≡ None → self.new ≡ self.old }
     {
-        let SeatedReceiver { receiver, pass } = self;
-        for _ in 0..TRIES {
-            if let Ok(message) = receiver.try_recv_as::<Receives, R>(rt, pass) {
+        for turn in 0..TRIES {
+            if let Some(message) = self.try_take(rt) {
                 return Some(message);
             }
-            thread::yield_now();
+            pause(turn);
         }
         None
+    }
+
+    // Tries once more to take the next message, and sleeps until one was put if there is none.
+    fn take_or_sleep<R: Wait>(&mut self, rt: &R) -> Option<Taken>
+        requires may { MayTake self.old.known }
+        ensures took { IfSome result (λ message. self.new
+            ≡ record self.old { known = with_message self.old.known message }) }
+        ensures ordered { OnSome result (IsOrdered (took_in self.new.known)) }
+        ensures kept { result ≡ None → self.new ≡ self.old }
+    {
+        let heard = self.bells.puts.listen();
+        let taken = self.try_take(rt);
+        if taken.is_none() {
+            self.bells.puts.sleep(rt, heard);
+        }
+        self.bells.puts.leave();
+        taken
+    }
+
+    // Tries once to take the next message.
+    fn try_take<R: Wait>(&mut self, rt: &R) -> Option<Taken>
+        requires may { MayTake self.old.known }
+        ensures took { IfSome result (λ message. self.new
+            ≡ record self.old { known = with_message self.old.known message }) }
+        ensures ordered { OnSome result (IsOrdered (took_in self.new.known)) }
+        ensures kept { result ≡ None → self.new ≡ self.old }
+    {
+        if let Ok(message) = self.receiver.try_recv_as::<Receives, R>(rt, &mut self.pass) {
+            self.bells.takes.ring();
+            return Some(message);
+        }
+        None
+    }
+}
+
+// Keeps the processor for a moment. To give it away would be to wait for all others that want it.
+fn pause(turn: u32)
+    requires few { turn < TRIES }
+{
+    for _ in 0..1u32 << turn {
+        hint::spin_loop();
     }
 }
