@@ -2,4 +2,5 @@ mod AtBase
 mod Compiles
 mod Lent
 mod Models
+mod SameRuns
 pub mod Slots

@@ -5,6 +5,7 @@
 pub mod compile;
 pub mod compile_at;
 pub mod instance_files;
+pub mod laws;
 pub mod model;
 pub mod pipe_form;
 pub mod placed_sink;
