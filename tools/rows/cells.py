@@ -143,9 +143,8 @@ def pairs_of_faults(cells):
                 yield both, kind
 
 
-# Two kinds of a number's fault, of which one is TooFine, in each order; and the two others.
+# Two kinds of a number's fault, of which one is TooFine, in each order.
 WITH_TOO_FINE = [("Number", "TooFine"), ("TooFine", "Range"), ("Range", "TooFine"), ("TooFine", "Number")]
-NUMBER_AND_RANGE = [("Range", "Number"), ("Number", "Range")]
 
 
 def faulty_text(cell, kind):
@@ -157,11 +156,11 @@ def faulty_text(cell, kind):
     return spelled(cell.greatest, cell.decimals) + ("" if cell.decimals else ".") + "1"
 
 
-def two_kinds_of_faults(cells, kinds=WITH_TOO_FINE):
-    """Cells of which two numbers are refused, each two of them with the next two of these kinds, and the kind
-    of the one on the left."""
+def two_kinds_of_faults(cells):
+    """Cells of which two numbers are refused, each two of them with the next two kinds, and the kind of the one on
+    the left."""
     numbers = [place for place, cell in enumerate(cells) if cell.decimals is not None]
-    for (left, right), (kind, other) in zip(itertools.combinations(numbers, 2), itertools.cycle(kinds)):
+    for (left, right), (kind, other) in zip(itertools.combinations(numbers, 2), itertools.cycle(WITH_TOO_FINE)):
         both = with_cell(cells, left, faulty_text(cells[left], kind))
         both[right] = faulty_text(cells[right], other)
         yield both, kind

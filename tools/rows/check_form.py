@@ -2,17 +2,15 @@
 
 The table texts has the faults of their lines.
 """
-import itertools
 import re
 
 from rows import fullest
 from rows.instance import (
     LIMITED_TEXTS, NINE_TEXTS, NO_BLOCK, ONE_ORE_BLOCK, TWO_ZONES, at, heading,
 )
-from rows.texts import NOT_SKIPPED, many_predecessors
 from rows.trial import MARK, Folder, Front, Trial, lines, refused
 from rows.written import NAMES
-from shared import CHECKED, HEADER_KEYS
+from shared import CHECKED
 
 
 def spoiled(parts):
@@ -115,79 +113,6 @@ FAULTY = [
 ]
 
 
-# What is no byte order mark in front of a text.
-NO_MARKS = [MARK[:2], MARK[1:], b"\xFF\xFE", b"\xFE\xFF", b" " + MARK, b"\n" + MARK, b"\r\n" + MARK, MARK + MARK]
-
-
-def marks():
-    """Each text behind one that is none, and behind one."""
-    counts = "blocks 2 arcs 0 coefficients 1 limits 2 cpit 1"
-    for ending, kind in zip(CHECKED, ["Number", "Number", "Key", "Key"]):
-        for mark in NO_MARKS:
-            files = at("base", {**LIMITED_TEXTS, ending: mark + LIMITED_TEXTS[ending]})
-            line = f"{ending} line {mark.count(10) + 1}: {kind}"
-            yield refused(f"marks: {mark} before {ending}", line, words=["check", "base"], files=files)
-        texts = {**LIMITED_TEXTS, ending: MARK + LIMITED_TEXTS[ending]}
-        yield counted(f"marks: {MARK} before {ending}", texts, counts)
-
-
-def far_lines():
-    """What is faulty behind many lines, or far behind in one: another count, a predecessor that stands twice, an
-    identifier that is a power of two less; and blocks that come before and behind those that wait for them."""
-    skipped = b"\n" * 70_000 + b"x\n"
-    for ending, kind in zip(CHECKED, ["Fields", "Fields", "Key", "Key"]):
-        files = at("base", {**LIMITED_TEXTS, ending: skipped})
-        line = f"{ending} line 70001: {kind}"
-        yield refused(f"far_lines: {line}", line, words=["check", "base"], files=files)
-    for count, told in ((301, 45), (5_001, 905), (70_001, 4_465)):
-        blocks, prec, pcpsp = many_predecessors(count)
-        line, files = prec.replace(f"0 {count} ".encode(), f"0 {told} ".encode(), 1), {"blocks": blocks, "pcpsp": pcpsp}
-        files, name = at("base", {**files, "prec": line}), f"far_lines: {told} for {count}"
-        yield refused(name, "prec line 1: Count", words=["check", "base"], files=files)
-    for again in (b" 5000 5000\n", b" 1 5001\n"):
-        blocks, prec, pcpsp = many_predecessors(5_001)
-        files = at("base", {"blocks": blocks, "prec": prec.replace(b" 5000 5001\n", again, 1), "pcpsp": b""})
-        name = f"far_lines: predecessors that end with{again}"
-        yield refused(name, "prec line 1: Twice", words=["check", "base"], files=files)
-    texts = dict(zip(CHECKED, many_predecessors(5_001)))
-    yield counted("far_lines: a block below 5,001 others", texts, "blocks 5002 arcs 5001 coefficients 0 limits 0")
-    many, _ = many_blocks()
-    for ending in CHECKED:
-        start = many[ending].index(b"\n4999 ") + 1
-        changed = many[ending][:start] + b"903 " + many[ending][start + 5 :]
-        files, line = at("base", {**many, ending: changed}), many[ending][:start].count(b"\n") + 1
-        name, line = f"far_lines: 903 for 4999 in {ending}", f"{ending} line {line}: Order"
-        yield refused(name, line, words=["check", "base"], files=files)
-    for ending in ("blocks", "prec"):
-        counts = "blocks 0 arcs 0 coefficients 0 limits 0 cpit 0"
-        yield counted(f"far_lines: a mark alone in {ending}", {**NO_BLOCK, ending: MARK}, counts)
-    for ending in ("pcpsp", "cpit"):
-        good = LIMITED_TEXTS[ending].splitlines(True)
-        start = good.index(b"RESOURCE_CONSTRAINT_COEFFICIENTS:\n")
-        for cut, what in ((start, "two sections"), (start + 2, "a section"), (start - 1, "a line of the objective")):
-            files = at("base", {**LIMITED_TEXTS, ending: b"".join(good[:cut])})
-            line = f"{ending} line {cut + 1}: Missing"
-            yield refused(f"far_lines: {ending} lacks {what}", line, words=["check", "base"], files=files)
-        for what, text, number in [("remarks", b"% none\n\n \n%\n", 5), ("a mark", MARK, 1)]:
-            files, line = at("base", {**NO_BLOCK, ending: text}), f"{ending} line {number}: Missing"
-            yield refused(f"far_lines: {what} alone in {ending}", line, words=["check", "base"], files=files)
-    prec = b"0 2 2 1\n1 1 0\n2 2 1 0\n"
-    blocks = lines("".join(f"{own} 0 0 0 1 0 0|" for own in range(3)))
-    files = at("base", {"blocks": blocks, "prec": prec, "pcpsp": b"x\n"})
-    yield refused("far_lines: blocks before and behind", "pcpsp line 1: Key", words=["check", "base"], files=files)
-
-
-def long_lines():
-    """Each line of a text with as many fields more as a narrow count of them takes for none."""
-    for ending in CHECKED:
-        text = LIMITED_TEXTS[ending].splitlines()
-        for number in range(len(text)) if ending != "prec" else ():
-            changed = [*text[:number], text[number] + b" 0" * 65_536, *text[number + 1 :]]
-            files = at("base", {**LIMITED_TEXTS, ending: b"\n".join(changed)})
-            line = f"{ending} line {number + 1}: Fields"
-            yield refused(f"long_lines: {line}", line, words=["check", "base"], files=files)
-
-
 # A base that is near to one that is there, and what is told of it.
 NEAR = [
     "BASE", "Base", "bas", "base.", "base.blocks", "base.prec", "base.pcpsp", "base.cpit", "base ",
@@ -232,39 +157,6 @@ NEAR_WORDS = [
     ["check base"], ["--", "check", "base"], ["check", "base", "base"],
     *(["check", word, "base"] for word in ["--base", "--out", "--quiet"]),
 ]
-
-
-# What may stand about the lines of a text.
-BEFORE = MARK + b"\r\n \t\n\t\n  \n%\n%%\n  % a: b\r\n\t%\xFF\0\v\f\r x\n%x\n"
-BETWEEN = b" \t\r\n\n\t% 1 0\n"
-KEYS = [key for key, *_ in HEADER_KEYS]
-
-
-def freed(text):
-    """The same text as a hand may write it: remarks, blank lines, runs of blanks, CR LF, no end of
-    the last line, header keys from the last to the first and with blanks about their colon."""
-    parts = text.split(b"\n")[:-1]
-    head = [line for line in parts if line.split(b":")[0].decode() in KEYS]
-    rest = parts[len(head) :]
-    turned = [line.replace(b":", b"\t :\t").replace(b" ", b" \t ") for line in head[::-1]]
-    spread = [line.replace(b" ", b"\t  ").replace(b":", b" :") for line in rest]
-    return BEFORE + BETWEEN.join(b"\t " + line for line in turned + spread) + b" \t\r"
-
-
-def freedoms():
-    """Each text of an instance as a hand may write it, alone and together; then other lines."""
-    counts = "blocks 2 arcs 0 coefficients 1 limits 2 cpit 1"
-    for endings in [*((ending,) for ending in CHECKED), CHECKED]:
-        texts = {**LIMITED_TEXTS, **{ending: freed(LIMITED_TEXTS[ending]) for ending in endings}}
-        yield counted(f"freedoms of {', '.join(endings)}", texts, counts)
-    for ending, line in itertools.product(CHECKED, NOT_SKIPPED):
-        text = freed(LIMITED_TEXTS[ending])
-        cut = text.index(BETWEEN) + len(BETWEEN)
-        changed = text[:cut] + line.encode(errors="surrogateescape") + b"\n" + text[cut:]
-        place, kind = text[:cut].count(b"\n") + 1, "Fields" if ending in CHECKED[:2] else "Key"
-        files = at("base", {**LIMITED_TEXTS, ending: changed})
-        name, told = f"freedoms: {line!r} in {ending}", f"{ending} line {place}: {kind}"
-        yield refused(name, told, words=["check", "base"], files=files)
 
 
 def at_its_ends(index, tonnes, zone, value, counts, rate, name):
@@ -339,92 +231,8 @@ def of_spellings():
         yield counted(f"an instance by the name {name}", texts, "blocks 2 arcs 2 coefficients 1 limits 1 cpit 1")
 
 
-# How many blocks the instance has that follows, and the places of some of them.
-MANY = 5_000
-POWERS = [1 << bits for bits in range(13)]
-
-
-def many_blocks():
-    """The texts of thousands of blocks, and their arcs. Each block waits for those that are a power
-    of two behind it, and has a coefficient; each of 8 resources has a limit in each of 100 periods.
-    """
-    blocks = "".join(f"{own} {own} 0 0 1 0 0|" for own in range(MANY))
-    above = [[own + more for more in POWERS if own + more < MANY] for own in range(MANY)]
-    items = ([own, len(one), *one] for own, one in enumerate(above))
-    prec = "".join(" ".join(map(str, item)) + "|" for item in items)
-    limits = "".join(f"{r} {t} L 1|" for r, t in itertools.product(range(8), range(100)))
-    values = "OBJECTIVE_FUNCTION:|" + "".join(f"{own} 1|" for own in range(MANY))
-    given = {"blocks": MANY, "periods": 100, "resources": 8}
-
-    def model_file(kind, destination):
-        items = "".join(f"{own} {destination}0 1|" for own in range(MANY))
-        head = heading(kind, **given) + values + "RESOURCE_CONSTRAINT_COEFFICIENTS:|"
-        return lines(f"{head}{items}RESOURCE_CONSTRAINT_LIMITS:|{limits}")
-
-    texts = [lines(blocks), lines(prec), model_file("PCPSP", "0 "), model_file("CPIT", "")]
-    return dict(zip(CHECKED, texts)), sum(map(len, above))
-
-
-def of_many_blocks():
-    """What is counted of them, and a fault at the end of each text."""
-    texts, arcs = many_blocks()
-    counts = f"blocks {MANY} arcs {arcs} coefficients {MANY} limits 800 cpit {MANY}"
-    yield counted("thousands of blocks", texts, counts)
-    for ending in CHECKED:
-        place = texts[ending].count(b"\n") + 1
-        files = at("base", {**texts, ending: texts[ending] + b"x\n"})
-        name = f"thousands of blocks, a fault behind {ending}"
-        yield refused(name, f"{ending} line {place}: Fields", words=["check", "base"], files=files)
-    cut = texts["prec"][: texts["prec"].rindex(b"\n", 0, -1) + 1]
-    files, place = at("base", {**texts, "prec": cut}), texts["prec"].count(b"\n")
-    name, line = "thousands of blocks, and a line less", f"prec line {place}: Missing"
-    yield refused(name, line, words=["check", "base"], files=files)
-
-
-def powers_apart():
-    """Identifiers and numbers of blocks that are a power of two more than they should be."""
-    blocks = lines("".join(f"{own} 0 0 0 1 0 0|" for own in range(75)))
-    prec = lines("".join(f"{own} 0|" for own in range(75)))
-
-    def model_file(kind, first=0, count=75):
-        values = "".join(f"{own} 1|" for own in [first, *range(1, 75)])
-        rest = "RESOURCE_CONSTRAINT_COEFFICIENTS:|RESOURCE_CONSTRAINT_LIMITS:|"
-        return lines(f"{heading(kind, blocks=count)}OBJECTIVE_FUNCTION:|{values}{rest}")
-
-    good = dict(zip(CHECKED, [blocks, prec, model_file("PCPSP"), model_file("CPIT")]))
-    for bits in range(26):
-        more, texts = 1 << bits, {}
-        texts["blocks line 2: Order"] = lines(f"0 0 0 0 1 0 0|{1 + more} 0 0 0 1 0 0|")
-        texts["pcpsp line 3: Count"] = model_file("PCPSP", count=75 + more)
-        texts["cpit line 3: Count"] = model_file("CPIT", count=75 + more)
-        if more < 75:
-            texts["prec line 1: Order"] = lines(f"{more} 0|") + prec
-            texts["pcpsp line 10: Order"] = model_file("PCPSP", more)
-            texts["cpit line 8: Order"] = model_file("CPIT", more)
-        for line, text in texts.items():
-            files = at("base", {**good, line.split()[0]: text})
-            name = f"a power of two apart: {more}, {line}"
-            yield refused(name, line, words=["check", "base"], files=files)
-
-
 # How many predecessors a block has, and how far apart the two are that are one.
 ABOVE, APART = 70, (1, 2, 3, 4, 5, 8, 9, 16, 17, 32, 33, 64, 69)
-
-
-def twice_far_apart():
-    """A predecessor that stands twice so far apart, and the block itself, among many that rise and
-    that fall."""
-    blocks = lines("".join(f"{own} 0 0 0 1 0 0|" for own in range(ABOVE + 5)))
-    rest = "".join(f"{own} 0|" for own in range(1, ABOVE + 5))
-    for step, (apart, spelling) in itertools.product((1, -1), itertools.product(APART, ("", "0"))):
-        above = [str(own) for own in range(1, ABOVE + 1)][::step]
-        for what, again in (("twice", spelling + above[-apart]), ("itself", spelling + "0")):
-            place = len(above) if what == "twice" else ABOVE - apart
-            line = [*above[:place], again, *above[place:]]
-            prec = lines(f"0 {len(line)} {' '.join(line)}|{rest}")
-            files = at("base", {"blocks": blocks, "prec": prec, "pcpsp": b"x\n"})
-            name = f"{what} far apart: {apart}, {step}, {again}"
-            yield refused(name, "prec line 1: Twice", words=["check", "base"], files=files)
 
 
 def counted(name, texts, counts, base="base"):
@@ -439,17 +247,10 @@ def trials():
     yield near._replace(words=["check", "./" * 150 + "base"])
     for name, texts, line in FAULTY:
         yield refused(name, line, words=["check", "base"], files=at("base", texts))
-    yield from freedoms()
     for name, texts in ENDS:
         counts = "blocks 2 arcs 2 coefficients 1 limits 1 cpit 1"
         yield counted(f"each number at its end: {name}", texts, counts)
     yield from of_spellings()
-    yield from marks()
-    yield from far_lines()
-    yield from long_lines()
-    yield from of_many_blocks()
-    yield from powers_apart()
-    yield from twice_far_apart()
     yield from near_bases()
     for length in (401, 1_000, 4_000):
         base = "./" * ((length - 4) // 2) + "/" * ((length - 4) % 2) + "base"

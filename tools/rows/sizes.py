@@ -170,6 +170,8 @@ def many_words():
     left = at("b", plain_texts(*files.values()))
     name = "sixty_four_files by as many valuers as are not asked for"
     yield Trial(name, words=compiles(*names), files=files, out=b"rows 64\n", left=left)
+    line, words = "file 64: FeedFailed", [*compiles(*names), "none"]
+    yield refused("as many zone files as zones, and one that is not there", line, words=words, files=files)
     for count in (90, 300, 450):
         words = compiles(*(names[zone % 64] for zone in range(count)))
         name = f"{count} zone files for 64 zones"

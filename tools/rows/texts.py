@@ -237,33 +237,6 @@ FAULTS_OF_ONE_ORE_BLOCK = [
     ("LIMITS+1", "Fields", before("LIMITS+1", "0 0 I 1"), before("LIMITS+1", "EOF")),
 ]
 
-# What stands behind the greatest line of a section, does not rise, and has another fault, which is
-# told.
-COEFFICIENTS_BEHIND = [
-    ("Number", "x 0 0 1", "0 x 0 1", "0 0 x 1", "0 0 0 ?", "1 1 1 ?"),
-    ("Range", "2 0 0 1", "0 2 0 1", "0 0 2 1", "0 0 -1 1", "1 0 2 1"),
-    ("TooFine", "0.5 0 0 1", "0 0.5 0 1", "0 0 0.5 1", "0 0 0 0.0000001"),
-    ("Fields", "0 0 0", "0 0 0 1 1", "1 1 1", "1 1 1 1 1", "0"),
-    ("Order", "1 1 1 2", "1 1 0 2", "0 0 0 -1"),
-]
-
-CPIT_COEFFICIENTS_BEHIND = [
-    ("Number", "x 0 1", "0 x 1", "0 0 ?", "1 1 ?"),
-    ("Range", "2 0 1", "0 2 1", "0 -1 1", "1 2 1"),
-    ("TooFine", "0.5 0 1", "0 0.5 1", "0 0 0.0000001"),
-    ("Fields", "0 0", "0 0 1 1", "1 1", "1 1 1 1"),
-    ("Order", "1 1 2", "1 0 2", "0 0 -1"),
-]
-
-LIMITS_BEHIND = [
-    ("Number", "x 0 L 1", "0 x L 1", "0 0 L ?", "0 1 I 1 ?", "1 1 I ? 1"),
-    ("Range", "2 0 L 1", "0 2 L 1", "0 2 I 1 2", "1 -1 I 2 1", "0 2 E 1"),
-    ("Name", "0 1 E 1", "1 1 E 1", "1 0 i 1", "0 0 ? ?"),
-    ("TooFine", "0.5 0 L 1", "0 0.5 L 1", "0 0 L 0.0000001"),
-    ("Fields", "0 0 L", "0 0 I 1", "1 1 G 1 2", "0 0 E 1 2", "1 1"),
-    ("Order", "1 1 L 2", "1 1 I 1 2", "1 0 G 1", "0 1 L 5", "0 0 I 2 1"),
-]
-
 FAULTS_OF_A_CPIT = [
     ("TYPE", "Name", "TYPE: PCPSP", "TYPE: cpit", "TYPE: CPITS", "TYPE: CPI", "TYPE: UPIT", "TYPE: Cpit"),
     ("NRESOURCE_SIDE_CONSTRAINTS", "Key", before("NRESOURCE_SIDE_CONSTRAINTS", "NDESTINATIONS: 2"),
@@ -910,23 +883,6 @@ def model_files():
     yield from orders("cpit", good, "LIMITS", (2, 2), " G 1", with_cpit, counts)
 
 
-def beside_order():
-    """Lines that do not rise, and what else is wrong with them. There are two resources."""
-    two = put("NRESOURCE_SIDE_CONSTRAINTS", "NRESOURCE_SIDE_CONSTRAINTS: 2")
-    pcpsp, cpit = two.of(PCPSP), two.of(CPIT)
-    for file, good, texts_of, line, count, greatest, table in [
-        ("pcpsp", pcpsp, with_pcpsp, "COEFFICIENTS+1", 1, "1 1 1 1", COEFFICIENTS_BEHIND),
-        ("pcpsp", pcpsp, with_pcpsp, "LIMITS+1", None, "1 1 L 1", LIMITS_BEHIND),
-        ("cpit", cpit, with_cpit, "COEFFICIENTS+1", 1, "1 1 1", CPIT_COEFFICIENTS_BEHIND),
-        ("cpit", cpit, with_cpit, "LIMITS+1", None, "1 1 L 1", LIMITS_BEHIND),
-    ]:
-        for kind, *others in table:
-            for other in others:
-                texts = texts_of(Change(line, count, [greatest, other]).of(good))
-                name = f"beside_order: {file}: {greatest}, {other}"
-                yield answered(name, texts, f"{file} line {number_of(good, line) + 1}", kind)
-
-
 LINES_OF_EACH_KIND = [
     "NAME", "OBJECTIVE", "OBJECTIVE+1", "COEFFICIENTS+1", "LIMITS+1", "LIMITS+2",
 ]
@@ -995,79 +951,6 @@ def blocks_and_precedences():
         yield faulty(f"texts_of_no_block: {prec}, {pcpsp[:20]}", (MARK, prec, pcpsp), line)
 
 
-# Lines below a section of a model file without a block or a resource: no number is in range there.
-LINES_OF_NOTHING = [
-    ("pcpsp", NO_PCPSP, "OBJECTIVE+1", "0 5", "5 0"),
-    ("pcpsp", NO_PCPSP, "COEFFICIENTS+1", "5 0 0 1", "0 0 0 1", "0 5 5 5"),
-    ("pcpsp", NO_PCPSP, "LIMITS+1", "0 0 L 5", "0 0 I 5 4", "5 0 G 1"),
-    ("cpit", NO_CPIT, "OBJECTIVE+1", "0 5", "5 0"),
-    ("cpit", NO_CPIT, "COEFFICIENTS+1", "0 0 1", "0 3 1", "5 0 0"),
-    ("cpit", NO_CPIT, "LIMITS+1", "0 0 L 5", "0 0 I 5 4", "5 0 G 1"),
-]
-
-
-def lines_of_nothing():
-    """Lines whose first field has no number in range, and others that have a fault before it; then
-    lines of a CPIT that would be in range of the PCPSP beside it."""
-    for file, good, line, *items in LINES_OF_NOTHING:
-        first = items[0]
-        others = {"x" + first[1:]: "Number", "0": "Fields", first + " 5 5": "Fields",
-                  "0.5" + first[1:]: "TooFine", "-" + first: "Range"}
-        for other, kind in {**dict.fromkeys(items, "Range"), **others}.items():
-            place = f"{file} line {number_of(lines_of(good), line)}"
-            text = whole(before(line, other).of(lines_of(good)))
-            texts = (b"", b"", text) if file == "pcpsp" else (b"", b"", NO_PCPSP, text)
-            yield answered(f"lines_of_nothing: {file} {line}: {other}", texts, place, kind)
-    # no block, but a resource
-    for file, good, *items in [("pcpsp", NO_PCPSP, "5 0 0 1", "0 0 0 1"), ("cpit", NO_CPIT, "5 0 1", "0 0 1")]:
-        good = put("NRESOURCE_SIDE_CONSTRAINTS", "NRESOURCE_SIDE_CONSTRAINTS: 1").of(lines_of(good))
-        for item in items:
-            texts = [b"", b"", NO_PCPSP, b""][:2 if file == "pcpsp" else 3] + [whole(before("COEFFICIENTS+1", item).of(good))]
-            line = f"{file} line {number_of(good, 'COEFFICIENTS+1')}: Range"
-            yield faulty(f"lines_of_nothing: {file} of a resource: {item}", texts, line)
-    # beside a PCPSP of two periods and two resources
-    two = whole(put("NRESOURCE_SIDE_CONSTRAINTS", "NRESOURCE_SIDE_CONSTRAINTS: 2").of(PCPSP))
-    no_resource = put("NRESOURCE_SIDE_CONSTRAINTS", "NRESOURCE_SIDE_CONSTRAINTS: 0").of(CPIT)
-    one_period = put("NPERIODS", "NPERIODS: 1").of(CPIT)
-    for name, good, line, other in [
-        ("one resource", CPIT, "COEFFICIENTS+1", "0 1 1"),
-        ("one resource", CPIT, "LIMITS+1", "1 0 L 5"),
-        ("no resource", no_resource, "COEFFICIENTS+1", "0 3 1"),
-        ("no resource", no_resource, "COEFFICIENTS+1", "0 0 1"),
-        ("no resource", without("COEFFICIENTS+1").of(no_resource), "LIMITS+1", "0 0 L 5"),
-        ("one period", one_period, "LIMITS+1", "0 1 L 5"),
-        ("one period", one_period, "LIMITS+1", "0 1 I 5 4"),
-    ]:
-        place, texts = number_of(good, line), whole(put(line, other).of(good))
-        name = f"cpit_beside_pcpsp: {name}: {line}: {other}"
-        yield faulty(name, (BLOCKS, PREC, two, texts), f"cpit line {place}: Range")
-
-
-# Items of a section whose places are one, spelled in two ways.
-SAME_PLACES = [
-    ("pcpsp", "COEFFICIENTS", ["0 0 0", "00 0 0", "0 -0 0", "0 0 +0", "0. 0.0 00"], " 1"),
-    ("pcpsp", "COEFFICIENTS", ["1 1 1", "01 1 1", "1 1. 1", "1 1 +1", "1.0 01 1.00"], " 1"),
-    ("pcpsp", "LIMITS", ["0 1", "00 1", "0 01", "-0 1.0"], " L 1"),
-    ("cpit", "COEFFICIENTS", ["1 0", "01 0", "1 00", "+1 -0"], " 1"),
-    ("cpit", "LIMITS", ["1 1", "01 1", "1 1.", "+1 01"], " G 1"),
-]
-
-
-def same_places():
-    """Two lines for one place: they do not rise, whatever their spelling."""
-    two = put("NRESOURCE_SIDE_CONSTRAINTS", "NRESOURCE_SIDE_CONSTRAINTS: 2")
-    for file, key, spellings, tail in SAME_PLACES:
-        good, texts_of = (PCPSP, with_pcpsp) if file == "pcpsp" else (CPIT, with_cpit)
-        good = two.of(good)
-        count = 1 if key == "COEFFICIENTS" else 2
-        for other in spellings[1:]:
-            for pair in (spellings[0], other), (other, spellings[0]):
-                items = Change(f"{key}+1", count, [place + tail for place in pair])
-                line = f"{file} line {number_of(good, key) + 2}: Order"
-                name = f"same_places: {file} {key}: {pair[0]}, {pair[1]}"
-                yield faulty(name, texts_of(items.of(good)), line)
-
-
 def late_lines():
     """Faulty lines behind so many that are skipped, of each text."""
     texts = [BLOCKS, PREC, whole(PCPSP), whole(CPIT)]
@@ -1115,14 +998,11 @@ def far_lines():
 
 def trials():
     yield from far_lines()
-    yield from lines_of_nothing()
-    yield from same_places()
     yield from late_lines()
     yield from lines_of_blocks()
     yield from model_files()
     yield from bytes_of_lines()
     yield from lines_between()
-    yield from beside_order()
     yield from long_lines()
     yield from changed_files()
     yield from blocks_and_precedences()

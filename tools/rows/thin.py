@@ -6,7 +6,7 @@ arguments, of faulty inputs and of the file that it writes.
 import itertools
 import random
 
-from rows import fullest, thin_files
+from rows import combined, fullest, thin_files
 from rows.cells import shortest
 from rows.cones import BOUNDARIES
 from rows.trial import Later, Trial, zone_file
@@ -167,6 +167,8 @@ def of_zones():
     yield thinned("a column at K of 20", ["1,1,20"], [box([0], [0], range(30))])
     yield thinned("a hole", ["1,1,5"], [box(range(5), range(5), range(5), {(2, 2, 1), (2, 2, 2)})])
     yield thinned("a bench that is not there", ["1,1,5"], [box(range(5), range(5), [0, 1, 3, 4])])
+    yield thinned("a hole of eight benches at K of 20", ["1,1,20"], [box(range(5), range(5), [0, *range(9, 13)])])
+    yield thinned("cones wider than fifteen blocks", ["1,8,2"], [box(range(36), range(3), range(3))])
     yield thinned("four slopes", ["1,1,2,1,1,2,3,2,6"], [whole])
     yield thinned("flat blocks", ["1,2,6"], [box(range(7), range(7), range(4))], (20, 20, 10))
     beside = [box(range(3), range(6), range(5)), box(range(3, 6), range(6), range(5))]
@@ -436,3 +438,4 @@ def trials():
     yield from of_fullest()
     yield from of_large_models()
     yield from thin_files.trials()
+    yield from combined.rows_by(is_thin=True)
