@@ -46,10 +46,13 @@ def by_processes(jobs: int) -> Engine:
 @contextmanager
 def _processes(jobs: int) -> Iterator[Executor]:
     """Processes that end with this one: they are told to where an exception leaves the block, and
-    see it where this one is killed. Each is a new interpreter: a copy of this one would lack the
-    threads that libraries have started, as HiGHS does, and could wait for them for ever."""
+    see it where this one is killed. They are copies of a new interpreter: a copy of this one would
+    lack the threads that libraries have started, as HiGHS does, and could wait for them for ever.
+    """
     others = set(multiprocessing.active_children())
-    executor = ProcessPoolExecutor(jobs, multiprocessing.get_context("spawn"), _end_with_parent)
+    context = multiprocessing.get_context("forkserver")
+    context.set_forkserver_preload(["pandas", "scipy.optimize", "scipy.sparse"])
+    executor = ProcessPoolExecutor(jobs, context, _end_with_parent)
     # A new interpreter would look for the modules of Python in the current folder first.
     before = os.environ.get("PYTHONSAFEPATH")
     os.environ["PYTHONSAFEPATH"] = "1"
