@@ -15,6 +15,7 @@ import stat
 import struct
 import zipfile
 import zlib
+from contextlib import contextmanager, suppress
 from dataclasses import dataclass, field
 from itertools import islice
 from typing import IO, Any, BinaryIO, Callable, Iterator, Optional, Sequence, TextIO, Union
@@ -263,13 +264,19 @@ class Source:
                               newline="") as text:
             return [text.readline().strip() for _ in range(self.above)]
 
-    def handle(self) -> io.TextIOWrapper:
+    @contextmanager
+    def handle(self) -> Iterator[io.TextIOWrapper]:
         """The text from the header on, or from the first row."""
         text = io.TextIOWrapper(opened(self.path), encoding=self.encoding, errors="replace",
                                 newline="")
-        for _ in range(self.above):
-            text.readline()
-        return text
+        try:
+            for _ in range(self.above):
+                text.readline()
+            yield text
+        finally:
+            # All was read, or another fault is told: that it cannot be closed says nothing.
+            with suppress(OSError):
+                text.close()
 
     def chunks(self, columns: Sequence[int]) -> Iterator[pd.DataFrame]:
         """The rows as texts, the columns being numbers of the header's; the index counts records

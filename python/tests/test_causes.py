@@ -187,6 +187,20 @@ def test_what_import_cannot_read_so_is_told_in_a_line(here, capsys, words, told)
     assert told in refused(["import", "export.csv", *WORDS, *words], capsys)
 
 
+def test_an_export_that_was_read_need_not_be_closed(here, monkeypatch):
+    class Unclosed(io.BytesIO):
+        def close(self):
+            super().close()
+            raise OSError(5, "Input/output error")
+
+    monkeypatch.setattr(source, "opened", lambda path: Unclosed(b"X\n1\n"))
+    export = source.Source("a.csv", "utf-8", "UTF-8", ",", ["X"], 0, True, 1)
+    with export.handle() as text:
+        assert text.read() == "X\n1\n"
+    with pytest.raises(UserError, match="no number"), export.handle():
+        raise UserError("no number")
+
+
 def test_a_table_of_zones_may_be_cut_by_any_separator(here, capsys):
     for sign in ",;\t|":
         (here / "zones").write_text(f"ZONE{sign}zone\n\nwest{sign}left\n*{sign}'right'\n")
