@@ -14,7 +14,7 @@ def bounds_of(mine: Instance, seconds: Optional[float] = None) -> dict[str, Opti
     """The sum of values above 0, the ultimate pit's value, and the relaxations of CPIT and PCPSP,
     in the values' unit: None where one did not end within the seconds, or its limits cannot be met.
 
-    Raises BadInstance where the UPIT or the precedences were not read.
+    Raises UserError where the UPIT or the precedences were not read.
     """
     values = present(mine.upit, "UPIT").values
     precedence: Any = present(mine.precedence, "precedence file")

@@ -257,11 +257,11 @@ def thousandths(text: str, what: str) -> list[int]:
     except (ValueError, OverflowError):
         numbers = []
     if len(numbers) != 3:
-        raise UserError(f"{what}: give three numbers, as 20,20,10, and not `{text}`")
+        raise UserError(f"{what}: give three numbers, as 20,20,10, and not {quoted(text)}")
     if max(abs(number) for number in numbers) > MOST * 1_000_000:
-        raise UserError(f"{what}: `{text}` goes beyond {MOST:,}")
+        raise UserError(f"{what}: {quoted(text)} goes beyond {MOST:,}")
     if any(number % 1000 for number in numbers):
-        raise UserError(f"{what}: `{text}` has more than 3 decimals")
+        raise UserError(f"{what}: {quoted(text)} has more than 3 decimals")
     return [number // 1000 for number in numbers]
 
 
@@ -269,7 +269,7 @@ def sizes_of(text: str, what: str) -> list[int]:
     """Three sizes above 0, in thousandths."""
     sizes = thousandths(text, what)
     if min(sizes) < 1:
-        raise UserError(f"{what}: `{text}`: a size is above 0")
+        raise UserError(f"{what}: {quoted(text)}: a size is above 0")
     return sizes
 
 
@@ -277,7 +277,7 @@ def counts_of(text: str, what: str) -> list[int]:
     """Three numbers of blocks."""
     sizes = sizes_of(text, what)
     if any(size % 1000 for size in sizes):
-        raise UserError(f"{what}: `{text}`: numbers of blocks are whole")
+        raise UserError(f"{what}: {quoted(text)}: numbers of blocks are whole")
     return [size // 1000 for size in sizes]
 
 

@@ -15,7 +15,7 @@ from pit_tools import outputs, spelling
 from pit_tools.decimals import whole_of
 from pit_tools.errors import UserError, quoted
 from pit_tools.instance import Blocks, Instance, Problem, Uses, arcs_of
-from pit_tools.published_lines import numbered_lines
+from pit_tools.published_lines import block_lines, numbered_lines
 
 
 @dataclass(frozen=True)
@@ -69,11 +69,7 @@ def lines_renamed(path: str, identifiers: Identifiers, to_published: bool) -> It
     """
     first = 0 if to_published else identifiers.first
     names = (identifiers.published if to_published else identifiers.blocks()).tolist()
-    for number, line in numbered_lines(path):
-        fields = line.split()
-        if not fields:
-            continue
-        block = whole_of(fields[0])
+    for number, block, fields in block_lines(path):
         if block is None or not 0 <= block - first < len(names):
             raise UserError(f"{path}: line {number}: {quoted(fields[0])} is no block")
         yield " ".join([str(names[block - first]), *fields[1:]]) + "\n"

@@ -7,6 +7,7 @@ import sys
 from contextlib import contextmanager
 from typing import Any, Iterable, Iterator, Optional, Sequence, Tuple, Union
 
+from pit_tools.errors import UserError
 from pit_tools.records import Reading, status_of
 
 Identity = Tuple[int, int]
@@ -112,6 +113,19 @@ def reads(*paths: str) -> None:
             command.note(path)
             with looking():
                 command.reading.take(path)
+
+
+def content_of(path: str, most: int, told: str) -> bytes:
+    """All bytes of a file that the command reads.
+
+    Raises UserError, which ends with these words, if it has more than `most`; OSError if it cannot
+    be read."""
+    reads(path)
+    with open(path, "rb") as file:
+        content = file.read(most + 1)
+    if len(content) > most:
+        raise UserError(f"{path}: it has more than {most:,} bytes{told}")
+    return content
 
 
 def looks_beside(base: str) -> None:

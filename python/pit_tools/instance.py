@@ -18,19 +18,19 @@ import io
 import os
 from dataclasses import dataclass, field
 from itertools import chain, takewhile
-from typing import (Any, BinaryIO, Callable, Iterable, Iterator, Optional, Sequence, Type, TypeVar,
+from typing import (Any, Callable, Iterable, Iterator, Optional, Sequence, Type, TypeVar,
                     Union)
 
 import numpy as np
 import pandas as pd
 from scipy import sparse
 
-from pit_tools import inputs, outputs, spelling
+from pit_tools import outputs, spelling
 from pit_tools.decimals import fault_of, may_be_misread, number_of
 from pit_tools.errors import UserError, quoted
 from pit_tools.formats import (MOST_AMOUNT, MOST_BLOCKS, MOST_DESTINATIONS, MOST_INDEX,
                                MOST_PERIODS, MOST_RESOURCES, MOST_ZONE, NAME, WHAT_A_NAME_IS)
-from pit_tools.published_lines import integers_of, line_lengths, whole_lines
+from pit_tools.published_lines import Piece, integers_of, line_lengths, opened, whole_lines
 from pit_tools.records import status_of
 
 TEXTS = ("blocks", "prec", "upit", "pcpsp", "cpit")
@@ -43,10 +43,6 @@ LIMITS = "RESOURCE_CONSTRAINT_LIMITS"
 KEYS = ("NAME", "TYPE", "NBLOCKS", "NPERIODS", "NDESTINATIONS", "NRESOURCE_SIDE_CONSTRAINTS",
         "NGENERAL_SIDE_CONSTRAINTS", "DISCOUNT_RATE")
 SECTIONS = (OBJECTIVE, COEFFICIENTS, LIMITS)
-
-
-class BadInstance(UserError):
-    """A file of an instance that cannot be read: its message names the file and what is wrong."""
 
 
 @dataclass(frozen=True)
@@ -180,7 +176,7 @@ class Instance:
     def problem(self, kind: str) -> Problem:
         """The CPIT or the PCPSP, by its kind in letters of either case.
 
-        Raises BadInstance where it was not read."""
+        Raises UserError where it was not read."""
         return present({"cpit": self.cpit, "pcpsp": self.pcpsp}[kind.lower()], kind.upper())
 
 
@@ -190,10 +186,10 @@ _Part = TypeVar("_Part")
 def present(part: Optional[_Part], what: str) -> _Part:
     """A part of an instance that has to be there, as in `present(mine.upit, "UPIT")`.
 
-    Raises BadInstance where it was not read.
+    Raises UserError where it was not read.
     """
     if part is None:
-        raise BadInstance(f"there is no {what} of this instance")
+        raise UserError(f"there is no {what} of this instance")
     return part
 
 
@@ -237,12 +233,10 @@ def _plain(piece: bytes) -> bytes:
     return piece
 
 
-def _pieces(file: BinaryIO, path: str) -> Iterator[bytes]:
-    """The bytes of a file, cut at line ends; without a byte order mark, comments and CR."""
-    try:
-        yield from map(_plain, whole_lines(file, path))
-    except UserError as error:
-        raise BadInstance(str(error)) from None
+def _pieces(path: str) -> Iterator[bytes]:
+    """The bytes of a file, cut at line ends and without a byte order mark, comments and CR; no
+    piece is blank."""
+    return filter(bytes.strip, map(_plain, whole_lines(path)))
 
 
 #: What stands in a field: a whole number of a type of numpy, or a decimal with so many decimals.
@@ -252,7 +246,7 @@ _Kind = Union[Type[np.signedinteger], int]
 def _table(piece: bytes, path: str, what: str, kinds: Sequence[_Kind]) -> list[np.ndarray]:
     """The fields of lines that have as many as there are kinds, a column each."""
     if len(_first(piece).split()) != len(kinds):
-        raise BadInstance(f"{path}: no line of {what}, of {len(kinds)} fields: {_shown(piece)}")
+        raise UserError(f"{path}: no line of {what}, of {len(kinds)} fields: {_shown(piece)}")
     is_hard = may_be_misread(piece)
     if is_hard:
         _look_at_each(piece, path)
@@ -263,7 +257,7 @@ def _table(piece: bytes, path: str, what: str, kinds: Sequence[_Kind]) -> list[n
                             quoting=csv.QUOTE_NONE,
                             float_precision="round_trip" if is_hard else "high")
     except (ValueError, OverflowError, pd.errors.ParserError) as error:
-        raise BadInstance(f"{path}: {_first_line(error)}") from None
+        raise UserError(f"{path}: {_first_line(error)}") from None
     return [_rounded(table[at].to_numpy(), path, kind) if isinstance(kind, int)
             else _narrow(table[at].to_numpy(), path, kind) for at, kind in enumerate(kinds)]
 
@@ -276,15 +270,15 @@ def _look_at_each(piece: bytes, path: str) -> None:
                 with open(path, "rb") as file:
                     number = next(number for number, one in enumerate(file, 1)
                                   if one.split() == line.split())
-                raise BadInstance(f"{path}: line {number}: {quoted(cell)} is {fault}: "
-                                  f"{_shown(line)}")
+                raise UserError(f"{path}: line {number}: {quoted(cell)} is {fault}: "
+                                f"{_shown(line)}")
 
 
 def _narrow(whole: np.ndarray, path: str, kind: Type[np.signedinteger]) -> np.ndarray:
     """Whole numbers as a smaller type."""
     room: np.iinfo[Any] = np.iinfo(kind)
     if len(whole) and not room.min <= whole.min() <= whole.max() <= room.max:
-        raise BadInstance(f"{path}: a whole number is not from {room.min} to {room.max}")
+        raise UserError(f"{path}: a whole number is not from {room.min} to {room.max}")
     return whole.astype(kind)
 
 
@@ -292,57 +286,39 @@ def _first_line(error: Exception) -> str:
     return (str(error).strip().splitlines() or ["it cannot be read"])[0]
 
 
-def _opened(path: str) -> BinaryIO:
-    try:
-        inputs.reads(path)
-        return open(path, "rb")
-    except OSError as error:
-        raise BadInstance(f"cannot open {path}: {error.strerror}") from None
-
-
-def _is_there(path: str) -> bool:
-    try:
-        return status_of(path) is not None
-    except OSError as error:
-        raise BadInstance(f"cannot open {path}: {error.strerror}") from None
-
-
 def _rounded(values: np.ndarray, path: str, decimals: int) -> np.ndarray:
     """The floats nearest to the decimals that stand there; a fast reader may be off by a bit."""
     try:
         found, is_finer = spelling.nearest(values, decimals)
     except spelling.NotHeld as error:
-        raise BadInstance(f"{path}: {error} cannot be held") from None
+        raise UserError(f"{path}: {error} cannot be held") from None
     if is_finer.any():
-        raise BadInstance(f"{path}: {values[is_finer][0]!r} has more than {decimals} decimals")
+        raise UserError(f"{path}: {values[is_finer][0]!r} has more than {decimals} decimals")
     return found
 
 
 def read_blocks(path: str) -> Blocks:
     """A block file, `id x y z tonnes grade zone`: tonnes in t, grades in g/t.
 
-    Raises BadInstance where a line has other fields or numbers than `pitc check` takes, or
+    Raises UserError where a line has other fields or numbers than `pitc check` takes, or
     identifiers are not 0, 1, 2, ..
     """
     kinds: list[_Kind] = [np.int32, np.int32, np.int32, np.int32, 3, 6, np.int32]
     parts: list[list[np.ndarray]] = []
     count = 0
-    with _opened(path) as file:
-        for piece in _pieces(file, path):
-            if not piece.strip():
-                continue
-            ids, *columns = _table(piece, path, "a block file", kinds)
-            if not np.array_equal(ids, np.arange(count, count + len(ids))):
-                raise BadInstance(f"{path}: no line of a block file: identifiers are not 0, 1, 2, "
-                                  "..")
-            count += len(ids)
-            parts.append(columns)
+    for piece in _pieces(path):
+        ids, *columns = _table(piece, path, "a block file", kinds)
+        if not np.array_equal(ids, np.arange(count, count + len(ids))):
+            raise UserError(f"{path}: no line of a block file: identifiers are not 0, 1, 2, "
+                            "..")
+        count += len(ids)
+        parts.append(columns)
     if not parts:
-        raise BadInstance(f"{path}: there are no blocks")
+        raise UserError(f"{path}: there are no blocks")
     columns = [np.concatenate(column) for column in zip(*parts)]
     for (name, most), column in zip(_MOST_OF_A_BLOCK.items(), columns):
         if not 0 <= column.min() <= column.max() <= most:
-            raise BadInstance(f"{path}: {name} is not from 0 to {most:,} in each line")
+            raise UserError(f"{path}: {name} is not from 0 to {most:,} in each line")
     x, y, z, tonnes, grade, zone = columns
     return Blocks(x, y, z, tonnes, grade, zone)
 
@@ -351,9 +327,9 @@ def remarks_of(path: str) -> list[str]:
     """The comments with which a file of an instance begins, without their marks: at most 9, of at
     most 200 bytes each.
 
-    Raises BadInstance if the file cannot be opened.
+    Raises UserError if the file cannot be opened.
     """
-    with _opened(path) as file:
+    with opened(path) as file:
         lines = [file.readline(200) for _ in range(9)]
     front = takewhile(lambda line: line.startswith(b"%"), lines)
     return [line[1:].decode("utf-8", "replace").strip() for line in front]
@@ -376,46 +352,45 @@ def _shown(piece: bytes) -> str:
 def precedence_pieces(path: str) -> Iterator[tuple[np.ndarray, np.ndarray]]:
     """Of each piece of a precedence file how many predecessors its lines have, and these in turn.
 
-    Raises BadInstance where a line is no `id k p1 .. pk`, or identifiers are not 0, 1, 2, ..
+    Raises UserError where a line is no `id k p1 .. pk`, or identifiers are not 0, 1, 2, ..
     """
     done = 0
-    with _opened(path) as file:
-        for piece in _pieces(file, path):
-            lengths = line_lengths(piece)
-            if not len(lengths):
-                continue
-            fields = integers_of(piece)
-            starts = np.cumsum(lengths) - lengths
-            if len(fields) != lengths.sum() or lengths.min() < 2 \
-                    or not np.array_equal(fields[starts], np.arange(done, done + len(starts))) \
-                    or not np.array_equal(fields[starts + 1], lengths - 2):
-                raise BadInstance(f"{path}: no line of the precedence file of these blocks")
-            is_predecessor = np.ones(len(fields), dtype=bool)
-            is_predecessor[starts] = is_predecessor[starts + 1] = False
-            done += len(starts)
-            yield lengths - 2, fields[is_predecessor]
+    for piece in _pieces(path):
+        lengths = line_lengths(piece)
+        if not len(lengths):
+            continue
+        fields = integers_of(piece)
+        starts = np.cumsum(lengths) - lengths
+        if len(fields) != lengths.sum() or lengths.min() < 2 \
+                or not np.array_equal(fields[starts], np.arange(done, done + len(starts))) \
+                or not np.array_equal(fields[starts + 1], lengths - 2):
+            raise UserError(f"{path}: no line of the precedence file of these blocks")
+        is_predecessor = np.ones(len(fields), dtype=bool)
+        is_predecessor[starts] = is_predecessor[starts + 1] = False
+        done += len(starts)
+        yield lengths - 2, fields[is_predecessor]
 
 
 def read_precedence(path: str, blocks: Optional[int] = None) -> sparse.csr_matrix:
     """A precedence file as a matrix (n, n), 1 at (b, p) where block b waits for block p.
 
-    It takes 5 bytes an arc. Raises BadInstance as `precedence_pieces` does, where there are not as
+    It takes 5 bytes an arc. Raises UserError as `precedence_pieces` does, where there are not as
     many lines as blocks, and where a predecessor is none of them.
     """
     counts, above = [], []
     for count, predecessors in precedence_pieces(path):
         counts.append(count)
         if len(predecessors) and not 0 <= predecessors.min() <= predecessors.max() < 2**31:
-            raise BadInstance(f"{path}: a predecessor is no block")
+            raise UserError(f"{path}: a predecessor is no block")
         above.append(predecessors.astype(np.int32))
     starts = (np.concatenate([[0], np.cumsum(np.concatenate(counts))]) if counts
               else np.zeros(1, int))
     n = len(starts) - 1
     indices = np.concatenate(above) if above else np.empty(0, np.int32)
     if blocks is not None and n != blocks:
-        raise BadInstance(f"{path}: it has {n} lines, and there are {blocks} blocks")
+        raise UserError(f"{path}: it has {n} lines, and there are {blocks} blocks")
     if len(indices) and indices.max() >= n:
-        raise BadInstance(f"{path}: a predecessor is no block: {indices.max()}")
+        raise UserError(f"{path}: a predecessor is no block: {indices.max()}")
     starts = starts.astype(np.int32 if starts[-1] < 2**31 else np.int64)
     matrix = sparse.csr_matrix((n, n), dtype=np.int8)
     matrix.indptr, matrix.indices = starts, indices
@@ -427,18 +402,17 @@ def count_predecessors(path: str) -> np.ndarray:
     """How many predecessors each line of a precedence file names by its second field, (n,).
 
     What follows that field is skipped, so a file of hundreds of millions of arcs takes seconds.
-    Raises BadInstance where identifiers are not 0, 1, 2, ..
+    Raises UserError where identifiers are not 0, 1, 2, ..
     """
     counts, done = [], 0
-    with _opened(path) as file:
-        for piece in filter(bytes.strip, _pieces(file, path)):
-            fields = integers_of(_heads(piece))
-            ids = fields[::2]
-            if not len(ids) or len(fields) % 2 \
-                    or not np.array_equal(ids, np.arange(done, done + len(ids))):
-                raise BadInstance(f"{path}: no line of the precedence file of these blocks")
-            done += len(ids)
-            counts.append(fields[1::2])
+    for piece in _pieces(path):
+        fields = integers_of(_heads(piece))
+        ids = fields[::2]
+        if not len(ids) or len(fields) % 2 \
+                or not np.array_equal(ids, np.arange(done, done + len(ids))):
+            raise UserError(f"{path}: no line of the precedence file of these blocks")
+        done += len(ids)
+        counts.append(fields[1::2])
     return np.concatenate(counts) if counts else np.empty(0, dtype=np.int64)
 
 
@@ -468,55 +442,50 @@ class _Model:
         """Pieces of lines, each with the section that has them, and an empty one where a section
         begins. Header lines are taken on the way."""
         section = ""
-        with _opened(self.path) as file:
-            for piece in _pieces(file, self.path):
-                while (colon := piece.find(b":")) >= 0:
-                    start = piece.rfind(b"\n", 0, colon) + 1
-                    end = piece.find(b"\n", colon)
-                    if start and piece[:start].strip():
-                        yield section, piece[:start]
-                    key = piece[start:colon].strip().decode("utf-8", "replace")
-                    value = piece[colon + 1:end].strip().decode("utf-8", "replace")
-                    if value:
-                        self._take(key, value, section)
-                    else:
-                        section = key
-                        yield section, b""
-                    piece = piece[end + 1:]
-                if piece.strip():
-                    yield section, piece
+        for piece, is_key in chain.from_iterable(Piece(self.path, 1, text).at_keys()
+                                                 for text in _pieces(self.path)):
+            if not is_key and piece.text.strip():
+                yield section, piece.text
+            if is_key:
+                line = piece.text.decode("utf-8", "replace")
+                key, value = map(str.strip, line.split(":", 1))
+                if value:
+                    self._take(key, value, section)
+                else:
+                    section = key
+                    yield section, b""
 
     def _take(self, key: str, value: str, section: str) -> None:
         """A line of the header."""
         if key not in KEYS or section:
             where = f"below {section}" if section else "in the header"
-            raise BadInstance(f"{self.path}: no key {quoted(key)} stands {where} of a model")
+            raise UserError(f"{self.path}: no key {quoted(key)} stands {where} of a model")
         if key in self.header:
-            raise BadInstance(f"{self.path}: {key} stands twice")
+            raise UserError(f"{self.path}: {key} stands twice")
         self.header[key] = value
 
     def number(self, key: str) -> float:
         text = self.header.get(key, "")
         number = number_of(text)
         if number is None:
-            raise BadInstance(f"{self.path}: no number behind {key}: {quoted(text)}")
+            raise UserError(f"{self.path}: no number behind {key}: {quoted(text)}")
         return float(_rounded(np.array([number]), self.path, 6)[0])
 
     def count(self, key: str, least: int = 0, most: Optional[int] = None) -> int:
-        """The whole number behind a key. Raises BadInstance where it is none, or lies outside."""
+        """The whole number behind a key. Raises UserError where it is none, or lies outside."""
         number = self.number(key)
         if number % 1 or number < 0:
-            raise BadInstance(f"{self.path}: {key} is no count: {quoted(self.header[key])}")
+            raise UserError(f"{self.path}: {key} is no count: {quoted(self.header[key])}")
         if number < least or most is not None and number > most:
-            raise BadInstance(f"{self.path}: {key} is {quoted(self.header[key])}, and no number "
-                              f"from {least} to {most}")
+            raise UserError(f"{self.path}: {key} is {quoted(self.header[key])}, and no number "
+                            f"from {least} to {most}")
         return int(number)
 
     def name(self) -> str:
-        """Its NAME. Raises BadInstance where it has none, or one that is none."""
+        """Its NAME. Raises UserError where it has none, or one that is none."""
         name = self.header.get("NAME", "")
         if not NAME.fullmatch(name):
-            raise BadInstance(f"{self.path}: NAME is {quoted(name)}, and has {WHAT_A_NAME_IS}")
+            raise UserError(f"{self.path}: NAME is {quoted(name)}, and has {WHAT_A_NAME_IS}")
         return name
 
 
@@ -524,7 +493,7 @@ def _objective_part(model: _Model, piece: bytes, destinations: int, done: int) -
     kinds: list[_Kind] = [np.int32, *[6] * destinations]
     ids, *values = _table(piece, model.path, "the objective", kinds)
     if not np.array_equal(ids, np.arange(done, done + len(ids))):
-        raise BadInstance(f"{model.path}: the objective's blocks are not 0, 1, 2, ..")
+        raise UserError(f"{model.path}: the objective's blocks are not 0, 1, 2, ..")
     return np.stack(values, axis=1)
 
 
@@ -541,7 +510,7 @@ class Outline:
 def read_outline(path: str, kind: str = "PCPSP") -> Outline:
     """The header, values and limits of a model file; its coefficients are counted and not read.
 
-    Raises BadInstance where it is none.
+    Raises UserError where it is none.
     """
     model, values, uses, limits = _read_model(path, kind, take_uses=_lines_in)
     _counts_of(model)
@@ -549,10 +518,10 @@ def read_outline(path: str, kind: str = "PCPSP") -> Outline:
 
 
 def _counts_of(model: _Model) -> tuple[int, int, float]:
-    """Its periods, its resources, and its rate. Raises BadInstance where one is none."""
+    """Its periods, its resources, and its rate. Raises UserError where one is none."""
     rate = model.number("DISCOUNT_RATE")
     if not 0 <= rate <= 1:
-        raise BadInstance(f"{model.path}: DISCOUNT_RATE is {rate:g}, and no number from 0 to 1")
+        raise UserError(f"{model.path}: DISCOUNT_RATE is {rate:g}, and no number from 0 to 1")
     return (model.count("NPERIODS", 1, MOST_PERIODS),
             model.count("NRESOURCE_SIDE_CONSTRAINTS", 0, MOST_RESOURCES), rate)
 
@@ -580,7 +549,7 @@ def _limits_of(model: _Model, pieces: Iterable[bytes]) -> list[Limit]:
         numbers = [number for number in map(number_of, cells) if number is not None]
         if not len(cells) == len(numbers) == {"L": 3, "G": 3, "I": 4}.get(letter) \
                 or numbers[0] % 1 or numbers[1] % 1:
-            raise BadInstance(f"{model.path}: no limit: {quoted(line)}")
+            raise UserError(f"{model.path}: no limit: {quoted(line)}")
         resource, period, *ends = _rounded(np.array(numbers), model.path, 6).tolist()
         limits.append(Limit.of(int(resource), int(period), letter, ends))
     return limits
@@ -599,8 +568,8 @@ def _read_model(path: str, kind: str, take_uses: Callable[[_Model, bytes, int], 
     for section, piece in model.sections():
         if not piece:
             if to_come[:1] != [section]:
-                raise BadInstance(f"{path}: a section {quoted(section)} stands where a {kind} file "
-                                  f"has {to_come[0] if to_come else 'none'}")
+                raise UserError(f"{path}: a section {quoted(section)} stands where a {kind} file "
+                                f"has {to_come[0] if to_come else 'none'}")
             to_come.pop(0)
             if section == OBJECTIVE:
                 destinations = _destinations_of(model, kind)
@@ -612,30 +581,30 @@ def _read_model(path: str, kind: str, take_uses: Callable[[_Model, bytes, int], 
         elif section == LIMITS:
             limits.append(piece)
         else:
-            raise BadInstance(f"{path}: no line of a {kind} file: {_shown(piece)}")
+            raise UserError(f"{path}: no line of a {kind} file: {_shown(piece)}")
     if "NAME" not in model.header:
-        raise BadInstance(f"{path}: no line of a {kind} file: it has no NAME")
+        raise UserError(f"{path}: no line of a {kind} file: it has no NAME")
     if to_come:
-        raise BadInstance(f"{path}: it has no section {to_come[0]}: was it cut short?")
+        raise UserError(f"{path}: it has no section {to_come[0]}: was it cut short?")
     whole = np.concatenate(values) if values else np.empty((0, destinations))
     if model.count("NBLOCKS") != len(whole):
-        raise BadInstance(f"{path}: NBLOCKS is {model.count('NBLOCKS')}, and {len(whole)} blocks "
-                          "have values")
+        raise UserError(f"{path}: NBLOCKS is {model.count('NBLOCKS')}, and {len(whole)} blocks "
+                        "have values")
     if not len(whole):
-        raise BadInstance(f"{path}: there are no blocks")
+        raise UserError(f"{path}: there are no blocks")
     return model, whole, uses, limits
 
 
 def _destinations_of(model: _Model, kind: str) -> int:
-    """How many values a block has. Raises BadInstance where the model is of another kind."""
+    """How many values a block has. Raises UserError where the model is of another kind."""
     if model.header.get("TYPE") != kind:
-        raise BadInstance(f"{model.path}: TYPE is {quoted(model.header.get('TYPE', ''))} and not "
-                          f"{kind}")
+        raise UserError(f"{model.path}: TYPE is {quoted(model.header.get('TYPE', ''))} and not "
+                        f"{kind}")
     return model.count("NDESTINATIONS", 1, MOST_DESTINATIONS) if kind == "PCPSP" else 1
 
 
 def read_upit(path: str) -> UltimatePit:
-    """A UPIT file: its values, (n,), in units of 100 cents. Raises BadInstance where it is none."""
+    """A UPIT file: its values, (n,), in units of 100 cents. Raises UserError where it is none."""
     model, values, _, _ = _read_model(path, "UPIT")
     return UltimatePit(model.name(), values[:, 0])
 
@@ -644,7 +613,7 @@ def read_problem(path: str, kind: Optional[str] = None) -> Problem:
     """A PCPSP or a CPIT file: values (n, D) in units of 100 cents, uses and limits in tonnes, the
     rate for one period. The kind is that of the file's ending where none is given.
 
-    Raises BadInstance where it is none, a section is lacking, or its parts do not fit.
+    Raises UserError where it is none, a section is lacking, or its parts do not fit.
     """
     kind = kind or os.path.splitext(path)[1][1:].upper()
     if kind not in ("PCPSP", "CPIT"):
@@ -659,13 +628,13 @@ def read_problem(path: str, kind: Optional[str] = None) -> Problem:
 
 
 def _kind_of(path: str) -> str:
-    with _opened(path) as file:
+    with opened(path) as file:
         head = file.read(4096).decode("utf-8", "replace")
     for line in head.splitlines():
         key, _, value = line.partition(":")
         if key.strip() == "TYPE" and value.strip() in ("PCPSP", "CPIT"):
             return value.strip()
-    raise BadInstance(f"{path}: its TYPE is neither PCPSP nor CPIT")
+    raise UserError(f"{path}: its TYPE is neither PCPSP nor CPIT")
 
 
 def _look_at_ranges(problem: Problem, path: str) -> None:
@@ -674,11 +643,11 @@ def _look_at_ranges(problem: Problem, path: str) -> None:
                               ("destination", uses.destination, problem.destinations),
                               ("resource", uses.resource, problem.resources)):
         if len(column) and not 0 <= column.min() <= column.max() < end:
-            raise BadInstance(f"{path}: a coefficient's {what} is not below {end}")
+            raise UserError(f"{path}: a coefficient's {what} is not below {end}")
     for limit in problem.limits:
         if not (0 <= limit.resource < problem.resources and 0 <= limit.period < problem.periods):
-            raise BadInstance(f"{path}: a limit's resource or period is not there: "
-                              f"{limit.resource} {limit.period}")
+            raise UserError(f"{path}: a limit's resource or period is not there: "
+                            f"{limit.resource} {limit.period}")
 
 
 def read_instance(base: str, texts: Sequence[str] = TEXTS,
@@ -686,7 +655,7 @@ def read_instance(base: str, texts: Sequence[str] = TEXTS,
     """The files BASE.blocks and so on, those of `texts`; BASE.upit and BASE.cpit may be lacking.
     The precedence file is the one at `precedence` where it is given, as that of `pitc_thin`.
 
-    Raises BadInstance where a file is none, or they are of other numbers of blocks.
+    Raises UserError where a file is none, or they are of other numbers of blocks.
     """
     readers: dict[str, Callable[[str], Any]] = {
         "blocks": read_blocks, "prec": read_precedence, "upit": read_upit,
@@ -695,7 +664,7 @@ def read_instance(base: str, texts: Sequence[str] = TEXTS,
     parts: dict[str, Any] = {}
     for text in texts:
         path = precedence if text == "prec" and precedence is not None else f"{base}.{text}"
-        if text in ("upit", "cpit") and not _is_there(path):
+        if text in ("upit", "cpit") and status_of(path) is None:
             continue
         parts["precedence" if text == "prec" else text] = readers[text](path)
     sizes: dict[str, Callable[[Any], int]] = {"blocks": len,
@@ -704,7 +673,7 @@ def read_instance(base: str, texts: Sequence[str] = TEXTS,
               for name, part in parts.items()}
     if len(set(counts.values())) > 1:
         told = ", ".join(f"{name} {count}" for name, count in counts.items())
-        raise BadInstance(f"{base}: the files are not of as many blocks: {told}")
+        raise UserError(f"{base}: the files are not of as many blocks: {told}")
     return Instance(**parts)
 
 
@@ -779,17 +748,14 @@ def _uses_lines(uses: Uses, with_destination: bool) -> Iterator[bytes]:
 
 
 def _write(path: str, kind: str, pieces: Iterable[bytes], remark: str) -> None:
-    try:
-        with outputs.opened(path, kind) as file:
-            for piece in chain([f"% {remark}\n".encode()] if remark else [], pieces):
-                file.write(piece)
-    except OSError as error:
-        raise BadInstance(f"cannot write {path}: {error.strerror}") from None
+    with outputs.opened(path, kind) as file:
+        for piece in chain([f"% {remark}\n".encode()] if remark else [], pieces):
+            file.write(piece)
 
 
 def _judge(holds: bool, told: str) -> None:
     if not holds:
-        raise BadInstance(f"{told}: pitc check would refuse it, and nothing was written")
+        raise UserError(f"{told}: pitc check would refuse it, and nothing was written")
 
 
 def _judge_for_pitc(instance: Instance) -> None:
@@ -846,7 +812,8 @@ def write_instance(instance: Instance, base: str, end: bytes = b"", remark: str 
 
     Raises UserError for what `pitc check` refuses: a name, number or order that no file of `pitc`
     has, parts of other numbers of blocks. `as_published` leaves ranges and orders to others. Raises
-    it also for a number that has more decimals than its file, and where a file cannot be written.
+    it also for a number that has more decimals than its file, and OSError where a file cannot be
+    written.
     """
     if not as_published:
         _judge_for_pitc(instance)

@@ -6,11 +6,10 @@ from typing import Optional
 import numpy as np
 
 from pit_tools import outputs
-from pit_tools.decimals import whole_of
 from pit_tools.errors import UserError, quoted
 from pit_tools.instance import Blocks
 from pit_tools.plan_note import PlanNote
-from pit_tools.published_lines import numbered_lines
+from pit_tools.published_lines import block_lines
 from pit_tools.spelling import multiples_of
 
 
@@ -20,11 +19,7 @@ def read_pit(path: str, blocks: Optional[int] = None) -> np.ndarray:
     Raises UserError where a line begins with no identifier below `blocks`, or one stands twice.
     """
     found = []
-    for number, line in numbered_lines(path):
-        fields = line.split()
-        if not fields:
-            continue
-        block = whole_of(fields[0])
+    for number, block, fields in block_lines(path):
         if block is None or (blocks is not None and block >= blocks):
             raise UserError(f"{path}: line {number}: {quoted(fields[0])} is no block")
         found.append(block)

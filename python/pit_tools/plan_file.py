@@ -405,11 +405,7 @@ class _Reader:
 def read_text(path: str) -> str:
     """The text of a plan. It raises UserError where it is longer than any plan, OSError for a file
     that cannot be read."""
-    inputs.reads(path)
-    with open(path, "rb") as file:
-        content = file.read(MOST_PLAN_BYTES + 1)
-    if len(content) > MOST_PLAN_BYTES:
-        raise UserError(f"{path}: it has more than {MOST_PLAN_BYTES:,} bytes, and so it is no plan")
+    content = inputs.content_of(path, MOST_PLAN_BYTES, ", and so it is no plan")
     return content.decode("utf-8", "replace").removeprefix("\ufeff")
 
 

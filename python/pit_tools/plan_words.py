@@ -12,7 +12,7 @@ from typing import Callable, Optional, Sequence
 from pit_tools.contacts import Contacts
 from pit_tools.decimals import LONGEST, decimal_of, plain
 from pit_tools.destination_doubts import destination_doubts
-from pit_tools.errors import UserError
+from pit_tools.errors import UserError, quoted
 from pit_tools.formats import NAME, WHAT_A_NAME_IS
 from pit_tools.plan_file import (Destination, FourSlopes, Grid, Limit, Plan, Resource, Zone,
                                  destination_record, zone_record)
@@ -458,7 +458,7 @@ def _periods(text: str, told: Told) -> tuple[int, int]:
     found = re.fullmatch(r"(\d{1,9})\s*([a-z-]*?)s?", text.strip())
     unit = found[2] if found and found[2] else "year"
     if not found or unit not in PERIODS or not 1 <= int(found[1]) <= 100:
-        raise UserError(f"--periods: `{text}`: give 1 to 100, as 12 years; known are "
+        raise UserError(f"--periods: {quoted(text)}: give 1 to 100, as 12 years; known are "
                         f"{', '.join(PERIODS)}")
     told.lines.append((f"periods,{int(found[1])}",
                        f"{int(found[1])} {unit}{'s' if int(found[1]) > 1 else ''}, counted from 0"))
@@ -469,14 +469,14 @@ def _rate(text: str, in_year: int, told: Told) -> Decimal:
     """The discount rate of a period, of one a year."""
     found = re.fullmatch(rf"({NUMBER})\s*%\s*(?:a\s+(year|period))?", text.strip())
     if not found or not 0 <= (percent := amount_of(found[1], "--rate").value) <= 100:
-        raise UserError(f"--rate: `{text}`: give percent a year, as 8 %")
+        raise UserError(f"--rate: {quoted(text)}: give percent a year, as 8 %")
     yearly = rate = percent / 100
     said = f"{found[1]} % a {found[2] or 'year'}"
     if in_year > 1 and found[2] != "period":
         rate = Decimal(str(round((1 + float(yearly)) ** (1 / in_year) - 1, 6)))
         said += f", which is {plain(rate * 100)} % a period"
     if round(rate, 6) != rate:
-        raise UserError(f"--rate: `{text}`: percent have 4 decimals at the most")
+        raise UserError(f"--rate: {quoted(text)}: percent have 4 decimals at the most")
     told.lines.append((f"rate,{plain(rate)}", said))
     return rate
 
@@ -549,11 +549,11 @@ def _ends_of(text: str, name: str, divide: int) -> tuple[str, Optional[Decimal],
         return "G", _tonnage(least[1], name, divide), None
     between = re.fullmatch(r"(.*) to (.*)", text)
     if not between:
-        raise UserError(f"--limit: {name}: `{text}`: say `at most 2.5 Mt`, `at least 1 Mt` or `1 "
-                        "Mt to 6 Mt`")
+        raise UserError(f"--limit: {name}: {quoted(text)}: say `at most 2.5 Mt`, `at least 1 Mt` "
+                        "or `1 Mt to 6 Mt`")
     low, high = (_tonnage(between[at], name, divide) for at in (1, 2))
     if low > high:
-        raise UserError(f"--limit: {name}: `{text}` falls")
+        raise UserError(f"--limit: {name}: {quoted(text)} falls")
     return "I", low, high
 
 

@@ -18,7 +18,7 @@ import numpy as np
 import pandas as pd
 
 from pit_tools import inputs
-from pit_tools.decimals import fault_of, may_be_misread
+from pit_tools.decimals import fault_of, may_be_misread, whole_of
 from pit_tools.errors import UserError, quoted
 from pit_tools.spelling import EXACT, FEWEST, NotHeld, nearest
 
@@ -90,6 +90,19 @@ class Piece:
                              f"{most}")
         return numbers.astype(np.int32)
 
+    def at_keys(self) -> Iterator[tuple["Piece", bool]]:
+        """Its lines with a colon, and what stands between them: whether it is such a line."""
+        done, number = 0, self.first
+        while done < len(self.text):
+            colon = self.text.find(b":", done)
+            start = self.text.rfind(b"\n", done, colon) + 1 or done
+            is_key = start == done and colon >= 0
+            end = (self.text.find(b"\n", colon) + 1 if is_key else start if colon >= 0
+                   else len(self.text))
+            yield Piece(self.path, number, self.text[done:end]), is_key
+            number += self.text.count(b"\n", done, end)
+            done = end
+
     def between(self, start: int, end: int) -> "Piece":
         """The lines between two places of its text, each behind a line end."""
         return Piece(self.path, self.first + self.text.count(b"\n", 0, start), self.text[start:end])
@@ -135,25 +148,43 @@ def numbered_lines(path: str, most: int = MOST_LINE) -> Iterator[tuple[int, str]
             yield number, line
 
 
-def whole_lines(file: BinaryIO, path: str) -> Iterator[bytes]:
+def block_lines(path: str) -> Iterator[tuple[int, Optional[int], list[str]]]:
+    """The lines of a pit or a schedule that have fields: their numbers, the block that begins each,
+    None where that is none, and the fields. Raises UserError as `numbered_lines` does."""
+    for number, line in numbered_lines(path):
+        if fields := line.split():
+            yield number, whole_of(fields[0]), fields
+
+
+def opened(path: str) -> BinaryIO:
+    """A file that the command reads. Raises UserError where it cannot be opened."""
+    try:
+        inputs.reads(path)
+        return open(path, "rb")
+    except OSError as error:
+        raise UserError(f"cannot open {path}: {error.strerror}") from None
+
+
+def whole_lines(path: str) -> Iterator[bytes]:
     """The bytes of a file, cut at line ends, without a mark at the front.
 
-    Raises UserError, with the line, where one is longer than 64 MB.
+    Raises UserError where it cannot be opened and, with the line, where one is longer than 64 MB.
     """
-    rest, number = file.read(3), 1
-    rest = b"" if rest == b"\xef\xbb\xbf" else rest
-    while more := file.read(_PIECE):
-        cut = more.rfind(b"\n") + 1
-        if cut:
-            number += rest.count(b"\n") + more.count(b"\n")
-            yield rest + more[:cut]
-            rest = more[cut:]
-        else:
-            rest += more
-        if len(rest) > LONGEST:
-            raise UserError(f"{path}: line {number} is longer than {LONGEST >> 20} MB")
-    if rest:
-        yield rest + b"\n"
+    with opened(path) as file:
+        rest, number = file.read(3), 1
+        rest = b"" if rest == b"\xef\xbb\xbf" else rest
+        while more := file.read(_PIECE):
+            cut = more.rfind(b"\n") + 1
+            if cut:
+                number += rest.count(b"\n") + more.count(b"\n")
+                yield rest + more[:cut]
+                rest = more[cut:]
+            else:
+                rest += more
+            if len(rest) > LONGEST:
+                raise UserError(f"{path}: line {number} is longer than {LONGEST >> 20} MB")
+        if rest:
+            yield rest + b"\n"
 
 
 def pieces_of(path: str) -> Iterator[Piece]:
@@ -162,27 +193,21 @@ def pieces_of(path: str) -> Iterator[Piece]:
     Raises UserError where it cannot be opened, is no text, or has lines behind `EOF`.
     """
     number, has_ended = 1, False
-    inputs.reads(path)
-    try:
-        file = open(path, "rb")
-    except OSError as error:
-        raise UserError(f"cannot open {path}: {error.strerror}") from None
-    with file:
-        for text in whole_lines(file, path):
-            count = text.count(b"\n")
-            if b"\0" in text:
-                raise UserError(f"{path}: it has bytes of 0: no text of ASCII or UTF-8")
-            piece = Piece(path, number, _plain(text))
-            if end := _END.search(piece.text) if b"f" in text or b"F" in text else None:
-                behind = piece.between(end.end() + 1, len(piece.text))
-                piece, has_ended = piece.between(0, end.start()), True
-            elif has_ended:
-                piece, behind = Piece(path, number, b""), piece
-            if has_ended and behind.text.strip():
-                behind.refuse(0, "it stands behind EOF")
-            number += count
-            if piece.text.strip():
-                yield piece
+    for text in whole_lines(path):
+        count = text.count(b"\n")
+        if b"\0" in text:
+            raise UserError(f"{path}: it has bytes of 0: no text of ASCII or UTF-8")
+        piece = Piece(path, number, _plain(text))
+        if end := _END.search(piece.text) if b"f" in text or b"F" in text else None:
+            behind = piece.between(end.end() + 1, len(piece.text))
+            piece, has_ended = piece.between(0, end.start()), True
+        elif has_ended:
+            piece, behind = Piece(path, number, b""), piece
+        if has_ended and behind.text.strip():
+            behind.refuse(0, "it stands behind EOF")
+        number += count
+        if piece.text.strip():
+            yield piece
 
 
 def _plain(text: bytes) -> bytes:

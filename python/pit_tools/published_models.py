@@ -7,6 +7,7 @@ from __future__ import annotations
 import difflib
 import os
 import re
+from itertools import chain
 from typing import Iterator, Optional
 
 import numpy as np
@@ -46,28 +47,17 @@ class Model:
         """Pieces of the lines of sections, each with its section's name. Key lines are taken on
         the way; a second way through the file takes none."""
         section, is_first = "", not self.header
-        for piece in pieces_of(self.path):
-            done, number = 0, piece.first
-            while (colon := piece.text.find(b":", done)) >= 0:
-                start = piece.text.rfind(b"\n", done, colon) + 1 or done
-                end = piece.text.find(b"\n", colon) + 1
-                lines = Piece(self.path, number, piece.text[done:start])
-                yield from self._lines(section, lines)
-                number += lines.text.count(b"\n")
-                key_line = Piece(self.path, number, piece.text[start:end])
-                section = self._key_line(key_line, is_first) or section
-                done, number = end, number + 1
-            yield from self._lines(section, Piece(self.path, number, piece.text[done:]))
+        for piece, is_key in chain.from_iterable(map(Piece.at_keys, pieces_of(self.path))):
+            if is_key:
+                section = self._key_line(piece, is_first) or section
+            elif piece.text.strip():
+                if not section:
+                    piece.refuse(0, "it stands before the first section")
+                yield section, piece
 
     def rows(self, section: str) -> Iterator[Piece]:
         """The pieces of one section, by another way through the file."""
         return (piece for name, piece in self.parts() if name == section)
-
-    def _lines(self, section: str, piece: Piece) -> Iterator[tuple[str, Piece]]:
-        if piece.text.strip():
-            if not section:
-                piece.refuse(0, "it stands before the first section")
-            yield section, piece
 
     def _key_line(self, piece: Piece, is_first: bool) -> str:
         """Takes a line with a colon; answers the section that it begins, if it does."""

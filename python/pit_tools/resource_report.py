@@ -195,11 +195,7 @@ def read_report(path: str, known: Known, statement: Statement) -> None:
 
 def _records_of(path: str) -> list[tuple[int, list[str]]]:
     """The lines of a report with their cells, beginning with the first that has any."""
-    inputs.reads(path)
-    with open(path, "rb") as file:
-        content = file.read(MOST_BYTES + 1)
-    if len(content) > MOST_BYTES:
-        raise UserError(f"{path}: it has more than {MOST_BYTES:,} bytes: is it a resource report?")
+    content = inputs.content_of(path, MOST_BYTES, ": is it a resource report?")
     try:
         text = content.decode("utf-8-sig")
     except UnicodeDecodeError:

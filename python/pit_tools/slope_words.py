@@ -59,11 +59,11 @@ def slopes_of(text: str) -> FourSlopes:
             raise UserError(f"`{part}`: a slope by side is as `E 56`: the sides are E, W, N and S, "
                             "or +x, -x, +y and -y")
         if side in found:
-            raise UserError(f"`{text}` names {SIDES[side]} twice")
+            raise UserError(f"{quoted(text)} names {SIDES[side]} twice")
         found[side] = _one_slope(slope.strip())
     if len(found) < 4:
         lacking = ", ".join(SIDES[side] for side in range(4) if side not in found)
-        raise UserError(f"`{text}` has no slope for {lacking}")
+        raise UserError(f"{quoted(text)} has no slope for {lacking}")
     return (found[0], found[1], found[2], found[3])
 
 
@@ -72,7 +72,7 @@ def _one_slope(text: str) -> Slope:
     if ratio:
         slope = Slope(int(ratio[1]), int(ratio[2]))
         if not (1 <= slope.rise <= 1000 and 1 <= slope.run <= 1000):
-            raise UserError(f"`{text}`: rise and run are 1 to 1000")
+            raise UserError(f"{quoted(text)}: rise and run are 1 to 1000")
         return slope
     degrees = number_of(re.sub(r"(?<!\s)\s*(°|degrees|deg)$", "", text))
     if degrees is None:

@@ -36,7 +36,7 @@ class Change:
     def of(cls, text: str) -> "Change":
         cell, equals, values = text.partition("=")
         if not equals or not values:
-            raise UserError(f"`{text}` is no CELL=VALUE,VALUE")
+            raise UserError(f"{quoted(text)} is no CELL=VALUE,VALUE")
         return cls(cell.strip(), tuple(values.split(";" if cell.startswith("slope") else ",")))
 
 

@@ -12,7 +12,7 @@ import pandas as pd
 
 from pit_tools import inputs, outputs
 from pit_tools.decimals import parts_of
-from pit_tools.errors import UserError
+from pit_tools.errors import UserError, quoted
 from pit_tools.published_lines import line_lengths, whole_lines
 from pit_tools.source import refuse_pipe, widths_of
 from pit_tools.spelling import lines_of
@@ -82,7 +82,8 @@ def _numbers_of(table: pd.DataFrame, at: dict[str, int], path: str) -> pd.DataFr
         if wrong.any():
             row = int(np.flatnonzero(wrong)[0])
             text = table[at[column]].iloc[row]
-            raise UserError(f"{path}: row {table.index[row] + 1}: column {column} has `{text}`")
+            raise UserError(f"{path}: row {table.index[row] + 1}: column {column} has "
+                            f"{quoted(text)}")
     return pd.DataFrame(found, index=table.index + 1)
 
 
@@ -110,6 +111,4 @@ def append_rows(file: IO[bytes], rows: pd.DataFrame) -> None:
 def count_lines(path: str) -> int:
     """How many lines a zone file has below its header, blank ones left out."""
     refuse_pipe(path)
-    inputs.reads(path)
-    with open(path, "rb") as file:
-        return max(sum(len(line_lengths(piece)) for piece in whole_lines(file, path)) - 1, 0)
+    return max(sum(len(line_lengths(piece)) for piece in whole_lines(path)) - 1, 0)
