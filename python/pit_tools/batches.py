@@ -115,14 +115,14 @@ def finish(listed: BatchList, build: str, made: dict[Entry, Made], is_right: boo
     changed = _changed(listed, made)
     if changed:
         return [f"{name} was changed while the batch ran" for name in changed]
-    inputs = {listed.path: listed.sum}
+    read = {listed.path: listed.sum}
     written = {name: hashlib.sha256(content.encode()).hexdigest()
                for name, content in tables.items()}
     for entry in listed.entries:
         for name, found in made[entry].sums.items():
-            (inputs if name in entry.inputs else written)[name] = found
+            (read if name in entry.inputs else written)[name] = found
     outcome, source = (tuple(records.File(name, os.path.getsize(name), found)
-                             for name, found in part.items()) for part in (written, inputs))
+                             for name, found in part.items()) for part in (written, read))
     with outputs.opened("MANIFEST", KINDS["MANIFEST"], "utf-8") as file:
         file.write(records.Record("MANIFEST", "batch", outcome, source).text)
     return []

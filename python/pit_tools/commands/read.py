@@ -29,7 +29,8 @@ def add_arguments(parser: argparse.ArgumentParser) -> None:
     parser.add_argument("base", help="the instance: BASE.blocks, BASE.prec, BASE.upit, BASE.pcpsp, "
                         "BASE.cpit")
     add_precedence_option(parser)
-    parser.add_argument("--write", dest="out", metavar="BASE", help="writes the files at another base")
+    parser.add_argument("--write", dest="out", metavar="BASE",
+                        help="writes the files at another base")
     parser.add_argument("--arrays", metavar="FILE", help="writes blocks, values, uses and the "
                         "precedences' indptr and indices into a .npz file")
     parser.add_argument("--immediate", metavar="BASE", help="writes the files with fewer arcs at "
