@@ -192,7 +192,7 @@ WIDTHS = {"a cell less": -1, "an empty cell more": 1}
 RECORDS = {"name,two": "Twice", "pit,1": "Key", "periods": "Width", "rate,x": "Number", "rate,0.0000001": "TooFine", "zone,1,1,21": "Range",
            "resource,t,none": "Name", "limit,r,3,I,2,1": "Order", "leach,q,1,1" + "".join(f",{start},1" for start in range(257)): "TooMany"}
 FAULTS = [*CELLS, *WIDTHS, *RECORDS, "again", "a file more", "a file that is not there"]
-FAULTY = {**MODELS, "box": ["a row", "27"], "files": [1, 2, 10], "limits": list(LIMITS)[1:], "fault": FAULTS, "file": ["first", "last"],
+FAULTY = {**MODELS, "side": ["none"], "masses": list(MASSES)[:2], "box": ["a row", "27"], "files": [1, 2, 10], "limits": list(LIMITS)[1:], "fault": FAULTS, "file": ["first", "last"],
           "place": ["first", "last"], "behind": ["good files", "faulty files", "files that repeat"]}
 
 
