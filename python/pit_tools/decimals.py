@@ -145,10 +145,10 @@ def parts_of(texts: pd.Series, places: int,
     are known already; where one is NaN, the text is taken for none."""
     if floats is None:
         floats = floats_of(texts)
-    scaled = floats * 10.0 ** places
-    wrong = ~np.isfinite(scaled)
-    scaled[wrong] = 0
-    scaled = np.clip(scaled, -MOST, MOST)
+    wrong = ~np.isfinite(floats)
+    # A product that has no float is beyond MOST too.
+    most = MOST / 10.0 ** places
+    scaled = np.clip(np.where(wrong, 0, floats), -most, most) * 10.0 ** places
     room = np.abs(scaled) * ROOM + 1e-9
     down = np.floor(scaled)
     near = np.abs(scaled - down - 0.5) <= room

@@ -61,6 +61,7 @@ STOPS = [
     (lambda: with_cell(20, 5, ""), {}, "line 21: it has tonnes and no zone, as 1 rows"),
     (lambda: with_cell(20, 3, "2700000000"), {}, "line 21: a block has 2,700,000,000 t"),
     (lambda: with_cell(20, 4, "2000000"), {}, "more than all metal"),
+    (lambda: with_cell(20, 4, "1e305"), {}, "more than all metal"),
     (lambda: with_cell(20, 0, "43"), {}, "x has 6 values, and a grid of 1 would have 44 places"),
     (lambda: with_cell(20, 0, "43"), {"size": "10,10,10"},
      "x 43 is 3 beside the grid of 10 through 0"),

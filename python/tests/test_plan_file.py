@@ -74,6 +74,11 @@ def test_decimals_are_rounded_as_decimals(text, places, parts):
     assert found.tolist() == [parts] and not wrong.any()
 
 
+def test_a_number_whose_parts_no_float_holds_is_none_that_is_missing():
+    found, wrong = parts_of(pd.Series(["1e306", "-1e306", "1e30", "2"]), 6)
+    assert found.tolist() == [10**18, -10**18, 10**18, 2_000_000] and not wrong.any()
+
+
 def test_what_is_no_number_is_told():
     found, wrong = parts_of(pd.Series(["1.5", "", None, "n/a", "inf"]), 3)
     assert wrong.tolist() == [False, True, True, True, True]
