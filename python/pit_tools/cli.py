@@ -164,10 +164,11 @@ def run(words: Sequence[str]) -> int:
     if command not in COMMANDS:
         raise UserError(_unknown(command))
     args = parser_of(command).parse_args(joined(words[1:]))
-    base, out = getattr(args, "base", None) or "", getattr(args, "out", None) or ""
-    if base.endswith("/") or out.endswith("/"):
-        raise UserError(f"{quoted(out if out.endswith('/') else base)} ends in a slash, and names "
-                        "no file: give a name in that folder")
+    base, *others = (getattr(args, name, None) or "" for name in ("base", "out", "arrays"))
+    for name in (*others, base):
+        if name.endswith("/"):
+            raise UserError(f"{quoted(name)} ends in a slash, and names no file: give a name in "
+                            "that folder")
     with inputs.of_command(args.force, args.edited, command):
         if base:
             inputs.looks_beside(base)

@@ -73,6 +73,7 @@ REFUSED = [
     (["pit", "mine", "--out="], "an empty word stands behind --out"),
     *[([*words], f"`{words[-1]}` ends in a slash, and names no file") for words in (
         ["pit", "mine", "--out", "f/"], ["read", "mine", "--write", "f/"], ["texts", "f/"],
+        ["read", "mine", "--arrays", "f/"],
         ["compile", "--plan", "mine.plan", "one.csv", "--out", "./"], [*SECTION[:-1], "f/"],
         ["import", "export.csv", "--x", "X", "--y", "Y", "--z", "Z", "--base", "f/"],
         ["minelib", "--publish", "mine", "--out", "f/"], ["nested", "mine.plan", "mine", "--out", "f/"])],
