@@ -66,6 +66,7 @@ class Cell(NamedTuple):
         yield ("+" if greatest >= 0 else "") + spelled(greatest, decimals), greatest, None
         if least <= 0 <= greatest:
             yield "-0", 0, None
+            yield "-0.00000", 0, None
             yield ".0", 0, None
         elif not decimals:
             yield ".1", None, "TooFine"
