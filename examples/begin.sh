@@ -1,5 +1,6 @@
 # Begins the commands of a page of recipes: makes a folder `work`, compiles the example deposit there and goes there, with the built pitc,
-# pitc_thin and pit-tools in the PATH, and with the deposit's zone files as $zones. A shell reads it, at the top of the repository, of an unpacked
+# pitc_thin and pit-tools in the PATH, and with the deposit's zone files as $zones
+# and the Python that has the packages as $python. A shell reads it, at the top of the repository, of an unpacked
 # archive, or of a copy of the pages where they are installed:
 #
 #     . examples/begin.sh
@@ -34,4 +35,6 @@
 PATH=$begun
 unset begun
 LC_ALL=C && export LC_ALL
+if [ -d python/pit_tools ]; then PYTHONPATH=$(pwd)/python && export PYTHONPATH; fi
+python=$(pit-tools --version | sed -n 's/^\(.*\) ([0-9.]*): .*/\1/p')
 cd work && zones="deposit-oxide.csv deposit-west.csv deposit-east.csv"

@@ -1,6 +1,6 @@
 """Computes an instance in Python, from the definition that docs/formats.md states, with the arguments of `pitc compile` and without its proof.
 
-    pit-tools python examples/definition.py compile --plan mine.plan --out mine from-west.csv from-east.csv from-oxide.csv
+    PYTHONPATH=python python3 examples/definition.py compile --plan mine.plan --out mine from-west.csv from-east.csv from-oxide.csv
 
 It is meant for small models while no pitc is built: it holds all arcs in memory, and accepts some models that pitc rejects. Each file begins with
 a comment that says that no proof covers it, and `pit-tools survey` repeats this comment.
@@ -11,8 +11,8 @@ import argparse
 import sys
 
 from pit_tools import instance_of, read_plan, write_instance
-from pit_tools.valuation import blocks_of
-from pit_tools.zone_files import read_zone_files
+from pit_tools.instances.valuation import blocks_of
+from pit_tools.plans.zone_files import read_zone_files
 
 NOT_PROVED = "computed by the Python definition, not by pitc: no proof covers it"
 

@@ -1,4 +1,4 @@
-"""The parts of docs/times.md and docs/lane.md that tools write: what they measured, of which commit, on which machine.
+"""The parts of docs/times.md that tools write: what they measured, of which commit, on which machine.
 
 A part stands between a line `<!-- NAME -->` and a line `<!-- end of NAME -->`. Its first line has the commit, and the machine where it is
 not the one that docs/times.md names at its beginning.
@@ -11,7 +11,7 @@ from typing import Iterable, List, Sequence
 
 import shared
 
-PAGES = ["docs/times.md", "docs/lane.md"]
+PAGE = "docs/times.md"
 PART = re.compile(r"(?ms)^<!-- (?!end of )([\w ]+) -->\n(.*?)^<!-- end of \1 -->$")
 COMMIT = re.compile(r"\bCommit ([0-9a-f]{8})\b")
 
@@ -40,7 +40,7 @@ def head() -> str:
     """The first line of a part, as it is to be before anything is measured. It names this machine where the page does not say so for all."""
     load, here = os.getloadavg()[0], machine()
     work = f"beside other work (a load of {load:.1f} at the beginning)" if load > 0.5 else "with no other work"
-    is_usual = f"of {here}, where they name no other" in " ".join(shared.read(os.path.join(shared.TOP, PAGES[0])).split())
+    is_usual = f"of {here}, unless they name another" in " ".join(shared.read(os.path.join(shared.TOP, PAGE)).split())
     return f"Commit {commit()}, {time.strftime('%Y-%m-%d', time.gmtime())}{'' if is_usual else '; ' + here}, {work}."
 
 
@@ -50,18 +50,15 @@ def table(columns: Sequence[str], rows: Iterable[Sequence[object]]) -> List[str]
 
 
 def parts() -> dict:
-    """The parts of the pages, by their names."""
-    found = [part for page in PAGES for part in PART.findall(shared.read(os.path.join(shared.TOP, page)))]
-    return dict(found)
+    """The parts of the page, by their names."""
+    return dict(PART.findall(shared.read(os.path.join(shared.TOP, PAGE))))
 
 
 def write_part(name: str, lines: Iterable[str]) -> None:
     """Puts these lines in place of the part of this name."""
-    for page in PAGES:
-        path = os.path.join(shared.TOP, page)
-        text = shared.read(path)
-        part = re.compile(rf"(?ms)^(<!-- {name} -->\n).*?^(<!-- end of {name} -->)$")
-        if part.search(text):
-            shared.write(path, part.sub(lambda found: found[1] + "\n".join(lines) + "\n" + found[2], text))
-            return
-    raise SystemExit(f"no page has a part {name}")
+    path = os.path.join(shared.TOP, PAGE)
+    text = shared.read(path)
+    part = re.compile(rf"(?ms)^(<!-- {name} -->\n).*?^(<!-- end of {name} -->)$")
+    if not part.search(text):
+        raise SystemExit(f"{PAGE} has no part {name}")
+    shared.write(path, part.sub(lambda found: found[1] + "\n".join(lines) + "\n" + found[2], text))

@@ -18,20 +18,21 @@ TYPE_CHECKING = False
 if TYPE_CHECKING:
     from typing import Any
 
-    from pit_tools.bounds import bounds_of
-    from pit_tools.closure import immediate, ultimate_pit
     from pit_tools.errors import UserError
-    from pit_tools.instance import (Blocks, Instance, Limit, Problem, UltimatePit, Uses, cents,
-                                    present, read_blocks, read_instance, read_precedence,
-                                    read_problem, read_upit, write_instance)
-    from pit_tools.minelib import read_published, write_published
-    from pit_tools.pits import read_pit, write_pit
-    from pit_tools.plan_file import Plan, read_plan
-    from pit_tools.programs import (Answer, Program, program_of, program_of_upit, schedule_of,
-                                    solve, write_lp)
-    from pit_tools.schedules import Check, Schedule, read_schedule, write_schedule
-    from pit_tools.schedules import check as check_schedule
-    from pit_tools.valuation import instance_of
+    from pit_tools.instances.files import (Blocks, Instance, Limit, Problem, UltimatePit, Uses,
+                                           cents, present, read_blocks, read_instance,
+                                           read_precedence, read_problem, read_upit, write_instance)
+    from pit_tools.instances.minelib import read_published, write_published
+    from pit_tools.instances.valuation import instance_of
+    from pit_tools.pits.closure import immediate, ultimate_pit
+    from pit_tools.pits.files import read_pit, write_pit
+    from pit_tools.plans.file import Plan, read_plan
+    from pit_tools.schedules.bounds import bounds_of
+    from pit_tools.schedules.files import (Check, Schedule, read_schedule, write_schedule,
+                                           check as check_schedule)
+    from pit_tools.schedules.lp_file import write_lp
+    from pit_tools.schedules.programs import (Answer, Program, program_of, program_of_upit,
+                                              schedule_of, solve)
 
 VERSION = "0.2.0"
 
@@ -48,16 +49,17 @@ __all__ = ["VERSION", "UserError",
 # The names by the modules that have them.
 _MODULES = {
     "errors": "UserError",
-    "instance": "Instance Blocks UltimatePit Problem Uses Limit present cents read_instance "
-                "read_blocks read_precedence read_upit read_problem write_instance",
-    "minelib": "read_published write_published",
-    "closure": "ultimate_pit immediate",
-    "pits": "read_pit write_pit",
-    "schedules": "Schedule Check read_schedule write_schedule check_schedule",
-    "programs": "Program Answer program_of program_of_upit write_lp solve schedule_of",
-    "bounds": "bounds_of",
-    "plan_file": "Plan read_plan",
-    "valuation": "instance_of",
+    "instances.files": "Instance Blocks UltimatePit Problem Uses Limit present cents read_instance "
+                       "read_blocks read_precedence read_upit read_problem write_instance",
+    "instances.minelib": "read_published write_published",
+    "instances.valuation": "instance_of",
+    "pits.closure": "ultimate_pit immediate",
+    "pits.files": "read_pit write_pit",
+    "plans.file": "Plan read_plan",
+    "schedules.bounds": "bounds_of",
+    "schedules.files": "Schedule Check read_schedule write_schedule check_schedule",
+    "schedules.lp_file": "write_lp",
+    "schedules.programs": "Program Answer program_of program_of_upit solve schedule_of",
 }
 _HOMES = {name: module for module, names in _MODULES.items() for name in names.split()}
 

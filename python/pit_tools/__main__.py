@@ -25,25 +25,17 @@ def look_nowhere_else() -> None:
     # removal.
     if os.stat(OWN).st_uid == 0 or os.environ.get("PYTHONDONTWRITEBYTECODE"):
         sys.dont_write_bytecode = True
-    from pit_tools.owners import may_add
+    from pit_tools.files.owners import may_add
 
     if sys.flags.isolated and may_add(site.getusersitepackages()):
         site.addsitedir(site.getusersitepackages())
 
 
-def lacking() -> str:
-    """What this Python lacks of what the package needs, which the launcher asks by --lacking."""
-    import importlib.util
-
-    if sys.version_info < (3, 9):
-        return "Python 3.9"
-    return " ".join(name for name in ("pandas", "numpy", "scipy", "matplotlib", "openpyxl")
-                    if not importlib.util.find_spec(name))
-
-
 def main() -> int:
     """Runs the words that the process was given."""
     look_nowhere_else()
+    from pit_tools.version import lacking
+
     if sys.argv[1:] == ["--lacking"]:
         print(lacking())
         return int(bool(lacking()))

@@ -14,43 +14,52 @@ import traceback
 from contextlib import contextmanager
 from typing import Any, Iterator, Optional, Sequence
 
-from pit_tools import VERSION, commands, inputs
+from pit_tools import commands
+from pit_tools.commands import former
 from pit_tools.errors import UserError, quoted
+from pit_tools.files import inputs
+from pit_tools.version import version
 
-# The subcommands with one line on each, in the order of the work.
-COMMANDS = {
-    "import": "zone files and the records grid and zone, of a package's export",
-    "plan": "a first plan, from words with units",
-    "slopes": "the walls that the cones of a plan give, for each K and by height",
-    "compile": "`pitc compile` with a bar of what it has read and written",
-    "survey": "what was understood of an instance, as text and as a page with pictures",
-    "back": "a pit or a schedule as coordinates, or on the rows of the export",
-    "report": "ore, waste, metal and value of a pit, by bench and destination",
-    "nested": "nested pits by price: tonnes, strip ratio and value of each",
-    "section": "sections through pits, drawn",
-    "shell": "pits as surfaces for the package, as DXF, VTK or OBJ",
-    "by-zone": "one instance of several plans, each for some zones",
-    "texts": "the sections that pitc prints, as files",
-    "read": "an instance as arrays and sparse matrices",
-    "python": "a script of your own, by the interpreter that has the packages",
-    "pit": "the ultimate pit, of an instance or of a plan for each K",
-    "lp": "linear programs of UPIT, CPIT and PCPSP",
-    "solve": "the best schedule of a small instance, and bounds by its relaxation",
-    "check-schedule": "whether a schedule holds, and what it is worth",
-    "dimacs": "the ultimate pit as a maximum flow, in DIMACS",
-    "bounds": "what no pit and no schedule can be worth more than",
-    "minelib": "published MineLib files to an instance, and back",
-    "deposit": "deposits by seed, size and shape",
-    "sample-export": "an export of zone files, to try import with",
-    "vary": "plans that differ in one cell",
-    "batch": "many instances, with a manifest of all that went in",
-    "library": "a small library of instances with bounds and best known schedules",
+#: The packages of `commands`, with the titles of their commands in the help.
+TITLES = {"planning": "plan a mine", "looking": "look at it", "solving": "solve it",
+          "making": "make many"}
+
+#: The commands with one line on each, by their packages, in the order of the work.
+GROUPS = {
+    "planning": {
+        "import": "zone files and the records grid and zone, of a package's export",
+        "plan": "a first plan, from words with units; how steep its walls are",
+        "compile": "`pitc compile` with a bar, and with the reasons of what it refuses",
+        "pit": "the ultimate pit, of an instance or of a plan for each K",
+        "back": "a pit or a schedule as coordinates, or on the rows of the export",
+        "by-zone": "one instance of several plans, each for some zones",
+    },
+    "looking": {
+        "survey": "what was understood of an instance: text, a page, pictures and sections",
+        "report": "ore, waste, metal and value of a pit, by bench and destination",
+        "nested": "nested pits by price: tonnes, strip ratio and value of each",
+        "shell": "pits as surfaces for the package, as DXF, VTK or OBJ",
+    },
+    "solving": {
+        "read": "an instance as arrays and sparse matrices",
+        "lp": "UPIT, CPIT and PCPSP as linear programs, UPIT as a maximum flow in DIMACS",
+        "solve": "the best schedule of a small instance, and bounds by its relaxation",
+        "bounds": "what no pit and no schedule can be worth more than",
+        "check-schedule": "whether a schedule holds, and what it is worth",
+        "minelib": "published MineLib files to an instance, and back",
+    },
+    "making": {
+        "deposit": "deposits by seed, size and shape, and an export to try import with",
+        "vary": "plans that differ in one cell",
+        "batch": "many instances, with a manifest of all that went in",
+        "bench": "solvers over many instances, within limits, with judged results",
+        "library": "a small library of instances with bounds and best known schedules",
+    },
 }
+COMMANDS = {command: told for group in GROUPS.values() for command, told in group.items()}
 
-MODULES = {"import": "import_"}
-
-#: Those that read nothing that a command wrote.
-UNJUDGED = ("deposit", "python", "texts")
+#: Those whose --out may be a folder.
+TO_FOLDERS = ("deposit", "library", "survey", "vary")
 
 #: What the system answers where nothing more can be written.
 FULL = (errno.ENOSPC, errno.EDQUOT, errno.EFBIG)
@@ -71,22 +80,9 @@ FORM: dict[str, Any] = {"allow_abbrev": False,
 
 
 def module_path(command: str) -> str:
-    """The module of a subcommand, without its package."""
-    return MODULES.get(command, command.replace("-", "_"))
-
-
-def version() -> str:
-    """The version, the interpreter, and the packages that it has."""
-    from importlib import metadata
-
-    packages = []
-    for name in ("pandas", "numpy", "scipy", "matplotlib", "openpyxl"):
-        try:
-            packages.append(f"{name} {metadata.version(name)}")
-        except metadata.PackageNotFoundError:
-            packages.append(f"no {name}")
-    numbers = ".".join(map(str, sys.version_info[:3]))
-    return f"pit-tools {VERSION}\n{sys.executable} ({numbers}): {', '.join(packages)}"
+    """The module of a subcommand, within `commands`."""
+    group = next(name for name, commands_in in GROUPS.items() if command in commands_in)
+    return f"{group}.{'import_' if command == 'import' else command.replace('-', '_')}"
 
 
 def parser_of(command: str) -> argparse.ArgumentParser:
@@ -94,15 +90,36 @@ def parser_of(command: str) -> argparse.ArgumentParser:
     return _filled(argparse.ArgumentParser(prog=f"pit-tools {command}", **FORM), command)
 
 
+class _Whole(argparse.ArgumentParser):
+    """The parser of all commands, whose help has them by their groups."""
+
+    def format_help(self) -> str:
+        form = self._get_formatter()
+        form.add_usage(self.usage, [one for one in self._actions if not one.choices], [])
+        form.add_text(self.description)
+        lines = [form.format_help().replace("]\n\n", "] COMMAND ...\n\n", 1)]
+        for group, commands_in in [*GROUPS.items(), ("", {"help": "the help of a command"})]:
+            title = f"{TITLES[group]}:\n" if group else ""
+            lines.append(title + "".join(f"    {command:<15} {told}\n"
+                                         for command, told in commands_in.items()))
+        form = self._get_formatter()
+        form.start_section("options")
+        form.add_arguments([one for one in self._actions if not one.choices])
+        form.end_section()
+        form.add_text(self.epilog)
+        return "\n".join([*lines, form.format_help()])
+
+
 def whole_parser() -> argparse.ArgumentParser:
     """The parser of all subcommands: the help, the man page and the completions are made from
     it."""
-    whole = argparse.ArgumentParser(prog="pit-tools", description=ABOUT, epilog=BEHIND, **FORM)
+    whole = _Whole(prog="pit-tools", description=ABOUT, epilog=BEHIND, **FORM)
     whole.add_argument("-V", "--version", action="store_true",
                        help="print the version, the interpreter and the packages")
     whole.add_argument(DEBUG, action="store_true",
                        help="show where in the program an error of its own arose")
-    parsers = whole.add_subparsers(title="commands", metavar="COMMAND")
+    parsers = whole.add_subparsers(title="commands", metavar="COMMAND",
+                                   parser_class=argparse.ArgumentParser)
     for command, told in COMMANDS.items():
         _filled(parsers.add_parser(command, help=told, **FORM), command)
     about_help = parsers.add_parser("help", help="the help of a command", **FORM)
@@ -119,9 +136,8 @@ def _filled(parser: argparse.ArgumentParser, command: str) -> argparse.ArgumentP
     parser.register("type", int, commands.whole)
     parser.register("type", float, commands.number)
     module.add_arguments(parser)
-    if command not in UNJUDGED:
-        parser.add_argument("--edited", action="store_true",
-                            help="takes files too that were changed since a command wrote them")
+    parser.add_argument("--edited", action="store_true",
+                        help="takes files too that were changed since a command wrote them")
     if hasattr(module, "WRITES"):
         parser.add_argument("--force", action="store_true",
                             help="replaces files of another kind too")
@@ -160,12 +176,14 @@ def run(words: Sequence[str]) -> int:
     if words[0] in ("--version", "-V"):
         print(version())
         return 0
+    words = former.renewed(words)
     command = words[0]
     if command not in COMMANDS:
         raise UserError(_unknown(command))
     args = parser_of(command).parse_args(joined(words[1:]))
-    base, *others = (getattr(args, name, None) or "" for name in ("base", "out", "arrays"))
-    for name in (*others, base):
+    base, out = getattr(args, "base", None) or "", getattr(args, "out", None) or ""
+    outs = [] if command in TO_FOLDERS else [out] if isinstance(out, str) else out
+    for name in (*outs, base):
         if name.endswith("/"):
             raise UserError(f"{quoted(name)} ends in a slash, and names no file: give a name in "
                             "that folder")
@@ -235,7 +253,7 @@ def _told(error: BaseException) -> str:
 
 
 #: Options that may say nothing, and commands whose words are for another program.
-MAY_BE_EMPTY, HANDED_ON = ("--missing", "--title", "--options"), ("python", "compile")
+MAY_BE_EMPTY, HANDED_ON = ("--missing", "--title", "--options"), ("compile",)
 
 
 def _judge_words(words: Sequence[str]) -> None:
@@ -267,8 +285,7 @@ def main(words: Optional[Sequence[str]] = None) -> int:
         _ready_streams()
         _judge_words(words)
         with _collected() as warned:
-            status = run([word for word in words if word != DEBUG] if words[:1] != ["python"]
-                         else words)
+            status = run([word for word in words if word != DEBUG])
         _flush()
         if warned:
             told = warned if DEBUG in words else [f"{warned[0]} ({len(warned)} in all: --debug "

@@ -18,9 +18,9 @@ from exports import Export, Rows, exports
 from mistaken_exports import mistaken_exports
 from package_exports import later_exports
 from pit_tools.errors import UserError
-from pit_tools.export_words import Words
-from pit_tools.importing import Imported, Wanted, import_export
-from pit_tools.zone_files import read_zone_file
+from pit_tools.exports.words import Words
+from pit_tools.imports.steps import Imported, Wanted, import_export
+from pit_tools.plans.zone_files import read_zone_file
 from preset_exports import preset_exports
 from various_exports import various_exports
 

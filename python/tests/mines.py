@@ -9,11 +9,11 @@ sys.path.insert(0, os.path.join(TOP, "tools"))
 import plain  # noqa: E402
 import shared  # noqa: E402
 
-from pit_tools.deposits import Deposit  # noqa: E402
-from pit_tools.instance import write_instance  # noqa: E402
-from pit_tools.plan_file import plan_of  # noqa: E402
-from pit_tools.valuation import blocks_of, instance_of  # noqa: E402
-from pit_tools.zone_files import read_zone_files  # noqa: E402
+from pit_tools.deposits.seeded import Deposit  # noqa: E402
+from pit_tools.instances.files import write_instance  # noqa: E402
+from pit_tools.instances.valuation import blocks_of, instance_of  # noqa: E402
+from pit_tools.plans.file import plan_of  # noqa: E402
+from pit_tools.plans.zone_files import read_zone_files  # noqa: E402
 
 SIX = ["name,pit", "grid,0,0,0,10,10,10", "zone,1,1,1", "mill,mill,900,6000000,1500",
        "leach,heap,6000000,600,0.3,350,1,550", "dump,dump,200", "periods,3", "rate,0.08",
@@ -41,7 +41,7 @@ def compiled(folder, plan, zones, name="mine"):
 
 
 def quickly_compiled(folder, plan, zones, name="mine"):
-    """The same by pit_tools.valuation, which test_instance.py compares with the plain computation:
+    """The same by pit_tools.instances.valuation, which test_instance.py compares with the plain computation:
     that one looks at all pairs of blocks, so it is too slow for thousands."""
     base = os.path.join(str(folder), name)
     shared.write(base + ".plan", plan)

@@ -86,7 +86,7 @@ def test_a_row_of_two_blocks_has_the_mean_of_what_is_mined(base, tmp_path, monke
     written("wide.csv", lines)
     words = ["--x", "XC", "--y", "YC", "--z", "ZC", "--tonnes", "T", "--grade", "AU", "--zone",
              "ZONE", "--parents", "20,20,10"]
-    assert main(["import", "wide.csv", *words, "--base", "wide"]) == 0
+    assert main(["import", "wide.csv", *words, "--out", "wide"]) == 0
     pit = written("pit", [str(block_number((1, 0, 0))), str(block_number((2, 1, 0)))])
     assert main(["back", base + ".plan", base, pit, "--onto", "wide.json", "--out", "out.csv"]) == 0
     rows = read("out.csv")
@@ -142,7 +142,7 @@ def export_of(kind):
 def test_every_row_of_the_export_has_what_its_block_has(base, tmp_path, capsys, kind, rows):
     lines, words = export_of(kind)
     export = written(tmp_path / "export.csv", lines)
-    assert main(["import", export, *words, "--base", str(tmp_path / "from")]) == 0
+    assert main(["import", export, *words, "--out", str(tmp_path / "from")]) == 0
     places = [(1, 1, 0), (2, 1, 0), (1, 1, 1)]
     pit = written(tmp_path / "pit", [str(block_number(place)) for place in places])
     assert main(["back", base + ".plan", base, pit, "--onto", str(tmp_path / "from.json"), "--out",
@@ -181,8 +181,8 @@ def test_the_report_as_csv_and_workbook_has_the_numbers_of_the_text(base, tmp_pa
     lines = [f"{block_number(place)} {at // 3} {0 if place[2] < 2 else 2}"
              for at, place in enumerate(places)]
     schedule = written(tmp_path / "schedule", lines)
-    words = ["report", base + ".plan", base, schedule, "--csv", "report.csv",
-             "--workbook", "report.xlsx"]
+    words = ["report", base + ".plan", base, schedule, "--out", "report.csv",
+             "--out", "report.xlsx"]
     with pytest.MonkeyPatch.context() as patched:
         patched.chdir(tmp_path)
         assert main(words) == 0
@@ -223,7 +223,7 @@ def test_the_report_as_csv_and_workbook_has_the_numbers_of_the_text(base, tmp_pa
 
 def test_the_empty_pit_is_reported(base, tmp_path, capsys):
     none = written(tmp_path / "none", [])
-    assert main(["report", base + ".plan", base, none, "--csv", str(tmp_path / "a.csv")]) == 0
+    assert main(["report", base + ".plan", base, none, "--out", str(tmp_path / "a.csv")]) == 0
     assert re.search(r"all +0 +0\.0 +0\.0000", capsys.readouterr().out)
     assert (tmp_path / "a.csv").read_text().splitlines()[1] == "bench,all,,0,0,0,0,0,0,,0"
 
@@ -232,7 +232,7 @@ def test_shares_by_period_stand_on_the_rows_of_the_export(base, tmp_path, capsys
     """A block over two periods and two destinations, one whole, and rows of two blocks."""
     lines, words = export_of("plain")
     export = written(tmp_path / "export.csv", lines)
-    assert main(["import", export, *words, "--base", str(tmp_path / "from")]) == 0
+    assert main(["import", export, *words, "--out", str(tmp_path / "from")]) == 0
     split, whole = block_number((2, 1, 0)), block_number((0, 0, 2))
     lines = [f"{split} 0 0 0.125", f"{split} 1 0 0.5", f"{split} 1 2 0.25", f"{whole} 0 2"]
     schedule, onto = written(tmp_path / "schedule", lines), ["--onto", str(tmp_path / "from.json")]
@@ -256,11 +256,11 @@ def test_sections_are_drawn(base, tmp_path):
     pit = written(tmp_path / "pit", ["17"])
     for ending, begin in (("png", b"\x89PNG"), ("svg", b"<?xml"), ("pdf", b"%PDF")):
         out = tmp_path / f"section.{ending}"
-        assert main(["section", base + ".plan", base, "--y", "221", "--pit", f"{pit}=some", "--out",
+        assert main(["survey", base + ".plan", base, "--section", "y=221", "--pit", f"{pit}=some", "--out",
                      str(out)]) == 0
         assert out.read_bytes().startswith(begin)
     first = (tmp_path / "section.svg").read_bytes()
-    main(["section", base + ".plan", base, "--y", "221", "--pit", f"{pit}=some", "--out",
+    main(["survey", base + ".plan", base, "--section", "y=221", "--pit", f"{pit}=some", "--out",
           str(tmp_path / "section.svg")])
     assert (tmp_path / "section.svg").read_bytes() == first
 
@@ -269,7 +269,7 @@ def test_sections_are_drawn(base, tmp_path):
 def test_an_export_that_was_changed_since_is_refused(base, tmp_path, capsys, change):
     lines, words = export_of("plain")
     export = written(tmp_path / "export.csv", lines)
-    assert main(["import", export, *words, "--base", str(tmp_path / "from")]) == 0
+    assert main(["import", export, *words, "--out", str(tmp_path / "from")]) == 0
     pit = written(tmp_path / "pit", ["1"])
     onto = ["back", base + ".plan", base, pit, "--onto", str(tmp_path / "from.json"), "--out",
             str(tmp_path / "out")]
@@ -284,7 +284,7 @@ def test_mined_blocks_without_a_row_are_told(base, tmp_path, capsys):
     """An export of a part of the blocks, as where an instance is made of two."""
     lines, words = export_of("plain")
     export = written(tmp_path / "export.csv", lines[:1] + lines[3:])
-    assert main(["import", export, *words, "--base", str(tmp_path / "from")]) == 0
+    assert main(["import", export, *words, "--out", str(tmp_path / "from")]) == 0
     pit = written(tmp_path / "pit", [str(number) for number in range(len(ROWS))])
     capsys.readouterr()
     assert main(["back", base + ".plan", base, pit, "--onto", str(tmp_path / "from.json"), "--out",
@@ -293,8 +293,8 @@ def test_mined_blocks_without_a_row_are_told(base, tmp_path, capsys):
 
 
 @pytest.mark.parametrize("words, told", [
-    (["section", "{plan}", "{base}", "--y", "999", "--out", "a.png"], "they lie from 200 to 240 m"),
-    (["section", "{plan}", "{base}", "--out", "a.bmp"], "ends with none of"),
+    (["survey", "{plan}", "{base}", "--section", "y=999", "--out", "a.png"], "they lie from 200 to 240 m"),
+    (["survey", "{plan}", "{base}", "--out", "a.bmp"], "ends with none of"),
     (["back", "{plan}", "{base}", "{bad}"], "line 2: no line of a pit or a schedule"),
     (["report", "{plan}", "{base}", "{bad}"], "line 2: no line of a pit or a schedule"),
     (["back", "{plan}", "{base}", "{good}", "--onto", "{good}"],

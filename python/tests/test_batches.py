@@ -13,18 +13,18 @@ import time
 import pytest
 
 import mines
-from pit_tools import batch_build, batch_engines, programs
-from pit_tools.batch_build import Way, sum_of_modules
-from pit_tools.batch_engines import by_processes, in_turn
-from pit_tools.batch_list import Part, read_list
-from pit_tools.locks import LOCK
-from pit_tools.records import read_record
-from pit_tools.batch_making import make
-from pit_tools.batches import Batch
+import pit_tools
+from pit_tools.batches import build as batch_build, engines
+from pit_tools.batches.build import Way, sum_of_modules
+from pit_tools.batches.engines import by_processes, in_turn
+from pit_tools.batches.listing import Part, read_list
+from pit_tools.batches.runs import LOCK, Batch
 from pit_tools.cli import main
 from pit_tools.errors import UserError
-from pit_tools.instance import read_instance
-from pit_tools.programs import program_of
+from pit_tools.files.records import read_record
+from pit_tools.instances.files import read_instance
+from pit_tools.schedules import programs
+from pit_tools.schedules.programs import program_of
 
 PITC = """#!{python}
 import os, sys
@@ -186,10 +186,10 @@ def test_a_name_with_a_space_or_a_backslash_is_one_name(here):
 
 
 def test_one_sum_of_modules_has_all_of_them(tmp_path):
-    folder = os.path.dirname(batch_build.__file__)
+    folder = os.path.dirname(pit_tools.__file__)
     shutil.copytree(folder, tmp_path / "copy", ignore=shutil.ignore_patterns("__pycache__"))
     assert sum_of_modules(str(tmp_path / "copy")) == sum_of_modules()
-    for name in ("batches.py", "commands/batch.py", "closure.cpp"):
+    for name in ("batches/runs.py", "commands/making/batch.py", "pits/closure.cpp"):
         text = (tmp_path / "copy" / name).read_text()
         (tmp_path / "copy" / name).write_text(text + "\n")
         assert sum_of_modules(str(tmp_path / "copy")) != sum_of_modules()
@@ -286,6 +286,25 @@ def test_a_plan_that_is_refused_leaves_no_manifest_and_what_was_there(here):
     assert len(open("SIZES").readlines()) == 2
 
 
+def test_a_batch_stops_where_nothing_succeeds(here, capsys):
+    """One that is whole, or kept, lets it go on to the end."""
+    for name in ("two", "three", "four"):
+        (here / f"{name}.plan").write_text("refused\n")
+    bad = [f"{name}.plan 'six blocks.csv'\n" for name in ("two", "three", "four")]
+    (here / "LIST").write_text("".join(bad))
+    words = ["batch", "LIST", "--pitc", "./pitc", "--stop-at", "2"]
+    told = "pitc compile: pitc: plan row 1: Name"
+    assert main(words) == 1
+    assert capsys.readouterr().err == (f"pit-tools batch: two.plan: {told}\n"
+                                       f"pit-tools batch: three.plan: {told}\n"
+                                       "pit-tools batch: stopped: 2 failed, and none succeeded\n")
+    (here / "LIST").write_text(ONE + "".join(bad))
+    for goes_on in ([], ["--continue"]):
+        assert main([*words, *goes_on]) == 1
+        assert capsys.readouterr().err.count(told) == 3
+    assert calls() == ["one"] and main([*words[:-1], "0"]) == 2
+
+
 def test_an_input_that_changes_behind_its_compile_is_told(here):
     open("changing", "w").close()
     batch, whole = run_batch(ONE)
@@ -296,8 +315,8 @@ def test_an_input_that_changes_behind_its_compile_is_told(here):
 
 @pytest.mark.parametrize("name", ["six blocks.csv", "one.plan", "LIST"])
 def test_an_input_that_changes_between_two_instances_is_told(here, name):
-    def engine(entries, way, build):
-        for found in in_turn(entries, way, build):
+    def engine(step, entries):
+        for found in in_turn(step, entries):
             yield found
             with open(name, "a") as file:
                 file.write("\n")
@@ -308,8 +327,8 @@ def test_an_input_that_changes_between_two_instances_is_told(here, name):
 
 
 def test_a_program_that_is_replaced_meanwhile_is_told(here):
-    def engine(entries, way, build):
-        yield from in_turn(entries, way, build)
+    def engine(step, entries):
+        yield from in_turn(step, entries)
         with open("pitc", "a") as file:
             file.write("\n")
 
@@ -501,15 +520,15 @@ def test_processes_end_though_one_ended_with_a_lock(here, monkeypatch):
     another one had ended with the lock of the queue, for ever."""
     (here / "pitc").write_text((here / "pitc").read_text().replace(
         'elif words[0] == "compile"', 'elif __import__("time").sleep(60) or words[0] == "compile"'))
-    monkeypatch.setattr(batch_engines, "PATIENCE", 1)
+    monkeypatch.setattr(engines, "PATIENCE", 1)
     with open("LIST", "w") as file:
         file.write(ONE + TWO)
     batch = Batch("LIST", way())
     held_by_none = []
 
-    def engine(entries, way, build):
-        with batch_engines._processes(2) as executor:
-            running = [executor.submit(make, entry, way, build) for entry in entries]
+    def engine(step, entries):
+        with engines._processes(2) as executor:
+            running = [executor.submit(step, entry) for entry in entries]
             while not all(future.running() for future in running):
                 time.sleep(0.01)
             time.sleep(0.5)

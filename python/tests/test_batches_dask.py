@@ -8,8 +8,8 @@ import time
 import pytest
 
 import test_batches
-from pit_tools import batch_engines
-from pit_tools.batch_engines import by_dask
+from pit_tools.batches import engines
+from pit_tools.batches.engines import by_dask
 from pit_tools.cli import main
 from pit_tools.errors import UserError
 from test_batches import (environment, here, is_accepted, left_of, plan_named, read,  # noqa: F401
@@ -74,8 +74,8 @@ def test_a_worker_that_is_killed_loses_nothing(cluster):
     test_batches.calls()
     engine = by_dask(address)
 
-    def ended_in_the_middle(entries, way, build):
-        for number, found in enumerate(engine(entries, way, build)):
+    def ended_in_the_middle(step, entries):
+        for number, found in enumerate(engine(step, entries)):
             if number == 2:
                 workers[0].send_signal(signal.SIGKILL)
             yield found
@@ -102,4 +102,4 @@ def test_a_scheduler_that_is_not_there_is_told(here, capsys):  # noqa: F811
 def test_a_python_without_distributed_is_told(monkeypatch):
     monkeypatch.setitem(sys.modules, "distributed", None)
     with pytest.raises(UserError, match="apt-get install --no-install-recommends python3-distributed"):
-        batch_engines.by_dask("tcp://127.0.0.1:1")
+        engines.by_dask("tcp://127.0.0.1:1")

@@ -14,26 +14,26 @@ from decimal import Decimal
 import numpy as np
 import pytest
 
-from pit_tools import instance, minelib, published_lines, published_models
-from pit_tools.back import read_mined
-from pit_tools.batch_list import read_list
-from pit_tools.batch_records import recorded_in
+from pit_tools.batches.listing import read_list
+from pit_tools.batches.records import recorded_in
 from pit_tools.cli import main
 from pit_tools.errors import UserError
-from pit_tools.export_words import table_of
-from pit_tools.formulas import formula_of
-from pit_tools.identifiers import read_identifiers
-from pit_tools.imported import read_imported
-from pit_tools.instance import Problem, Uses
-from pit_tools.pits import read_pit
-from pit_tools.plan_file import Grid, plan_of, read_plan
-from pit_tools.plan_words import Purse, Spoken, plan_from, price_of, sides_of
-from pit_tools.plan_words import Told as Words
-from pit_tools.published_lines import Told
-from pit_tools.records import read_record
-from pit_tools.resource_report import Known, Statement, read_report
-from pit_tools.schedules import read_schedule, read_variables
-from pit_tools.zone_files import read_zone_file
+from pit_tools.exports.words import table_of
+from pit_tools.files.records import read_record
+from pit_tools.imports.record import read_imported
+from pit_tools.instances import files, minelib, published as published_models
+from pit_tools.instances.files import Problem, Uses
+from pit_tools.instances.identifiers import read_identifiers
+from pit_tools.inventories.statements import Known, Statement, read_report
+from pit_tools.pits.back import read_mined
+from pit_tools.pits.files import read_pit
+from pit_tools.plans.file import Grid, plan_of, read_plan
+from pit_tools.plans.words import Purse, Spoken, Told as Words, plan_from, price_of, sides_of
+from pit_tools.plans.zone_files import read_zone_file
+from pit_tools.schedules.files import read_schedule, read_variables
+from pit_tools.texts import lines
+from pit_tools.texts.formulas import formula_of
+from pit_tools.texts.lines import Told
 
 # Characters of a small text and of a large one. A reader whose time grows with the square of the
 # size takes 256 times as long for the large one, and by the margin it may take 80 times.
@@ -244,14 +244,14 @@ def published(kind):
 
 #: What reads a file of lines, and what stands around a hostile text.
 READERS = {
-    "blocks": (instance.read_blocks, "{}", "0 0 0 0 1 {} 0\n", "% {}\n0 0 0 0 1 1 0\n"),
-    "prec": (instance.read_precedence, "{}", "0 0\n1 1 {}\n"),
-    "counted": (instance.count_predecessors, "{}", "0 0\n1 1 {}\n"),
-    "upit": (instance.read_upit, "{}", UPIT, UPIT.replace("NBLOCKS: 1", "NBLOCKS: {}")),
-    "cpit": (lambda path: instance.read_problem(path, "CPIT"), "{}", CPIT + "0 0 L {}\n"),
-    "pcpsp": (lambda path: instance.read_problem(path, "PCPSP"), "{}", PCPSP + "{}\n",
+    "blocks": (files.read_blocks, "{}", "0 0 0 0 1 {} 0\n", "% {}\n0 0 0 0 1 1 0\n"),
+    "prec": (files.read_precedence, "{}", "0 0\n1 1 {}\n"),
+    "counted": (files.count_predecessors, "{}", "0 0\n1 1 {}\n"),
+    "upit": (files.read_upit, "{}", UPIT, UPIT.replace("NBLOCKS: 1", "NBLOCKS: {}")),
+    "cpit": (lambda path: files.read_problem(path, "CPIT"), "{}", CPIT + "0 0 L {}\n"),
+    "pcpsp": (lambda path: files.read_problem(path, "PCPSP"), "{}", PCPSP + "{}\n",
               PCPSP.replace("0.1", "{}"), PCPSP.replace("0 0 0 1\n", "0 0 0 {}\n")),
-    "outline": (instance.read_outline, PCPSP + "0 0 L {}\n"),
+    "outline": (files.read_outline, PCPSP + "0 0 L {}\n"),
     "published blocks": (lambda path: minelib.read_blocks(path, minelib.Columns(5), Told()),
                          "{}", "0 0 0 0 1\n1 1 0 0 {}\n"),
     "published prec": (lambda path: minelib.read_precedence(path, 2, 0, Told()), "{}", "0 1 {}\n"),
@@ -259,8 +259,8 @@ READERS = {
                        UPIT.replace("NBLOCKS", "{}")),
     "published cpit": (published("CPIT"), "{}", CPIT + "0 0 L {}\n"),
     "published pcpsp": (published("PCPSP"), "{}", PCPSP + "{}\n", PCPSP.replace("0.1", "{}")),
-    "lines of numbers": (lambda path: [tried(published_lines.numbers_of, piece, [1, 2], "a line")
-                                       for piece in published_lines.pieces_of(path)],
+    "lines of numbers": (lambda path: [tried(lines.numbers_of, piece, [1, 2], "a line")
+                                       for piece in lines.pieces_of(path)],
                          "1 2 1e400\n1 {} 1e300\n", "1 2 1e400\n1 1{}x 1e300\n"),
     "schedule": (lambda path: read_schedule(path, ONE), "{}", "0 0 0 {}\n", "0 0 0 1{}x\n"),
     "mined": (lambda path: read_mined(path, plan_of(PLAN), 1), "{}", "0 0 0 {}\n"),
@@ -308,11 +308,11 @@ def test_a_file_of_lines_has_a_measure(tmp_path, monkeypatch, kind):
         file.truncate(2_000_000_001)
     with pytest.raises(UserError, match="RECORD: line 1: the file has more than 2,000,000,000 bytes"):
         READERS[kind][0](str(path))
-    monkeypatch.setattr(published_lines, "MOST_FILE", 100)
+    monkeypatch.setattr(lines, "MOST_FILE", 100)
     os.mkfifo(tmp_path / "pipe")
     with subprocess.Popen(["sh", "-c", f"yes '' | head -n 200 > {tmp_path}/pipe"]):
         with pytest.raises(UserError, match="pipe: line 101: the file has more than 100 bytes"):
-            list(published_lines.numbered_lines(str(tmp_path / "pipe")))
+            list(lines.numbered_lines(str(tmp_path / "pipe")))
 
 
 def test_a_line_of_a_zone_file_has_a_measure(tmp_path):

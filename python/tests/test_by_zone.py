@@ -5,15 +5,15 @@ import numpy as np
 import pandas as pd
 import pytest
 
-from pit_tools.by_zone import by_zone
 from pit_tools.cli import main
 from pit_tools.errors import UserError
-from pit_tools.export_words import Words
-from pit_tools.imported import read_imported
-from pit_tools.importing import import_export
-from pit_tools.plan_file import plan_of
-from pit_tools.valuation import blocks_of, instance_of
-from pit_tools.zone_files import read_zone_file
+from pit_tools.exports.words import Words
+from pit_tools.imports.record import read_imported
+from pit_tools.imports.steps import import_export
+from pit_tools.instances.valuation import blocks_of, instance_of
+from pit_tools.instances.zoned import by_zone
+from pit_tools.plans.file import plan_of
+from pit_tools.plans.zone_files import read_zone_file
 
 PLAN = """name,both
 grid,0,0,0,10,10,10
@@ -69,7 +69,7 @@ def test_a_sample_of_an_export_gives_its_zone_files_again(tmp_path, monkeypatch,
     assert main(["deposit"]) == 0
     capsys.readouterr()
     zones = ["deposit-oxide.csv", "deposit-west.csv", "deposit-east.csv"]
-    assert main(["sample-export", *zones]) == 0
+    assert main(["deposit", "--export", *zones]) == 0
     (tmp_path / "export.csv").write_text(capsys.readouterr().out, newline="")
     words = Words(x="XC", y="YC", z="ZC", tonnes="TONNAGE", grade="AU_PPM", zone=["DOMAIN"])
     imported = import_export(["export.csv"], words)

@@ -11,12 +11,15 @@ import openpyxl
 import pytest
 
 import mines
-from pit_tools import compiled, inputs, library, outputs, source, workbook
-from pit_tools.batch_list import read_list
+from pit_tools.batches.listing import read_list
 from pit_tools.cli import main
+from pit_tools.deposits import library
 from pit_tools.errors import UserError
-from pit_tools.plan_file import grid_and_zones, plan_of
-from pit_tools.zone_files import count_lines, read_zone_file
+from pit_tools.exports import source, workbook
+from pit_tools.files import inputs, outputs
+from pit_tools.pits import compiled
+from pit_tools.plans.file import grid_and_zones, plan_of
+from pit_tools.plans.zone_files import count_lines, read_zone_file
 
 EXPORT = "X,Y,Z,T,AU,ZONE\n" + "".join(f"{x},{y},{z},2700,{x % 3}.5,{'west' if x < 20 else 'east'}\n"
                                        for z in (0, 10) for y in (0, 10) for x in range(0, 40, 10))
@@ -57,14 +60,15 @@ def refused(words, capsys):
     return error
 
 
-SECTION = ["section", "mine.plan", "mine", "--out", "a.png"]
+SECTION = ["survey", "mine.plan", "mine", "--out", "a.png"]
 
 REFUSED = [
-    (["slopes", "mine.plan", "--decimals", "-1"], "--decimals: -1 is not from 0 to 9"),
-    (["slopes", "mine.plan", "--within", "91"], "--within: 91 is not from 0 to 90"),
-    (["slopes", "thin.plan"], "record 1: `0.0004` has more decimals: a size of the grid has 3"),
-    (["slopes", "vast.plan"], "`1e999999999` is no number"),
-    (["slopes", "large.plan"], "it has more than 1,048,576 bytes, and so it is no plan"),
+    (["plan", "--walls", "mine.plan", "--decimals", "-1"], "--decimals: -1 is not from 0 to 9"),
+    (["plan", "--walls", "mine.plan", "--within", "91"], "--within: 91 is not from 0 to 90"),
+    (["plan", "--walls", "thin.plan"],
+     "record 1: `0.0004` has more decimals: a size of the grid has 3"),
+    (["plan", "--walls", "vast.plan"], "`1e999999999` is no number"),
+    (["plan", "--walls", "large.plan"], "it has more than 1,048,576 bytes, and so it is no plan"),
     (["plan", "from.json", "--benches", "1000000000"], "--benches: 1000000000 is no height"),
     (["plan", "from.json", "--parts", "10000000"], "--parts: 10000000 is not from 1"),
     (["plan", "deep.json"], "it is not what `pit-tools import` writes"),
@@ -72,13 +76,13 @@ REFUSED = [
     (["pit", "mine", "--out", ""], "an empty word stands behind --out"),
     (["pit", "mine", "--out="], "an empty word stands behind --out"),
     *[([*words], f"`{words[-1]}` ends in a slash, and names no file") for words in (
-        ["pit", "mine", "--out", "f/"], ["read", "mine", "--write", "f/"], ["texts", "f/"],
-        ["read", "mine", "--arrays", "f/"],
-        ["compile", "--plan", "mine.plan", "one.csv", "--out", "./"], [*SECTION[:-1], "f/"],
-        ["import", "export.csv", "--x", "X", "--y", "Y", "--z", "Z", "--base", "f/"],
+        ["pit", "mine", "--out", "f/"], ["read", "mine", "--out", "f/"],
+        ["compile", "--sections", "-", "--out", "f/"],
+        ["compile", "--plan", "mine.plan", "one.csv", "--out", "./"],
+        ["import", "export.csv", "--x", "X", "--y", "Y", "--z", "Z", "--out", "f/"],
         ["minelib", "--publish", "mine", "--out", "f/"], ["nested", "mine.plan", "mine", "--out", "f/"])],
     (["read", ""], "an empty word stands behind read"),
-    (["by-zone", "both", "mine:²"], "give an instance and its zones"),
+    (["by-zone", "mine:²", "--out", "both"], "give an instance and its zones"),
     (["deposit", "--size", "²,2,2"], "is no list of whole numbers"),
     (["deposit", "--size", "20000,2,2"], "a size is up to 10,000 blocks along an axis"),
     (["deposit", "--size", "9999,9999,9999"], "64,000,000 in all"),
@@ -86,8 +90,8 @@ REFUSED = [
     (["deposit", "--seed", "1-9999999"], "from 1 to 1000000"),
     (["deposit", "--name", "é"], "no name `é`: it has 1 to 64 letters"),
     (["deposit", "--name", "a,b"], "no name `a,b`"),
-    ([*SECTION, "--y", "1e300"], "no block lies at y = 1e+300 m"),
-    ([*SECTION, "--y", "1e300"], "no block lies at y = 1e+300 m"),
+    ([*SECTION, "--section", "y=1e300"], "no block lies at y = 1e+300 m"),
+    ([*SECTION, "--section", "y=1e300"], "no block lies at y = 1e+300 m"),
     ([*SECTION, "--pit", "two"], "two: line 1: `²` is no block"),
     ([*SECTION, "--pit", "long"], "long: line 1: `999"),
     (["survey", "mine.plan", "mine", "--section", "y=inf"], "`y=inf`: give an axis and metres"),
@@ -103,8 +107,8 @@ REFUSED = [
     (["minelib", "--to-published", "two", "--ids", "ids", "--out", "out"],
      "ids: line 2: no block with its published identifier"),
     (["back", "mine.plan", "mine", "inf.schedule"], "inf.schedule: line 2: no line of a pit"),
-    (["sample-export", "empty.csv"], "there is no block in empty.csv"),
-    (["sample-export", "far.csv"], "do two groups of them lie far apart?"),
+    (["deposit", "--export", "empty.csv"], "there is no block in empty.csv"),
+    (["deposit", "--export", "far.csv"], "do two groups of them lie far apart?"),
 ]
 
 
@@ -129,7 +133,7 @@ def test_a_number_of_seconds_is_none_below_0_and_none_without_end(here, capsys, 
     *[("--decimals", text) for text in ("1_0", "\uff13", " 1", "3" * 5000)],
     *[("--within", text) for text in ("1_0", "\uff13", "nan", "1e999", "1.5.", "3" * 5000)]])
 def test_a_number_of_an_option_has_digits_of_ascii(here, capsys, option, number):
-    assert main(["slopes", "mine.plan", f"{option}={number}"]) == 2
+    assert main(["plan", "--walls", "mine.plan", f"{option}={number}"]) == 2
     assert f"argument {option}: invalid" in capsys.readouterr().err
 
 
@@ -313,7 +317,7 @@ def test_a_workbook_that_grows_beyond_all_measure_is_refused(here, capsys, monke
     ("grid", {"origin": ["0", "0", "0"], "size": ["1", "1", "1"], "blocks": ["a", 1, 1]}),
     ("frame", {"lengths": [1, 1], "turn": None, "unit": "m"}), ("told", 7)])
 def test_a_record_of_an_import_that_was_changed_is_told(here, capsys, key, value):
-    assert main(["import", "export.csv", *WORDS, "--base", "from"]) == 0
+    assert main(["import", "export.csv", *WORDS, "--out", "from"]) == 0
     told = json.loads((here / "from.json").read_text())
     told[key] = value
     (here / "from.json").write_text(json.dumps(told))
@@ -361,10 +365,10 @@ def test_sections_that_were_cut_short_become_no_files(here, monkeypatch, capsys)
     ends = [at + 1 for at, sign in enumerate(whole) if sign == 10]
     for end in [*ends[:-1], *(at - 2 for at in ends), len(whole) - 1]:
         monkeypatch.setattr("sys.stdin", Input(whole[:end]))
-        assert main(["texts", "again"]) == 2, whole[:end][-40:]
+        assert main(["compile", "--sections", "-", "--out", "again"]) == 2, whole[:end][-40:]
         assert capsys.readouterr().err.count("\n") == 1 and files_of(here) == before
     monkeypatch.setattr("sys.stdin", Input(whole))
-    assert main(["texts", "again"]) == 0
+    assert main(["compile", "--sections", "-", "--out", "again"]) == 0
     assert (here / "again.cpit").read_bytes() == before["mine.cpit"]
 
 
@@ -373,24 +377,11 @@ def test_blocks_at_other_places_are_not_those_of_the_other_instance(here, capsys
     for ending in ("blocks", "prec", "upit", "pcpsp", "cpit"):
         (here / f"other.{ending}").write_bytes((here / f"mine.{ending}").read_bytes())
     (here / "other.blocks").write_text(text.replace("5 2 0 1", "5 3 0 1"))
-    told = refused(["by-zone", "both", "mine:0", "other:1"], capsys)
+    told = refused(["by-zone", "mine:0", "other:1", "--out", "both"], capsys)
     assert "the instances are not of the same blocks" in told
 
 
 # Other programs and folders
-
-
-@pytest.mark.parametrize("script, told", [
-    ("def half(x):\n    return x / 0\n\nhalf(1)\n", "ZeroDivisionError: division by zero"),
-    ("import gone_module\n", "ModuleNotFoundError: No module named 'gone_module'"),
-    ("open('gone')\n", "FileNotFoundError: [Errno 2] No such file or directory: 'gone'"),
-    ("x = (\n", "SyntaxError: '(' was never closed")])
-def test_a_fault_of_a_script_is_told_as_python_tells_it(here, capsys, script, told):
-    (here / "mine.py").write_text(script)
-    assert main(["python", "mine.py"]) == 1
-    error = capsys.readouterr().err
-    assert error.rstrip().endswith(told) and "fault of pit-tools" not in error
-    assert 'File "mine.py", line' in error and "runpy" not in error
 
 
 @pytest.mark.parametrize("old, new", [("900,6000000,1500", "900,6000000,0"),
@@ -406,10 +397,6 @@ def test_a_model_whose_header_says_no_number_is_told_by_the_survey(here, capsys)
     (here / "mine.pcpsp").write_text(text.replace("DISCOUNT_RATE: 0.08", "DISCOUNT_RATE: x"))
     told = refused(["survey", "mine.plan", "mine", "mine-0.csv"], capsys)
     assert "mine.pcpsp: no number behind DISCOUNT_RATE" in told
-
-
-def test_a_script_that_is_not_there_is_told(here, capsys):
-    assert "gone.py: No such file or directory" in refused(["python", "gone.py"], capsys)
 
 
 @pytest.mark.parametrize("name, text", [("TABLE", "a b\n1 2\n"), ("TABLE", ""), ("FOUND", "\xff\0"),

@@ -10,6 +10,7 @@ import sys
 import pytest
 
 from pit_tools import cli
+from pit_tools.commands import former
 from pit_tools.cli import main
 
 HERE = os.path.dirname(os.path.dirname(os.path.abspath(__file__)))
@@ -27,7 +28,7 @@ def failing(monkeypatch):
     def make(error):
         def fail(_):
             raise error
-        monkeypatch.setattr("pit_tools.commands.bounds.run", fail)
+        monkeypatch.setattr("pit_tools.commands.solving.bounds.run", fail)
     return make
 
 
@@ -121,21 +122,8 @@ COMMAND = ("import sys; sys.path.insert(0, ''); from pit_tools.__main__ import m
            "sys.exit(main())")
 
 
-def test_a_script_finds_the_modules_beside_it(tmp_path):
-    (tmp_path / "scripts").mkdir()
-    (tmp_path / "named").mkdir()
-    (tmp_path / "scripts" / "random.py").write_text("mine = 'of the script'\n")
-    (tmp_path / "named" / "helper.py").write_text("mine = 'of PYTHONPATH'\n")
-    (tmp_path / "scripts" / "one.py").write_text("import helper, random, sys, "
-                                                 "pit_tools\nprint(random.mine, helper.mine, "
-                                                 "sys.argv[1:])\n")
-    done = ran("python", "scripts/one.py", "a", "--b", cwd=tmp_path,
-               env={**os.environ, "PYTHONPATH": str(tmp_path / "named")})
-    assert (done.returncode, done.stdout) == (0, "of the script of PYTHONPATH ['a', '--b']\n")
-
-
 def test_ctrl_c_is_quiet():
-    code = f"import sys; sys.path.insert(0, {HERE!r}); import pit_tools.commands.bounds as b; " \
+    code = f"import sys; sys.path.insert(0, {HERE!r}); import pit_tools.commands.solving.bounds as b; " \
            "b.run = lambda _: (print('begun', flush=True), __import__('time').sleep(60)); " \
            "from pit_tools.cli import main; sys.exit(main(['bounds', 'mine']))"
     run = subprocess.Popen([sys.executable, "-c", code], stdout=subprocess.PIPE,
@@ -153,12 +141,47 @@ def test_each_status_and_command_stands_in_the_help():
 
 @pytest.mark.parametrize("words, same", [
     (["help"], ["--help"]), (["help", "--help"], ["-h"]), (["-V"], ["--version"]),
-    *(([["help", command], [command, "--help"]]) for command in ("import", "by-zone", "python"))],
+    *(([["help", command], [command, "--help"]]) for command in ("import", "by-zone"))],
     ids=lambda words: " ".join(words))
 def test_words_that_print_the_same(words, same):
     done, other = ran(*words), ran(*same)
     assert done.returncode == other.returncode == 0
     assert done.stdout == other.stdout != "" and not done.stderr
+
+
+@pytest.mark.parametrize("words, today", [line.split(" > ") for line in (
+    "slopes a.plan --brief > plan --walls a.plan --brief",
+    "dimacs a.upit a.prec --out f > lp --dimacs --all-arcs a.upit a.prec --out f",
+    "sample-export a.csv b.csv > deposit --export a.csv b.csv",
+    "texts a > compile --sections - --out a",
+    "section a.plan a --y -20 --pit p=last --out a.png > "
+    "survey a.plan a --section y=-20 --pit p=last --out a.png",
+    "by-zone both a:0 b:1,2 > by-zone a:0 b:1,2 --out both",
+    "import a.csv --x X --base from > import a.csv --x X --out from",
+    "survey a.plan a --html=a.html --pictures b > survey a.plan a --out a.html --out b/",
+    "report a.plan a p --csv a.csv --workbook a.xlsx > report a.plan a p --out a.csv --out a.xlsx",
+    "nested a.plan a --picture n.svg > nested a.plan a --out n.svg",
+    "read a --immediate b > read a --fewer-arcs --out b",
+    "read a --write b --arrays b.npz > read a --out b --out b.npz",
+    "minelib --publish a --out b --immediate > minelib --publish a --out b --fewer-arcs",
+    "library --build a > library --seek all --out a", "library --write a > library --out a",
+    "deposit --folder a > deposit --out a", "vary a.plan --folder a > vary a.plan --out a")])
+def test_a_former_name_is_told_what_to_write(capsys, words, today):
+    found = former.renewed(words.split())
+    assert " ".join(found) == today and cli.parser_of(found[0]).parse_args(found[1:])
+    assert capsys.readouterr().err == f"pit-tools: names of the last version: write `pit-tools {today}`\n"
+    assert former.renewed(found) == found and not capsys.readouterr().err
+
+
+@pytest.mark.parametrize("words, told", [
+    ("python a.py b", "a.py b`"), ("read a --arrays b", "write `--out FILE.npz`: `b` does not end"),
+    ("survey a.plan a --html b", "does not end with .html"), ("report a b c --csv d", "with .csv"),
+    ("read a --write b --immediate c", "run it by itself"), ("import a --base", "value is missing"),
+    ("read a --write b.npz", "a base without .npz"), ("read a --immediate=b.NPZ", "a base without")])
+def test_a_former_name_that_would_do_something_else_is_refused(capsys, words, told):
+    assert main(words.split()) == 2
+    error = capsys.readouterr().err
+    assert told in error and error.count("\n") == 1
 
 
 def test_help_of_a_command_is_its_own(capsys):
@@ -192,7 +215,7 @@ def test_what_packages_warn_of_is_told_once_and_never_before_an_error(monkeypatc
             raise cli.UserError("no depth")
         return 0
 
-    monkeypatch.setattr("pit_tools.commands.bounds.run", run)
+    monkeypatch.setattr("pit_tools.commands.solving.bounds.run", run)
     assert main(["bounds", "mine", *words]) == status
     told = capfd.readouterr().err
     assert told.count("a package of Python warns") == (0 if status else 4 if words else 1)

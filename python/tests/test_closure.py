@@ -9,16 +9,16 @@ import pytest
 from scipy import sparse
 
 import mines
-from pit_tools import closure, compiled
-from pit_tools.commands import pit as pit_command
+from pit_tools.commands.planning import pit as pit_command
 from pit_tools.errors import UserError
-from pit_tools.instance import (Blocks, Instance, UltimatePit, cents, read_instance,
-                                write_instance)
-from pit_tools.pits import read_pit, told
-from pit_tools.plan_file import read_plan
-from pit_tools.programs import program_of, program_of_upit
-from pit_tools.schedules import Schedule, check
-from pit_tools.spelling import multiples_of
+from pit_tools.instances.files import (Blocks, Instance, UltimatePit, cents, read_instance,
+                                       write_instance)
+from pit_tools.pits import closure, compiled
+from pit_tools.pits.files import read_pit, told
+from pit_tools.plans.file import read_plan
+from pit_tools.schedules.files import Schedule, check
+from pit_tools.schedules.programs import program_of, program_of_upit
+from pit_tools.texts.spelling import multiples_of
 
 pytestmark = pytest.mark.skipif(compiled.compiler() is None, reason="no C++ compiler is here")
 
@@ -321,3 +321,55 @@ def test_without_a_compiler_highs_finds_small_pits_and_great_ones_are_told(monke
                  lambda: closure.immediate(more)):
         with pytest.raises(UserError, match="compiler"):
             call()
+
+
+# Closures by the ends of periods
+
+
+def all_closures(blocks, periods, arcs):
+    """The first periods of blocks, of all closures by the ends of periods."""
+    rows = np.repeat(np.arange(blocks), np.diff(arcs.indptr))
+    for first in itertools.product(range(periods + 1), repeat=blocks):
+        if np.all(np.array(first)[rows] >= np.array(first)[arcs.indices]):
+            yield first
+
+
+@pytest.mark.parametrize("seed", range(60))
+def test_a_closure_of_periods_is_worth_most_and_its_flow_proves_it(seed):
+    random = np.random.default_rng(seed)
+    blocks, periods = int(random.integers(1, 6)), int(random.integers(1, 4))
+    values = random.integers(-50, 50, (periods, blocks))
+    arcs = sparse.csr_matrix(np.triu(random.random((blocks, blocks)) < 0.4, 1).astype(np.int8))
+    found = closure.closure_of_periods(values, arcs, with_flows=True)
+    worth = {first: sum(int(values[period:, block].sum()) for block, period in enumerate(first))
+             for first in all_closures(blocks, periods, arcs)}
+    assert worth[tuple(found.first)] == max(worth.values())
+    left = values.copy()
+    rows = np.repeat(np.arange(blocks), np.diff(arcs.indptr))
+    for period in range(periods):
+        assert (found.flows[period] > 0).all() and (found.later_flows[period] > 0).all()
+        np.subtract.at(left[period], rows[found.arcs[period]], found.flows[period])
+        np.add.at(left[period], arcs.indices[found.arcs[period]], found.flows[period])
+        np.subtract.at(left[period], found.later[period], found.later_flows[period])
+        if period + 1 < periods:
+            np.add.at(left[period + 1], found.later[period], found.later_flows[period])
+    assert len(found.later[-1]) == 0
+    assert left[left > 0].sum() == max(worth.values())
+
+
+@pytest.mark.parametrize("seed", range(20))
+def test_a_closure_of_periods_of_many_blocks_ends(seed):
+    """Trees of weak blocks that become strong in the next period once had no end."""
+    random = np.random.default_rng(seed)
+    arcs = sparse.csr_matrix(np.triu(random.random((300, 300)) < 0.02, 1).astype(np.int8))
+    values = random.integers(-10**6, 10**6, (6, 300))
+    found = closure.closure_of_periods(values, arcs, with_flows=True)
+    rows = np.repeat(np.arange(300), np.diff(arcs.indptr))
+    assert np.all(found.first[rows] >= found.first[arcs.indices])
+    nodes = np.arange(1800).reshape(6, 300)
+    steps = sparse.csr_matrix((np.ones(1500, np.int8), (nodes[:-1].ravel(), nodes[1:].ravel())),
+                              (1800, 1800))
+    whole = sparse.block_diag([arcs] * 6).tocsr() + steps
+    pit = closure.closure_of_periods(values.reshape(1, -1), whole).first == 0
+    in_pit = found.first <= np.arange(6)[:, None]
+    assert values[in_pit].sum() == values.ravel()[pit].sum()

@@ -5,7 +5,7 @@ import hashlib
 import pytest
 
 from pit_tools.cli import main
-from pit_tools.deposits import Deposit
+from pit_tools.deposits.seeded import Deposit
 from pit_tools.errors import UserError
 
 SUMS = [(Deposit("d1000000543lens", 1000000, (5, 4, 3), "lens"), "a5a1c4d6a56bc299",
@@ -30,7 +30,7 @@ def test_a_deposit_is_the_same_to_the_byte(deposit, plan, zones):
 
 
 def test_a_span_of_seeds_writes_files_and_a_list(tmp_path):
-    words = ["deposit", "--seed", "100-102", "--size", "12,9,6", "--shape", "lens,vein", "--folder",
+    words = ["deposit", "--seed", "100-102", "--size", "12,9,6", "--shape", "lens,vein", "--out",
              str(tmp_path), "--list", str(tmp_path / "LIST")]
     assert main(words) == 0
     lines = (tmp_path / "LIST").read_text().splitlines()

@@ -8,8 +8,8 @@ import pytest
 
 from exports import MINE, dec, known
 from pit_tools.errors import UserError
-from pit_tools.export_words import Words
-from pit_tools.importing import import_export
+from pit_tools.exports.words import Words
+from pit_tools.imports.steps import import_export
 
 CORNER = np.array([990.0, 1990.0, 295.0])
 

@@ -7,12 +7,12 @@ import re
 import pandas as pd
 import pytest
 
-from pit_tools.cells import Marks, marks_of
 from pit_tools.cli import main
 from pit_tools.errors import UserError
-from pit_tools.export_words import Words
-from pit_tools.formulas import Lacking, formula_of
-from pit_tools.importing import Imported, import_export
+from pit_tools.exports.cells import Marks, marks_of
+from pit_tools.exports.words import Words
+from pit_tools.imports.steps import Imported, import_export
+from pit_tools.texts.formulas import Lacking, formula_of
 
 USUAL = {"x": "X", "y": "Y", "z": "Z", "tonnes": "T", "grade": "AU", "zone": ["ZONE"]}
 
@@ -231,7 +231,7 @@ def test_what_was_written_is_known_to_plan(tmp_path, capsys, monkeypatch):
     monkeypatch.chdir(tmp_path)
     (tmp_path / "a.csv").write_text("".join(",".join(line) + "\n" for line in rows()))
     words = ["--x", "X", "--y", "Y", "--z", "Z", "--tonnes", "T", "--grade", "AU", "--zone", "ZONE",
-             "--base", "out/from"]
+             "--out", "out/from"]
     (tmp_path / "out").mkdir()
     assert main(["import", "a.csv", *words]) == 0
     assert "grid,0,0,0,10,10,10\nzone,1,1,4\nzone,1,1,4\n" in capsys.readouterr().out

@@ -8,13 +8,14 @@ import numpy as np
 import pytest
 
 import mines
-from pit_tools import instance, published_lines
-from pit_tools.cones import precedence_of
 from pit_tools.errors import UserError
-from pit_tools.instance import Limit, Uses, read_instance, write_instance
-from pit_tools.plan_file import Destination, read_plan
-from pit_tools.valuation import blocks_of, instance_of, worth_in_cents
-from pit_tools.zone_files import read_zone_files
+from pit_tools.instances import files
+from pit_tools.instances.files import Limit, Uses, read_instance, write_instance
+from pit_tools.instances.valuation import blocks_of, instance_of, worth_in_cents
+from pit_tools.plans.cones import precedence_of
+from pit_tools.plans.file import Destination, read_plan
+from pit_tools.plans.zone_files import read_zone_files
+from pit_tools.texts import lines as published_lines
 
 
 @pytest.mark.parametrize("make",
@@ -25,7 +26,7 @@ from pit_tools.zone_files import read_zone_files
 def test_an_instance_is_written_as_it_was_read(tmp_path, make):
     base = make(tmp_path)
     write_instance(read_instance(base), str(tmp_path / "copy"))
-    for text in instance.TEXTS:
+    for text in files.TEXTS:
         assert (tmp_path / f"copy.{text}").read_bytes() == open(f"{base}.{text}", "rb").read(), text
 
 
@@ -33,7 +34,7 @@ def test_small_pieces_are_read_as_large_ones(tmp_path, monkeypatch):
     base = mines.deposit(tmp_path, K=3)
     monkeypatch.setattr(published_lines, "_PIECE", 700)
     write_instance(read_instance(base), str(tmp_path / "copy"))
-    for text in instance.TEXTS:
+    for text in files.TEXTS:
         assert (tmp_path / f"copy.{text}").read_bytes() == open(f"{base}.{text}", "rb").read(), text
 
 
@@ -59,12 +60,12 @@ def test_a_remark_begins_each_file_and_changes_nothing_that_is_read(pitc, tmp_pa
     base = mines.six_blocks(tmp_path)
     write_instance(read_instance(base), str(tmp_path / "marked"), remark="of a trial")
     write_instance(read_instance(str(tmp_path / "marked")), str(tmp_path / "plain"))
-    for text in instance.TEXTS:
+    for text in files.TEXTS:
         whole = (tmp_path / f"plain.{text}").read_bytes()
         assert whole == open(f"{base}.{text}", "rb").read(), text
         assert (tmp_path / f"marked.{text}").read_bytes() == b"% of a trial\n" + whole
-    assert instance.remarks_of(str(tmp_path / "marked.blocks")) == ["of a trial"]
-    assert instance.remarks_of(base + ".blocks") == []
+    assert files.remarks_of(str(tmp_path / "marked.blocks")) == ["of a trial"]
+    assert files.remarks_of(base + ".blocks") == []
     counts = [subprocess.run([pitc, "check", path], capture_output=True, text=True, check=True).stdout
               for path in (base, str(tmp_path / "marked"))]
     assert counts[0] == counts[1] != ""
@@ -73,12 +74,12 @@ def test_a_remark_begins_each_file_and_changes_nothing_that_is_read(pitc, tmp_pa
 def test_files_that_check_accepts_are_read(tmp_path):
     base = mines.six_blocks(tmp_path)
     write_instance(read_instance(base), str(tmp_path / "plain"))
-    for text in instance.TEXTS:
+    for text in files.TEXTS:
         lines = (tmp_path / f"plain.{text}").read_text().splitlines()
         mended = [f" \t{line.replace(' ', '  ')} \r\n\r\n% a comment: 1\r\n" for line in lines]
         (tmp_path / f"odd.{text}").write_bytes(b"\xef\xbb\xbf" + "".join(mended).encode().rstrip())
     write_instance(read_instance(str(tmp_path / "odd")), str(tmp_path / "copy"))
-    for text in instance.TEXTS:
+    for text in files.TEXTS:
         assert (tmp_path
                 / f"copy.{text}").read_bytes() == (tmp_path / f"plain.{text}").read_bytes(), text
 
@@ -156,7 +157,7 @@ def test_a_damaged_file_is_refused_by_its_name(tmp_path, text, old, new, told):
     path.write_text(whole.replace(old, new, 1))
     with pytest.raises(UserError, match=told) as error:
         if text == "prec":
-            instance.read_precedence(f"{base}.prec", 6)
+            files.read_precedence(f"{base}.prec", 6)
         else:
             read_instance(base)
     assert f"mine.{text}" in str(error.value) and "\n" not in str(error.value)
@@ -170,7 +171,7 @@ def test_a_file_that_is_not_there_is_named(tmp_path):
 def test_predecessors_are_counted_without_reading_them(tmp_path):
     base = mines.deposit(tmp_path, K=3)
     mine = read_instance(base)
-    counts = instance.count_predecessors(f"{base}.prec")
+    counts = files.count_predecessors(f"{base}.prec")
     assert counts.tolist() == np.diff(mine.precedence.indptr).tolist()
 
 
@@ -198,7 +199,7 @@ def test_the_instance_that_a_plan_defines_is_that_of_the_plain_computation(tmp_p
     zones = [f"{base}-{number}.csv" for number in range(len(plan.zones))]
     write_instance(instance_of(plan, blocks_of(plan.grid, read_zone_files(zones))),
                    str(tmp_path / "copy"))
-    for text in instance.TEXTS:
+    for text in files.TEXTS:
         assert (tmp_path / f"copy.{text}").read_bytes() == open(f"{base}.{text}", "rb").read(), text
 
 

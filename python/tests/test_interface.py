@@ -10,7 +10,7 @@ import pytest
 
 import mines
 import pit_tools
-from pit_tools import programs
+from pit_tools.schedules import programs
 
 PYTHON = os.path.join(mines.TOP, "python")
 NAMES = [name for name in pit_tools.__all__ if name != "VERSION"]

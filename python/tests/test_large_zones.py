@@ -7,17 +7,17 @@ import pandas as pd
 import pytest
 
 from exports import MINE, USUAL, table, truth, usual
-from pit_tools import import_placing
 from pit_tools.cli import main
-from pit_tools.closure import is_compiled, pit_of_plan
 from pit_tools.errors import UserError
-from pit_tools.export_words import Words
-from pit_tools.imported import read_imported
-from pit_tools.imported_blocks import cut_zones
-from pit_tools.importing import import_export
-from pit_tools.plan_file import read_plan
-from pit_tools.valuation import blocks_of, values_of
-from pit_tools.zone_files import read_zone_file, read_zone_files
+from pit_tools.exports.words import Words
+from pit_tools.imports import placing
+from pit_tools.imports.blocks import cut_zones
+from pit_tools.imports.record import read_imported
+from pit_tools.imports.steps import import_export
+from pit_tools.instances.valuation import blocks_of, values_of
+from pit_tools.pits.closure import is_compiled, pit_of_plan
+from pit_tools.plans.file import read_plan
+from pit_tools.plans.zone_files import read_zone_file, read_zone_files
 
 MOST = 100
 
@@ -26,7 +26,7 @@ MOST = 100
 def here(tmp_path, monkeypatch):
     """A folder with an export, whose zones of more than 100 rows are cut."""
     monkeypatch.chdir(tmp_path)
-    monkeypatch.setattr(import_placing, "cut_zones", partial(cut_zones, most=MOST))
+    monkeypatch.setattr(placing, "cut_zones", partial(cut_zones, most=MOST))
     (tmp_path / "a.csv").write_text(table("X,Y,Z,TONNES,AU,ZONE", lambda b: ",".join(usual(b))))
     return tmp_path
 
@@ -50,7 +50,7 @@ def test_files_of_a_zone_have_all_its_rows_once(here):
 
 def test_a_plan_repeats_the_record_of_a_cut_zone(here, capsys):
     words = ["--x", "X", "--y", "Y", "--z", "Z", "--tonnes", "TONNES", "--grade", "AU", "--zone",
-             "ZONE", "--base", "from"]
+             "ZONE", "--out", "from"]
     assert main(["import", "a.csv", *words]) == 0
     assert main(["plan", "from.json", "--out", "mine.plan", "--price", "1804 USD/oz", "--mill",
                  "recovery 92 %, cost 16.50 USD/t", "--slope", "45", "--slope", "west: 60"]) == 0
@@ -76,7 +76,7 @@ def test_the_pit_of_a_cut_zone_is_that_of_the_whole(here, monkeypatch):
     """A slope is that of the lower block, and each file of a zone has the zone's slopes."""
     pits = []
     for base, most in (("cut", MOST), ("whole", 10 * len(MINE))):
-        monkeypatch.setattr(import_placing, "cut_zones", partial(cut_zones, most=most))
+        monkeypatch.setattr(placing, "cut_zones", partial(cut_zones, most=most))
         paths = import_export(["a.csv"], Words(**USUAL)).write(base)
         assert main(["plan", f"{base}.json", "--out", f"{base}.plan", "--price", "1804 USD/oz",
                      "--mill", "recovery 92 %, cost 16.50 USD/t", "--dump", "cost 1.80 USD/t",

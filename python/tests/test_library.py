@@ -6,11 +6,11 @@ import re
 import pandas as pd
 import pytest
 
-from pit_tools import library, library_search
 from pit_tools.cli import main
-from pit_tools.deposits import Deposit
-from pit_tools.library_search import Finding, instance_of, named, taken
-from pit_tools.schedules import read_schedule
+from pit_tools.deposits import library, search
+from pit_tools.deposits.search import Finding, instance_of, named, taken
+from pit_tools.deposits.seeded import Deposit
+from pit_tools.schedules.files import read_schedule
 
 
 def test_the_library_is_as_its_table_says(tmp_path):
@@ -38,7 +38,7 @@ def test_each_schedule_has_a_day_an_author_and_a_way(capsys):
 @pytest.fixture()
 def known(tmp_path):
     """A library in a folder of its own."""
-    assert main(["library", "--write", str(tmp_path / "known")]) == 0
+    assert main(["library", "--out", str(tmp_path / "known")]) == 0
     return tmp_path / "known"
 
 
@@ -132,10 +132,10 @@ def test_a_search_from_the_best_takes_nothing(known, capsys):
 
 def test_a_library_is_made_anew(tmp_path, monkeypatch):
     monkeypatch.setattr(library, "DEPOSITS", [Deposit("lens6", 6, (5, 4, 3), "lens")])
-    assert main(["library", "--build", str(tmp_path / "anew"), "--seconds", "36000"]) == 0
+    assert main(["library", "--seek", "all", "--out", str(tmp_path / "anew"), "--seconds", "36000"]) == 0
     assert main(["library", "--check", "--library", str(tmp_path / "anew")]) == 0
     deposit, kind = named("lens6.cpit")
     problem = instance_of(deposit, str(tmp_path / "anew")).cpit
     found = read_schedule(library.schedule_path("lens6", kind, str(tmp_path / "anew")), problem)
     assert f"{found.worth(problem):.2f}" == cells(tmp_path / "anew")["cpit_bound"]
-    assert library_search.named("lens6.pcpsp-schedule") == (deposit, "pcpsp")
+    assert search.named("lens6.pcpsp-schedule") == (deposit, "pcpsp")

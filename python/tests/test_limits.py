@@ -103,7 +103,7 @@ def test_a_text_that_begins_with_pk_is_no_archive(tmp_path, capsys):
 
 
 def test_an_archive_that_grows_beyond_all_measure_is_refused(tmp_path, capsys, monkeypatch):
-    monkeypatch.setattr("pit_tools.source.LEAST_UNPACKED", 100_000)
+    monkeypatch.setattr("pit_tools.exports.source.LEAST_UNPACKED", 100_000)
     status, told = imported(tmp_path,
                             gzip.compress((HEAD + ROWS + "0,0,20,1000,1\n" * 100_000).encode()),
                             capsys, name="a.gz")
@@ -117,8 +117,8 @@ def test_a_long_cell_in_quotes_is_read(tmp_path, capsys):
 
 
 def test_a_quote_that_is_not_closed_and_a_line_without_end_are_told(tmp_path, capsys, monkeypatch):
-    monkeypatch.setattr("pit_tools.source.MOST_LINE", 1 << 16)
-    monkeypatch.setattr("pit_tools.source.PIECE", 1 << 16)
+    monkeypatch.setattr("pit_tools.exports.source.MOST_LINE", 1 << 16)
+    monkeypatch.setattr("pit_tools.exports.source.PIECE", 1 << 16)
     status, told = imported(tmp_path, HEAD + ROWS + '"' + ROWS * 2000, capsys)
     assert status == 2 and "a quote that opens behind line" in told
     status, told = imported(tmp_path, HEAD + ROWS + "0" * 400_000, capsys)
@@ -148,7 +148,7 @@ def test_more_columns_than_a_sheet_has_are_refused(tmp_path, capsys):
 
 
 def test_a_dollar_in_a_name_is_text_in_a_picture():
-    from pit_tools.pictures import figure, png_of
+    from pit_tools.surveys.pictures import figure, png_of
 
     drawn = figure(2, 2)
     drawn.suptitle("$50 pit at $\\bad")

@@ -6,8 +6,8 @@ import numpy as np
 import pandas as pd
 import pytest
 
-from pit_tools.decimals import SHOWING, floats_of
-from pit_tools.rock_doubts import column_of_places, ends_of
+from pit_tools.inventories.rock import column_of_places, ends_of
+from pit_tools.texts.decimals import SHOWING, floats_of
 
 TEXTS = ["0.1", "-99", "1e400", "1e0310", "1E3", "x", "", None, "+7.", " 2.5", "0x10", "inf"]
 

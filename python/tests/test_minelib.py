@@ -6,9 +6,10 @@ import numpy as np
 import pytest
 
 import mines
-from pit_tools import instance, published_lines
 from pit_tools.cli import main
-from pit_tools.instance import read_instance
+from pit_tools.instances import files as instance
+from pit_tools.instances.files import read_instance
+from pit_tools.texts import lines as published_lines
 
 
 def lines_of(path):
@@ -362,6 +363,6 @@ def test_outward_and_back(tmp_path):
 def test_arcs_that_others_imply_may_stay_behind(tmp_path):
     base = mines.deposit(tmp_path, K=4)
     assert main(["minelib", "--publish", base, "--out", str(tmp_path / "fewer"),
-                 "--immediate"]) == 0
+                 "--fewer-arcs"]) == 0
     fewer = instance.read_precedence(str(tmp_path / "fewer.prec"))
     assert 0 < fewer.nnz < read_instance(base).precedence.nnz and np.all(np.diff(fewer.indptr) >= 0)

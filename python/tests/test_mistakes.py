@@ -11,12 +11,12 @@ import numpy as np
 import pandas as pd
 import pytest
 
-from pit_tools.deposits import Deposit
-from pit_tools.instance import Outline
-from pit_tools.plan_file import plan_of
-from pit_tools.survey_facts import Facts, ZoneFile
-from pit_tools.survey_text import survey_text
-from pit_tools.valuation import blocks_of, instance_of
+from pit_tools.deposits.seeded import Deposit
+from pit_tools.instances.files import Outline
+from pit_tools.instances.valuation import blocks_of, instance_of
+from pit_tools.plans.file import plan_of
+from pit_tools.surveys.facts import Facts, ZoneFile
+from pit_tools.surveys.text import survey_text
 
 ZONES = ("oxide", "west", "east")
 

@@ -8,12 +8,12 @@ import openpyxl
 import pytest
 
 import mines
-from pit_tools import closure
 from pit_tools.cli import main
 from pit_tools.errors import UserError
-from pit_tools.nested import factors_of, nested_pits
-from pit_tools.pits import read_pit
-from pit_tools.survey_facts import read_valued
+from pit_tools.pits import closure
+from pit_tools.pits.files import read_pit
+from pit_tools.pits.nested import factors_of, nested_pits
+from pit_tools.surveys.facts import read_valued
 
 #: Which blocks of the six wait for which.
 ABOVE = {0: (3, 4), 1: (3, 4, 5), 2: (4, 5)}
@@ -93,8 +93,8 @@ def test_each_pit_is_that_of_a_plan_with_this_price(tmp_path, capsys, monkeypatc
 def test_the_table_and_the_picture(tmp_path, monkeypatch, capsys):
     monkeypatch.chdir(tmp_path)
     mines.deposit(tmp_path, 5, (12, 10, 6))
-    words = ["nested", "mine.plan", "mine", "--factors", "1,0.5", "--csv", "pits.csv",
-             "--workbook", "pits.xlsx", "--picture", "pits.svg"]
+    words = ["nested", "mine.plan", "mine", "--factors", "1,0.5", "--out", "pits.csv",
+             "--out", "pits.xlsx", "--out", "pits.svg"]
     assert main(words) == 0
     told = capsys.readouterr().out
     with open("pits.csv", encoding="utf-8") as file:
@@ -126,9 +126,9 @@ def test_what_is_no_factor_is_told(text, told):
 
 
 @pytest.mark.parametrize("change, words, told", [
-    (("1500", "1500"), ["--picture", "a.bmp"], "--picture: `a.bmp` ends with none"),
+    (("1500", "1500"), ["--out", "a.bmp/"], "`a.bmp/` ends in a slash"),
     (("1500", "1400"), [], "values of the instance are not those of this plan"),
-    (("1500", "1500"), ["--out", "mine.plan", "--csv", "mine.plan"], "it would be written over"),
+    (("1500", "1500"), ["--out", "mine.plan", "--out", "mine.plan"], "two files would have this name"),
 ])
 def test_what_is_wrong_is_told_in_a_line(tmp_path, monkeypatch, capsys, change, words, told):
     monkeypatch.chdir(tmp_path)

@@ -11,10 +11,11 @@ from dataclasses import replace
 
 import pytest
 
-from pit_tools import inputs, outputs
+import mines
 from pit_tools.cli import main
 from pit_tools.errors import UserError
-from pit_tools.records import File, read_record
+from pit_tools.files import inputs, outputs
+from pit_tools.files.records import File, read_record
 
 HERE = os.path.dirname(os.path.dirname(os.path.abspath(__file__)))
 
@@ -50,15 +51,29 @@ def test_an_export_is_not_written_over(here, capsys, make):
     linked(make, here)
     read = "export.csv" if os.path.exists("export.csv") else "mine-all.csv"
     before = files_of(here)
-    assert main(["import", read, *WORDS, "--base", "mine", "--force"]) == 2
+    assert main(["import", read, *WORDS, "--out", "mine", "--force"]) == 2
     told = capsys.readouterr().err
     assert "mine-all.csv" in told and read in told and "reads" in told
     assert files_of(here) == before
 
 
+def test_a_dash_is_no_file_where_nothing_is_printed(here, capsys):
+    """Other commands print what is written to -, as lp."""
+    base = mines.six_blocks(here)
+    before = files_of(here)
+    for words in (["pit", base], ["bounds", base], ["solve", base + ".cpit", base + ".prec"],
+                  ["lp", base + ".upit", base + ".prec", "--dimacs"]):
+        assert main([*words, "--out", "-"]) == 2 and files_of(here) == before
+        assert "-: this goes to a file alone" in capsys.readouterr().err
+    assert main(["lp", base + ".upit", base + ".prec", "--out", "-"]) == 0
+    assert capsys.readouterr().out.startswith("\\ ")
+    write("./-", "0\n")
+    assert (here / "-").read_text() == "0\n"
+
+
 def test_the_json_of_an_import_is_not_written_over_its_export(here, capsys):
     (here / "mine.json").write_text(EXPORT)
-    assert main(["import", "mine.json", *WORDS, "--base", "mine"]) == 2
+    assert main(["import", "mine.json", *WORDS, "--out", "mine"]) == 2
     assert "mine.json: this command reads it" in capsys.readouterr().err
     assert files_of(here) == {"mine.json": EXPORT.encode()}
 
@@ -67,7 +82,7 @@ def test_a_table_of_zones_is_not_written_over(here, capsys):
     (here / "export.csv").write_text(EXPORT)
     (here / "mine-d0.csv").write_text("DOMAIN,zone\nd0,d0\nd1,d1\n")
     before = files_of(here)
-    assert main(["import", "export.csv", *WORDS, "--zones", "mine-d0.csv", "--base", "mine"]) == 2
+    assert main(["import", "export.csv", *WORDS, "--zones", "mine-d0.csv", "--out", "mine"]) == 2
     assert "mine-d0.csv: this command reads it" in capsys.readouterr().err
     assert files_of(here) == before
 
@@ -75,12 +90,12 @@ def test_a_table_of_zones_is_not_written_over(here, capsys):
 def test_a_file_of_another_kind_is_kept_but_by_force(here, capsys):
     (here / "export.csv").write_text(EXPORT)
     (here / "mine-all.csv").write_text("assays of 1998\n")
-    assert main(["import", "export.csv", *WORDS, "--base", "mine"]) == 2
+    assert main(["import", "export.csv", *WORDS, "--out", "mine"]) == 2
     assert ("mine-all.csv: the file there is of another kind than `zone "
             "file`" in capsys.readouterr().err)
     assert set(files_of(here)) == {"export.csv", "mine-all.csv"}
-    assert main(["import", "export.csv", *WORDS, "--base", "mine", "--force"]) == 0
-    assert main(["import", "export.csv", *WORDS, "--base", "mine"]) == 0
+    assert main(["import", "export.csv", *WORDS, "--out", "mine", "--force"]) == 0
+    assert main(["import", "export.csv", *WORDS, "--out", "mine"]) == 0
     assert files_of(here)["mine-all.csv"].startswith(b"x,y,z,tonnes,grade\n0,0,0,1000,0.5\n")
 
 
@@ -174,7 +189,7 @@ def test_devices_and_pipes_are_written_through(here):
 
 SCRIPT = """
 import os, sys, time
-from pit_tools import outputs
+from pit_tools.files import outputs
 with outputs.together():
     for name in ("one", "two"):
         with outputs.opened(name, "pit", "ascii") as file:
@@ -225,9 +240,9 @@ def test_a_folder_that_was_made_goes_again(here):
 
 
 def test_every_command_that_writes_says_what_it_replaces(capsys):
-    for command in ("import", "plan", "back", "report", "nested", "section", "shell", "survey",
-                    "read", "pit", "lp", "solve", "dimacs", "texts", "check-schedule", "minelib",
-                    "deposit", "vary", "by-zone", "library"):
+    for command in ("import", "plan", "compile", "back", "report", "nested", "shell", "survey",
+                    "read", "pit", "lp", "solve", "check-schedule", "minelib", "deposit", "vary",
+                    "by-zone", "library"):
         assert main([command, "--help"]) == 0
         told = capsys.readouterr().out
         assert "It replaces" in told and "--force" in told, command

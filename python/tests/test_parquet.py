@@ -16,9 +16,9 @@ import mines
 from exports import MINE, USUAL, known
 from pit_tools.cli import main
 from pit_tools.errors import UserError
-from pit_tools.export_words import Words
-from pit_tools.importing import import_export
-from pit_tools.parquet import bytes_of, texts_of
+from pit_tools.exports.words import Words
+from pit_tools.files.parquet import bytes_of, texts_of
+from pit_tools.imports.steps import import_export
 from test_back import PLAN
 
 HAS_ENGINE = any(map(importlib.util.find_spec, ("pyarrow", "fastparquet")))
@@ -123,7 +123,7 @@ def test_without_a_package_or_damaged_it_is_refused(here, monkeypatch, capsys, f
     def fails(path):
         raise fault
     monkeypatch.setattr(pd, "read_parquet", fails)
-    words = "--x X --y Y --z Z --tonnes TONNES --grade AU --zone ZONE --base from"
+    words = "--x X --y Y --z Z --tonnes TONNES --grade AU --zone ZONE --out from"
     assert main(["import", "a.parquet", *words.split()]) == 2
     assert re.search(message, capsys.readouterr().err) and not list(here.glob("from*"))
 
@@ -140,7 +140,7 @@ def back_to(name: str, here) -> pd.DataFrame:
         frame.to_csv(name, index=False)
     else:
         put(frame, name)
-    words = "--x X --y Y --z Z --tonnes T --grade AU --base from --size 20,20,10"
+    words = "--x X --y Y --z Z --tonnes T --grade AU --out from --size 20,20,10"
     assert main(["import", name, *words.split()]) == 0
     plan = PLAN.replace("zone,1,1,3\nzone,1,1,3\n", "zone,1,1,2\n")
     mines.quickly_compiled(here, plan, [(here / "from-all.csv").read_text()])

@@ -5,10 +5,10 @@ import numpy as np
 import pandas as pd
 import pytest
 
-from pit_tools.decimals import parts_of, plain, rounded, shortest, texts_of
 from pit_tools.errors import UserError
-from pit_tools.plan_file import Slope, plan_of
-from pit_tools.zone_files import read_zone_file, write_zone_file
+from pit_tools.plans.file import Slope, plan_of
+from pit_tools.plans.zone_files import read_zone_file, write_zone_file
+from pit_tools.texts.decimals import parts_of, plain, rounded, in_short, texts_of
 
 PLAN = """name,pit
 grid,1000.5,2000,-300,20,20,10
@@ -88,7 +88,7 @@ def test_what_is_no_number_is_told():
 def test_numbers_are_written_with_their_decimals():
     assert texts_of([0, -1, 2700500, 10 ** 12], 3).tolist() == ["0.000", "-0.001", "2700.500",
                                                                 "1000000000.000"]
-    assert shortest(2700500, 3) == "2700.5" and shortest(-20000, 3) == "-20"
+    assert in_short(2700500, 3) == "2700.5" and in_short(-20000, 3) == "-20"
     assert plain(Decimal("1E+3")) == "1000" and plain(Decimal("-0.0")) == "0"
 
 

@@ -7,7 +7,7 @@ import mines  # noqa: F401  # pylint: disable=unused-import
 from rows import pairs, plans
 
 from pit_tools.errors import UserError
-from pit_tools.plan_file import PlanError, read_plan
+from pit_tools.plans.file import PlanError, read_plan
 
 TAKEN = "settings: Files"
 

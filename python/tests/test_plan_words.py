@@ -4,10 +4,10 @@ from decimal import Decimal
 import pytest
 
 from pit_tools.errors import UserError
-from pit_tools.plan_file import Grid, Slope, plan_of
-from pit_tools.plan_words import Purse, Spoken, Told, plan_from, price_of, sides_of
-from pit_tools.slope_words import degrees_of, slope_of, slopes_of
-from pit_tools.units import Measures
+from pit_tools.plans.file import Grid, Slope, plan_of
+from pit_tools.plans.slopes import degrees_of, slope_of, slopes_of
+from pit_tools.plans.words import Purse, Spoken, Told, plan_from, price_of, sides_of
+from pit_tools.texts.units import Measures
 
 GRID = Grid((Decimal(1000), Decimal(2000), Decimal(300)), (Decimal(20), Decimal(20), Decimal(10)))
 

@@ -95,7 +95,7 @@ def folder_with_a_mine(tmp_path):
 
 
 IMPORT = ["import", "export.csv", "--x", "x", "--y", "y", "--z", "z", "--tonnes", "tonnes",
-          "--grade", "grade", "--size", "10,10,10", "--base", "from"]
+          "--grade", "grade", "--size", "10,10,10", "--out", "from"]
 
 
 @pytest.mark.parametrize("words, seen", [
@@ -147,7 +147,9 @@ COMPILE = ["compile", "--plan", "mine.plan", "--out", "slow", "--pitc", "./pitc"
 
 
 @pytest.mark.parametrize("fault, status, line", [
-    ("", 0, "rows 7\n"), ("sink prec: SinkFailed", 3, "pitc: sink prec: SinkFailed\n")])
+    ("", 0, "rows 7\n"),
+    ("sink prec: SinkFailed", 3, "pitc: sink prec: SinkFailed\npit-tools compile: slow.prec: it cannot be "
+     "written: is the disk full, or the folder not yours?\n")])
 def test_compile_shows_bytes_and_hands_on_line_and_status(folder, fault, status, line):
     wanted = (status, "" if fault else line, line if fault else "")
     assert apart(COMPILE, folder, FAULT=fault) == wanted
@@ -212,7 +214,10 @@ def test_compile_says_what_pitc_says(tmp_path, pitc):
                   ["--out", "a", "mine-0.csv"]):
         done = subprocess.run([pitc, "compile", *words], cwd=tmp_path, capture_output=True,
                               text=True, check=False)
-        wanted = (done.returncode, done.stdout, done.stderr)
-        assert apart(["compile", "--pitc", pitc, *words], tmp_path) == wanted, words
+        status, told, error = apart(["compile", "--pitc", pitc, *words], tmp_path)
+        assert (status, told) == (done.returncode, done.stdout), words
+        assert error.startswith(done.stderr), words
+        reasons = error[len(done.stderr):].splitlines()
+        assert all(reason.startswith("pit-tools compile: ") for reason in reasons), words
     done = apart(["compile", "--pitc", "no-such-program", "--plan", "mine.plan"], tmp_path)
     assert done[0] == 2 and "no program `no-such-program`" in done[2]

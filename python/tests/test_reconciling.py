@@ -13,19 +13,19 @@ from functools import partial
 import pytest
 
 import mines
-from pit_tools import import_placing
 from pit_tools.cli import main
 from pit_tools.errors import UserError
-from pit_tools.export_words import Words
-from pit_tools.holdings import holdings_of
-from pit_tools.imported import read_imported
-from pit_tools.imported_blocks import cut_zones
-from pit_tools.importing import Wanted, import_export
-from pit_tools.survey_box import Inputs, box
-from pit_tools.survey_facts import read_facts
-from pit_tools.units import Measures
-from pit_tools.valuation import blocks_of
-from pit_tools.zone_files import read_zone_files
+from pit_tools.exports.words import Words
+from pit_tools.imports import placing
+from pit_tools.imports.blocks import cut_zones
+from pit_tools.imports.record import read_imported
+from pit_tools.imports.steps import Wanted, import_export
+from pit_tools.instances.valuation import blocks_of
+from pit_tools.inventories.holdings import holdings_of
+from pit_tools.plans.zone_files import read_zone_files
+from pit_tools.surveys.box import Inputs, box
+from pit_tools.surveys.facts import read_facts
+from pit_tools.texts.units import Measures
 
 WORDS = {"x": "X", "y": "Y", "z": "Z", "tonnes": "T", "grade": "AU", "zone": ["ZONE"]}
 OUNCES = 324_000 / 31.1034768
@@ -244,7 +244,7 @@ def doubled(row):
 def test_blocks_of_a_report_are_rows_of_the_export(words, rows, blocks, tmp_path, monkeypatch):
     """A package counts each of its blocks once, of whatever size; parts of it are none, and what
     the instance has after summing up or cutting is not laid beside that."""
-    monkeypatch.setattr(import_placing, "cut_zones", partial(cut_zones, most=8))
+    monkeypatch.setattr(placing, "cut_zones", partial(cut_zones, most=8))
     report = (f"zone,tonnes,blocks\nwest,162000,{blocks[0]}\neast,100000,{blocks[1]}\n"
               f"total,262000,{sum(blocks)}\n")
     found = reconciled(tmp_path, report, rows, **words)
@@ -270,7 +270,7 @@ PLAN = ["plan", "from.json", "--out", "mine.plan", "--name", "mine", "--price", 
 def planned(folder, capsys):
     written(folder, rows_of())
     (folder / "report.csv").write_text(TRUE)
-    words = "import export.csv --x X --y Y --z Z --tonnes T --grade AU --zone ZONE --base from"
+    words = "import export.csv --x X --y Y --z Z --tonnes T --grade AU --zone ZONE --out from"
     assert main([*words.split(), "--reconcile", "report.csv"]) == 0
     assert main(PLAN) == 0
     return capsys.readouterr().out
@@ -305,6 +305,6 @@ def test_the_survey_compares_and_shows_the_report_in_its_box(tmp_path, monkeypat
     mines.quickly_compiled(tmp_path, plan, [east, west])
     (tmp_path / "mine.plan").write_text(plan)
     capsys.readouterr()
-    assert main(["survey", "mine.plan", "mine", "--html", "survey.html"]) == 2
+    assert main(["survey", "mine.plan", "mine", "--out", "survey.html"]) == 2
     assert "zones are exchanged" in capsys.readouterr().err
     assert not (tmp_path / "survey.html").exists()

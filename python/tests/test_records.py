@@ -11,16 +11,16 @@ import sys
 import pytest
 
 import mines
-from pit_tools import records
 from pit_tools.cli import main
-from pit_tools.records import File, Record, read_record
+from pit_tools.files import records
+from pit_tools.files.records import File, Record, read_record
 
 EXPORT = "X,Y,Z,T,AU,DOMAIN\n" + "".join(
     f"{x},{y},{z},1000,{(x + z) % 7}.5,{'west' if x < 30 else 'east'}\n"
     for x in range(0, 60, 10) for y in range(0, 60, 10) for z in (0, 10))
 
 IMPORT = ["import", "export.csv", "--x", "X", "--y", "Y", "--z", "Z", "--tonnes", "T", "--grade",
-          "AU", "--zone", "DOMAIN", "--base", "from"]
+          "AU", "--zone", "DOMAIN", "--out", "from"]
 
 PLAN = ["plan", "from.json", "--out", "mine.plan", "--price", "58 USD/g", "--mill",
         "recovery 92 %, cost 16.50 USD/t", "--dump", "cost 4 USD/t", "--slope", "45"]
@@ -95,8 +95,8 @@ def test_one_run_is_read_by_each_command(here, capsys):
                   ["back", "mine.plan", "mine", "mine.pit", "--onto", "from.json"],
                   ["shell", "mine.plan", "mine", "mine.pit", "--out", "mine.obj"],
                   ["lp", "mine.upit", "mine.prec", "--out", "mine.lp"],
-                  ["read", "mine", "--write", "copy"], ["report", "mine.plan", "copy", "n1.pit"],
-                  IMPORT, PLAN, COMPILE, ["slopes", "mine.plan"]):
+                  ["read", "mine", "--out", "copy"], ["report", "mine.plan", "copy", "n1.pit"],
+                  IMPORT, PLAN, COMPILE, ["plan", "--walls", "mine.plan"]):
         assert main(words) == 0, words
 
 
@@ -114,15 +114,15 @@ def test_a_cell_that_was_changed_is_noticed(here, capsys, words):
 @pytest.mark.parametrize("name, words", [
     ("mine.prec", ["read", "mine"]), ("mine.cpit", ["solve", "mine.cpit", "mine.prec"]),
     ("mine.upit", ["pit", "mine"]),
-    ("mine.upit", ["dimacs", "mine.upit", "mine.prec", "--out", "f"]),
+    ("mine.upit", ["lp", "--dimacs", "mine.upit", "mine.prec", "--out", "f"]),
     ("mine.upit", ["lp", "mine.upit", "mine.prec"]), ("mine.prec", ["bounds", "mine"]),
     ("mine.pcpsp", ["report", "mine.plan", "mine", "some.pit"]),
     ("mine.pcpsp", ["nested", "mine.plan", "mine"]),
     ("mine.blocks", ["back", "mine.plan", "mine", "some.pit"]),
-    ("mine.blocks", ["section", "mine.plan", "mine", "--out", "f.png"]),
+    ("mine.blocks", ["survey", "mine.plan", "mine", "--out", "f.png"]),
     ("mine.plan", ["shell", "mine.plan", "mine", "some.pit", "--out", "f.obj"]),
-    ("mine.plan", ["vary", "mine.plan", "--set", "K=2"]), ("mine.plan", ["slopes", "mine.plan"]),
-    ("mine.blocks", ["by-zone", "both", "mine:0,1"]),
+    ("mine.plan", ["vary", "mine.plan", "--set", "K=2"]), ("mine.plan", ["plan", "--walls", "mine.plan"]),
+    ("mine.blocks", ["by-zone", "mine:0,1", "--out", "both"]),
     ("mine.blocks", ["minelib", "--publish", "mine", "--out", "f"])],
     ids=lambda words: " ".join(words[:1]) if isinstance(words, list) else words)
 def test_each_command_that_reads_notices(here, capsys, name, words):
@@ -237,17 +237,17 @@ def test_a_file_that_is_replaced_alone_leaves_its_record(here):
 
 
 def test_a_file_of_an_earlier_instance_goes_or_is_refused(here, capsys):
-    assert main(["read", "mine", "--write", "copy"]) == 0
+    assert main(["read", "mine", "--out", "copy"]) == 0
     os.remove("mine.cpit"), os.remove("mine.sums")
     capsys.readouterr()
-    assert main(["read", "mine", "--write", "copy"]) == 0 and not os.path.exists("copy.cpit")
+    assert main(["read", "mine", "--out", "copy"]) == 0 and not os.path.exists("copy.cpit")
     assert "\nremoved: copy.cpit\n" in capsys.readouterr().out
     (here / "copy.cpit").write_bytes((here / "made.cpit").read_bytes())
     before = os.stat("copy.blocks").st_ino
-    assert "copy.cpit: it stands beside what is written" in refusal(["read", "mine", "--write",
+    assert "copy.cpit: it stands beside what is written" in refusal(["read", "mine", "--out",
                                                                     "copy"], capsys)
     assert os.stat("copy.blocks").st_ino == before and os.path.exists("copy.cpit")
-    assert main(["read", "mine", "--write", "copy", "--force"]) == 0
+    assert main(["read", "mine", "--out", "copy", "--force"]) == 0
     assert not os.path.exists("copy.cpit") and main(["read", "copy"]) == 0
 
 
@@ -270,7 +270,7 @@ def test_a_zone_that_is_no_more_loses_its_file_unless_it_was_edited(here, capsys
 def test_files_of_another_command_stay_where_its_record_has_the_name(here):
     assert main(["mine2" if word == "mine.plan" else word for word in PLAN]) == 0
     plan, note = (here / "mine2").read_text(), (here / "mine2.json").read_text()
-    assert main(["read", "mine", "--write", "mine2"]) == 0
+    assert main(["read", "mine", "--out", "mine2"]) == 0
     assert (here / "mine2").read_text() == plan and (here / "mine2.json").read_text() == note
     assert (here / "mine2.blocks").exists()
 
@@ -324,7 +324,7 @@ def test_a_refused_stat_is_an_error(here, monkeypatch, capsys):
         return real(path, *words, **named)
 
     monkeypatch.setattr(os, "stat", refusing)
-    assert "mine.cpit: Permission denied" in refusal(["read", "mine", "--write", "copy"], capsys)
+    assert "mine.cpit: Permission denied" in refusal(["read", "mine", "--out", "copy"], capsys)
     assert not os.path.exists("copy.blocks")
 
 
@@ -429,7 +429,7 @@ def test_a_file_system_without_locks_is_written_all_the_same(here, monkeypatch, 
 
 
 def test_a_lock_that_never_goes_is_told(here, monkeypatch, capsys):
-    monkeypatch.setattr("pit_tools.renames.SECONDS_OF_A_PUT", 0.1)
+    monkeypatch.setattr("pit_tools.files.renames.SECONDS_OF_A_PUT", 0.1)
     descriptor = os.open(".", os.O_RDONLY)
     fcntl.flock(descriptor, fcntl.LOCK_EX)
     before = sorted(os.listdir("."))

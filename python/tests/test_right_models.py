@@ -8,10 +8,10 @@ import pytest
 
 import mines
 from pit_tools.cli import main
-from pit_tools.closure import pit_of_plan
-from pit_tools.plan_file import read_plan
-from pit_tools.valuation import blocks_of, values_of
-from pit_tools.zone_files import read_zone_files
+from pit_tools.instances.valuation import blocks_of, values_of
+from pit_tools.pits.closure import pit_of_plan
+from pit_tools.plans.file import read_plan
+from pit_tools.plans.zone_files import read_zone_files
 
 WIDE, HIGH = 26, 8
 
@@ -119,7 +119,7 @@ def looked_at(text: str) -> list[str]:
 
 def doubts_of(right: Right, folder, capsys) -> list[str]:
     (folder / "export.csv").write_text(export_of(right))
-    words = "--x x --y y --z z --tonnes tonnes --zone zone --base from".split()
+    words = "--x x --y y --z z --tonnes tonnes --zone zone --out from".split()
     if right.is_cut:
         words += ["--parents", ",".join(map(str, right.size)), "--sub-size", "wide,deep,high"]
     else:

@@ -14,17 +14,18 @@ from scipy import sparse
 
 import mines
 import shared
-from pit_tools import instance
 from pit_tools.cli import main
 from pit_tools.errors import UserError
-from pit_tools.identifiers import Identifiers, order_of, read_identifiers, write_identifiers
-from pit_tools.instance import (Blocks, Instance, Limit, Problem, UltimatePit, Uses, read_instance,
-                                write_instance)
-from pit_tools.minelib import Columns, read_published, write_published
-from pit_tools.pits import read_pit, write_pit
-from pit_tools.plan_file import plan_of
-from pit_tools.schedules import Schedule, read_schedule, write_schedule
-from pit_tools.zone_files import read_zone_file, write_zone_file
+from pit_tools.instances import files
+from pit_tools.instances.files import (Blocks, Instance, Limit, Problem, UltimatePit, Uses,
+                                       read_instance, write_instance)
+from pit_tools.instances.identifiers import (Identifiers, order_of, read_identifiers,
+                                             write_identifiers)
+from pit_tools.instances.minelib import Columns, read_published, write_published
+from pit_tools.pits.files import read_pit, write_pit
+from pit_tools.plans.file import plan_of
+from pit_tools.plans.zone_files import read_zone_file, write_zone_file
+from pit_tools.schedules.files import Schedule, read_schedule, write_schedule
 
 SOME = settings(max_examples=25, deadline=None, derandomize=True,
                 suppress_health_check=[HealthCheck.too_slow, HealthCheck.data_too_large])
@@ -106,7 +107,7 @@ def six_texts():
     """The texts of the six blocks, by their endings."""
     with tempfile.TemporaryDirectory() as folder:
         base = mines.six_blocks(folder)
-        return {text: shared.read(f"{base}.{text}") for text in instance.TEXTS}
+        return {text: shared.read(f"{base}.{text}") for text in files.TEXTS}
 
 
 @functools.lru_cache(maxsize=None)
@@ -137,7 +138,7 @@ def test_an_instance_that_is_written_is_read_back(mine):
 
 
 @SOME
-@given(st.sampled_from(instance.TEXTS), st.integers(0, 10**6),
+@given(st.sampled_from(files.TEXTS), st.integers(0, 10**6),
        st.sampled_from(["", "0", "-1", "7", "0.5", "300", "1e3", "1e15", "nan", "inf", "x", ".",
                         "4294967296", "5.0000001", "1 2", ":", "%", "\n", '"', "NAME: a b"]))
 def test_what_a_reader_takes_it_can_write(text, place, cell):
@@ -163,7 +164,7 @@ def test_published_files_are_read_back(mine, order):
         base = os.path.join(folder, "mine")
         write_published(mine, base, order)
         found, identifiers = read_published({ending: f"{base}.{ending}"
-                                             for ending in instance.TEXTS}, Columns(5, 6, 7), order)
+                                             for ending in files.TEXTS}, Columns(5, 6, 7), order)
         assert same(mine, found) and identifiers.published.tolist() == list(range(len(mine.blocks)))
 
 
@@ -174,7 +175,7 @@ def test_blocks_come_before_what_they_wait_for(mine):
         base = os.path.join(folder, "mine")
         write_published(mine, base)
         found, identifiers = read_published({ending: f"{base}.{ending}"
-                                             for ending in instance.TEXTS}, Columns(5, 6, 7), "bdr")
+                                             for ending in files.TEXTS}, Columns(5, 6, 7), "bdr")
         assert order_of(found.precedence) is None
         before = identifiers.published
         assert sorted(before) == list(range(len(mine.blocks)))
@@ -212,14 +213,14 @@ def test_a_schedule_is_read_back(lines, is_pcpsp):
 
 
 @SOME
-@given(st.sampled_from(instance.TEXTS), st.integers(0, 10**6),
+@given(st.sampled_from(files.TEXTS), st.integers(0, 10**6),
        st.sampled_from(["", "0", "-1", "7", "0.5", "300", "1e3", "1e15", "nan", "inf", "x", ".",
                         "4294967296", "5.0000001", "1 2", ":", "%", "\n", '"', "EOF"]))
 def test_a_changed_published_file_is_taken_or_refused_in_a_line(text, place, cell):
     """What is brought in is an instance that the reader takes."""
     with tempfile.TemporaryDirectory() as folder:
         base = changed(folder, text, place, cell)
-        words = [word for ending in instance.TEXTS for word in (f"--{ending}", f"{base}.{ending}")]
+        words = [word for ending in files.TEXTS for word in (f"--{ending}", f"{base}.{ending}")]
         status = main(["minelib", *words, "--tonnes", "5", "--grade", "6", "--zone", "7", "--out",
                        os.path.join(folder, "again")])
         assert status in (0, 2)
@@ -287,4 +288,4 @@ def test_a_zone_file_is_read_back_and_a_changed_cell_is_taken_or_refused(rows, a
 def test_a_number_that_cannot_be_held_is_not_written(tmp_path):
     upit = UltimatePit("mine", np.array([1e15, 0.25]))
     with pytest.raises(UserError, match="above"):
-        instance.write_upit(upit, str(tmp_path / "mine.upit"))
+        files.write_upit(upit, str(tmp_path / "mine.upit"))

@@ -10,14 +10,14 @@ import pytest
 from scipy import sparse
 
 import mines
-from pit_tools import programs
 from pit_tools.cli import main
-from pit_tools.ended import Beside, within
 from pit_tools.errors import UserError
-from pit_tools.instance import Blocks, Limit, Problem, Uses, read_instance
-from pit_tools.programs import program_of, solve
-from pit_tools.schedule_search import SHELLS, STEP, Search, from_shells, shells
-from pit_tools.schedules import Schedule, check
+from pit_tools.instances.files import Blocks, Limit, Problem, Uses, read_instance
+from pit_tools.schedules import programs
+from pit_tools.schedules.ended import Beside, within
+from pit_tools.schedules.files import Schedule, check
+from pit_tools.schedules.programs import program_of, solve
+from pit_tools.schedules.search import SHELLS, STEP, Search, from_shells, shells
 
 
 def mine_of(tmp_path, size=(6, 5, 4), shape="lens"):

@@ -14,11 +14,11 @@ from scipy import sparse
 import mines
 from pit_tools.cli import main
 from pit_tools.errors import UserError
-from pit_tools.instance import (Limit, Problem, Uses, read_instance, read_precedence,
-                                read_problem)
-from pit_tools.programs import by_period, program_of, program_of_upit, schedule_of, solve
-from pit_tools.schedules import (Schedule, check, read_schedule, read_variables,
-                                 schedule_of_variables)
+from pit_tools.instances.files import (Limit, Problem, Uses, read_instance, read_precedence,
+                                       read_problem)
+from pit_tools.schedules.files import (Schedule, check, read_schedule, read_variables,
+                                       schedule_of_variables)
+from pit_tools.schedules.programs import by_period, program_of, program_of_upit, schedule_of, solve
 
 
 def two_blocks_of_mill(folder):
@@ -344,9 +344,16 @@ def test_glpsol_takes_the_text(tmp_path, make, kind, value):
     assert float(answer[1]) == pytest.approx(value, abs=0.01)
 
 
+@pytest.mark.parametrize("word", ["--relaxed", "--whole", "--by-period"])
+def test_a_flow_has_no_periods_and_destinations(tmp_path, capsys, word):
+    place = str(tmp_path / "flow")
+    assert main(["lp", "--dimacs", word, "a.upit", "a.prec", "--out", place]) == 2
+    assert "give it without --relaxed" in capsys.readouterr().err and not Path(place).exists()
+
+
 def test_the_flow_in_dimacs(tmp_path):
     base = mines.six_blocks(tmp_path)
-    assert main(["dimacs", base + ".upit", base + ".prec", "--out", str(tmp_path / "flow")]) == 0
+    assert main(["lp", "--dimacs", base + ".upit", base + ".prec", "--out", str(tmp_path / "flow")]) == 0
     lines = (tmp_path / "flow").read_text().splitlines()
     assert lines[:6] == ["p max 8 13", "n 7 s", "n 8 t", "a 7 1 22194000", "a 7 2 30942000",
                          "a 7 3 6156000"]

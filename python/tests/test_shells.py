@@ -9,10 +9,10 @@ import pytest
 
 import mines
 from pit_tools.cli import main
-from pit_tools.gridding import Frame, Turn
-from pit_tools.instance import Blocks, read_blocks
-from pit_tools.plan_file import plan_of
-from pit_tools.shells import shell_of
+from pit_tools.instances.files import Blocks, read_blocks
+from pit_tools.pits.shells import shell_of
+from pit_tools.plans.file import plan_of
+from pit_tools.plans.grids import Frame, Turn
 
 PLAN = """name,mine
 grid,500000.5,7200000.25,-50,20,25,12.5
@@ -223,7 +223,7 @@ def test_a_turned_export_has_its_pit_at_its_own_coordinates(tmp_path, monkeypatc
     words = ["--x", f"X {unit}", "--y", f"Y {unit}", "--z", f"Z {unit}", "--tonnes", "T",
              "--grade", "AU", "--x-bearing", "60", "--about", "1000,2000",
              "--size", "62.5,62.5,31.25"]
-    assert main(["import", "export.csv", *words, "--base", "from"]) == 0
+    assert main(["import", "export.csv", *words, "--out", "from"]) == 0
     plan = ["--price", "58 USD/g", "--mill", "recovery 92 %, cost 16.50 USD/t",
             "--dump", "cost 4 USD/t", "--slope", "45"]
     assert main(["plan", "from.json", "--out", "mine.plan", *plan]) == 0

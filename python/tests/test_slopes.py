@@ -11,12 +11,12 @@ import pytest
 
 import mines
 from pit_tools.cli import main
-from pit_tools.cones import Places
-from pit_tools.contacts import Contacts, contacts_of
-from pit_tools.instance import Blocks
-from pit_tools.plan_file import Grid, Slope, Zone
-from pit_tools.slope_words import judge, slope_of
-from pit_tools.walls import asked_straight, measured, straight_walls
+from pit_tools.instances.files import Blocks
+from pit_tools.plans.cones import Places
+from pit_tools.plans.contacts import Contacts, contacts_of
+from pit_tools.plans.file import Grid, Slope, Zone
+from pit_tools.plans.slopes import judge, slope_of
+from pit_tools.plans.walls import asked_straight, measured, straight_walls
 
 BEARINGS = [(0, 1), (1, 1), (1, 0), (1, -1), (0, -1), (-1, -1), (-1, 0), (-1, 1)]
 
@@ -197,7 +197,7 @@ def test_plan_slopes_and_survey_say_the_same(tmp_path, capsys, monkeypatch):
     (tmp_path / "export.csv").write_text("\n".join(["x,y,z,t,g,zone", *rows]) + "\n")
     words = [arg for name in "xyz" for arg in (f"--{name}", name)]
     assert main(["import", "export.csv", *words, "--tonnes", "t", "--grade", "g", "--zone", "zone",
-                 "--base", "from"]) == 0
+                 "--out", "from"]) == 0
     told = {}
     for name, K in (("right", []), ("small", ["--K", "2"])):
         capsys.readouterr()
@@ -205,7 +205,7 @@ def test_plan_slopes_and_survey_say_the_same(tmp_path, capsys, monkeypatch):
                      "recovery 92 %, cost 16 USD/t", "--dump", "cost 2 USD/t", "--slope", "40",
                      *K]) == 0
         plan = capsys.readouterr().out
-        assert main(["slopes", f"{name}.plan", "--brief"]) == 0
+        assert main(["plan", "--walls", f"{name}.plan", "--brief"]) == 0
         slopes = capsys.readouterr().out
         mines.quickly_compiled(tmp_path, (tmp_path / f"{name}.plan").read_text(),
                                [(tmp_path / f"from-{zone}.csv").read_text() for zone in (0, 1)],
@@ -224,7 +224,7 @@ def test_plan_slopes_and_survey_say_the_same(tmp_path, capsys, monkeypatch):
 def test_the_command_tells_all_of_it(tmp_path, capsys):
     plan = tmp_path / "one.plan"
     plan.write_text("grid,0,0,0,20,20,10\nzone,1,1,9\n")
-    assert main(["slopes", str(plan), "--benches", "12"]) == 0
+    assert main(["plan", "--walls", str(plan), "--benches", "12"]) == 0
     text = capsys.readouterr().out
     rows = [" ".join(line.split()) for line in text.splitlines()]
     assert "K = 9 45.0 46.7 45.0 46.7 45.0 46.7 45.0 46.7 1.7 233 the plan's K" in rows
@@ -232,8 +232,8 @@ def test_the_command_tells_all_of_it(tmp_path, capsys):
     assert "K = 1 90.0 90.0 90.0 90.0 90.0 90.0 90.0 90.0 45.0 1" in rows
     assert ("in a mine of 12 benches take K = 12" in text
             and "LOOK AT: K is too small: zone 0: K = 9 makes a pit of" in text)
-    assert main(["slopes", str(plan), "--K", "2"]) == 0
+    assert main(["plan", "--walls", str(plan), "--K", "2"]) == 0
     rows = [" ".join(line.split()) for line in capsys.readouterr().out.splitlines()]
     assert "12 benches up 45.0 54.7 45.0 54.7 45.0 54.7 45.0 54.7 9.7" in rows
-    assert main(["slopes", str(tmp_path / "none.plan")]) == 2
+    assert main(["plan", "--walls", str(tmp_path / "none.plan")]) == 2
     assert "none.plan: No such file" in capsys.readouterr().err

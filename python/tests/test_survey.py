@@ -11,17 +11,17 @@ import pytest
 from matplotlib.image import imread
 
 import mines
-from pit_tools import survey_facts, survey_view
 from pit_tools.cli import main
-from pit_tools.deposits import Deposit
-from pit_tools.pictures import all_of_them, grade_ends, grade_legend, plane_at
-from pit_tools.survey_box import Inputs, box
-from pit_tools.survey_facts import read_facts
-from pit_tools.survey_page import survey_page
-from pit_tools.survey_text import above_cut_offs, spans, survey_text
-from pit_tools.survey_view import view
-from pit_tools.walls import measured, straight_walls
-from pit_tools.plan_file import plan_of
+from pit_tools.deposits.seeded import Deposit
+from pit_tools.plans.file import plan_of
+from pit_tools.plans.walls import measured, straight_walls
+from pit_tools.surveys import facts as survey_facts, view as survey_view
+from pit_tools.surveys.box import Inputs, box
+from pit_tools.surveys.facts import read_facts
+from pit_tools.surveys.page import survey_page
+from pit_tools.surveys.pictures import all_of_them, grade_ends, grade_legend, plane_at
+from pit_tools.surveys.text import above_cut_offs, spans, survey_text
+from pit_tools.surveys.view import view
 
 DATA = os.path.join(os.path.dirname(__file__), "data")
 
@@ -170,7 +170,7 @@ def test_the_ore_to_turn_has_each_face_with_its_grade(surveyed, monkeypatch):
 
 def test_a_survey_is_written_over_an_older_one(surveyed, tmp_path, capsys):
     base, zones = surveyed
-    words = ["survey", base + ".plan", base, *zones, "--html", str(tmp_path / "survey.html")]
+    words = ["survey", base + ".plan", base, *zones, "--out", str(tmp_path / "survey.html")]
     assert main(words) == 0
     first = (tmp_path / "survey.html").stat().st_ino
     assert main(words) == 0 and (tmp_path / "survey.html").stat().st_ino != first

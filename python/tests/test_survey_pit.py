@@ -7,14 +7,15 @@ import pandas as pd
 import pytest
 
 import mines
-from pit_tools import closure, survey_facts, survey_pit
 from pit_tools.cli import main
-from pit_tools.pictures import all_of_them
-from pit_tools.pits import read_pit
-from pit_tools.plan_note import PlanNote, ZoneSeen
-from pit_tools.survey_facts import Facts, read_facts
-from pit_tools.survey_text import survey_text
-from pit_tools.units import Measures
+from pit_tools.pits import closure
+from pit_tools.pits.files import read_pit
+from pit_tools.plans.note import PlanNote, ZoneSeen
+from pit_tools.surveys import facts as survey_facts, pit as survey_pit
+from pit_tools.surveys.facts import Facts, read_facts
+from pit_tools.surveys.pictures import all_of_them
+from pit_tools.surveys.text import survey_text
+from pit_tools.texts.units import Measures
 from test_nested import best_by_hand, worth_by_hand
 
 

@@ -10,13 +10,13 @@ import pytest
 from scipy import sparse
 
 import mines
-from pit_tools import closure, compiled
 from pit_tools.cli import main
-from pit_tools.cones import precedence_of
-from pit_tools.instance import read_instance, read_precedence, write_precedence
-from pit_tools.plan_file import plan_of
-from pit_tools.valuation import blocks_of
-from pit_tools.zone_files import read_zone_files
+from pit_tools.instances.files import read_instance, read_precedence, write_precedence
+from pit_tools.instances.valuation import blocks_of
+from pit_tools.pits import closure, compiled
+from pit_tools.plans.cones import precedence_of
+from pit_tools.plans.file import plan_of
+from pit_tools.plans.zone_files import read_zone_files
 
 
 def fewer_by_hand(precedence: sparse.csr_matrix) -> sparse.csr_matrix:
@@ -48,7 +48,7 @@ def test_an_instance_is_read_with_a_thin_file_and_needs_no_other(tmp_path, capsy
     Path(base + ".prec").unlink()
     mine = read_instance(base, precedence=thin)
     assert (mine.precedence != fewer_by_hand(whole.precedence)).nnz == 0
-    assert told(capsys, "read", base, "--prec", thin, "--write",
+    assert told(capsys, "read", base, "--prec", thin, "--out",
                 str(tmp_path / "copy")) == mine.counts() + "\n"
     assert (tmp_path / "copy.prec").read_bytes() == Path(thin).read_bytes()
     assert (f" arcs {mine.precedence.nnz} " in mine.counts()
@@ -81,15 +81,15 @@ def test_a_thin_file_changes_no_best_schedule_and_no_relaxation(tmp_path, capsys
     assert worth[0] == pytest.approx(worth[1], abs=0.02) and worth[0] > 0
 
 
-@pytest.mark.parametrize("command", ["lp", "dimacs"])
-def test_programs_have_the_arcs_of_a_thin_file(tmp_path, capsys, command):
+@pytest.mark.parametrize("form", [[], ["--dimacs"]])
+def test_programs_have_the_arcs_of_a_thin_file(tmp_path, capsys, form):
     base, thin = with_thin(tmp_path)
-    every = ["--all-arcs"] if command == "lp" else []
+    words = ["lp", *form, "--all-arcs"]
     arcs = read_precedence(thin).nnz
     for file in (thin, base + ".prec"):
-        assert main([command, base + ".upit", file, *every, "--out", base + ".out"]) == 0
+        assert main([*words, base + ".upit", file, "--out", base + ".out"]) == 0
         text = Path(base + ".out").read_text()
-        rows = (text.count("\n l") if command == "lp"
+        rows = (text.count("\n l") if not form
                 else int(text.split()[3]) - np.count_nonzero(read_instance(base).upit.values))
         assert (rows == arcs) == (file == thin) and rows >= arcs
 

@@ -4,13 +4,14 @@ from __future__ import annotations
 import os
 import shutil
 import subprocess
+import sys
 from pathlib import Path
 
 import pytest
 
 from mines import SIX, SIX_ROWS, TOP
 import plain
-from pit_tools.instance import TEXTS
+from pit_tools.instances.files import TEXTS
 
 MARK = "computed by the Python definition, not by pitc: no proof covers it"
 
@@ -125,8 +126,8 @@ def test_the_planners_way_with_the_program_gives_the_same_instance(top, pitc, tm
     assert MARK not in (mine / "survey.html").read_text()
     zones = [str(mine / f"from-{zone}.csv") for zone in ("west", "east", "oxide")]
     definition = ["compile", "--plan", str(mine / "mine.plan"), "--out", str(mine / "again"), *zones]
-    subprocess.run([top / "python/pit-tools", "python", top / "examples/definition.py", *definition],
-                   env={**os.environ, "PATH": SYSTEM}, check=True, stdout=subprocess.DEVNULL)
+    subprocess.run([sys.executable, top / "examples/definition.py", *definition], check=True,
+                   env={**os.environ, "PYTHONPATH": str(top / "python")}, stdout=subprocess.DEVNULL)
     for text in TEXTS:
         assert (mine / f"again.{text}").read_text() == (
             f"% {MARK}\n" + (mine / f"mine.{text}").read_text()), text
@@ -159,7 +160,7 @@ def test_recipes_begin_beside_no_older_work(tmp_path):
     (tmp_path / "examples").symlink_to(os.path.join(TOP, "examples"))
     (tmp_path / "python").symlink_to(os.path.join(TOP, "python"))
     (tmp_path / "bin").mkdir()
-    (tmp_path / "bin/pitc").write_text(f'#!/bin/sh\nexec pit-tools python {TOP}/examples/definition.py "$@"\n')
+    (tmp_path / "bin/pitc").write_text(f'#!/bin/sh\nPYTHONPATH={TOP}/python exec {sys.executable} {TOP}/examples/definition.py "$@"\n')
     (tmp_path / "bin/pitc").chmod(0o755)
     done = subprocess.run(["sh", "-c", ". examples/begin.sh; pwd; ls $zones; cd ..; . examples/begin.sh; pwd"],
                           cwd=tmp_path, env={"PATH": SYSTEM}, capture_output=True, text=True, check=False)

@@ -8,8 +8,8 @@ import pytest
 
 import mines
 from pit_tools.cli import main
-from pit_tools.plan_note import read_note
-from pit_tools.records import File, read_record
+from pit_tools.files.records import File, read_record
+from pit_tools.plans.note import read_note
 
 #: A copper mine: one block of 2 % copper under a block of waste, 10 x 10 x 10 m.
 EXPORT = ("x,y,z,t,cu,zone\n"
@@ -23,7 +23,7 @@ def planned(tmp_path, monkeypatch, capsys):
     monkeypatch.chdir(tmp_path)
     (tmp_path / "export.csv").write_text(EXPORT)
     assert main("import export.csv --x x --y y --z z --tonnes t --grade".split()
-                + ["cu %", "--zone", "zone", "--base", "from"]) == 0
+                + ["cu %", "--zone", "zone", "--out", "from"]) == 0
     assert main(["plan", "from.json", "--out", "mine.plan", "--price", "4 USD/lb", "--mill",
                  "recovery 90 %, cost 18 USD/t", "--dump", "cost 2 USD/t", "--slope", "45",
                  "--parts", "100"]) == 0

@@ -7,10 +7,10 @@ import pytest
 
 import mines
 from pit_tools.cli import main
-from pit_tools.deposits import Deposit
+from pit_tools.deposits.seeded import Deposit
 from pit_tools.errors import UserError
-from pit_tools.plan_file import plan_of
-from pit_tools.variations import Change, varied, variations
+from pit_tools.plans.file import plan_of
+from pit_tools.plans.variations import Change, varied, variations
 
 PLAN = Deposit().plan()
 
@@ -18,7 +18,7 @@ PLAN = Deposit().plan()
 def test_all_combinations_of_cells(tmp_path, capsys):
     (tmp_path / "deposit.plan").write_text(PLAN)
     words = ["vary", str(tmp_path / "deposit.plan"), "--set", "K=2,4", "--set",
-             "price=5000000,5800000", "--folder", str(tmp_path), "--zones", "a.csv", "b.csv",
+             "price=5000000,5800000", "--out", str(tmp_path), "--zones", "a.csv", "b.csv",
              "--list", str(tmp_path / "LIST")]
     assert main(words) == 0 and capsys.readouterr().out == "4 plans\n"
     lines = (tmp_path / "LIST").read_text().splitlines()
@@ -60,7 +60,8 @@ def test_sections_of_the_pipe_form_become_files(tmp_path):
     base = mines.six_blocks(tmp_path)
     endings = ("blocks", "prec", "upit", "pcpsp", "cpit")
     text = "".join(f"== {ending}\n" + open(f"{base}.{ending}").read() for ending in endings)
-    words = [sys.executable, "-m", "pit_tools", "texts", str(tmp_path / "again")]
+    words = [sys.executable, "-m", "pit_tools", "compile", "--sections", "-", "--out",
+             str(tmp_path / "again")]
     run = dict(env={**os.environ, "PYTHONPATH": os.path.join(mines.TOP, "python")},
                capture_output=True, text=True)
     assert subprocess.run(words, input=text, **run).returncode == 0

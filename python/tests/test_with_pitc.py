@@ -8,13 +8,13 @@ from pit_tools.cli import main
 ZONES = ["deposit-oxide.csv", "deposit-west.csv", "deposit-east.csv"]
 
 WORDS = ["--x", "XC", "--y", "YC", "--z", "ZC", "--tonnes", "TONNAGE", "--grade", "AU_PPM",
-         "--zone", "DOMAIN", "--base", "from"]
+         "--zone", "DOMAIN", "--out", "from"]
 
 
 def test_an_export_of_the_deposit_compiles_to_the_same_instance(pitc, tmp_path, monkeypatch,
                                                                 capsys):
     monkeypatch.chdir(tmp_path)
-    assert main(["deposit"]) == 0 and main(["sample-export", *ZONES]) == 0
+    assert main(["deposit"]) == 0 and main(["deposit", "--export", *ZONES]) == 0
     (tmp_path / "export.csv").write_text(capsys.readouterr().out, newline="")
     assert main(["import", "export.csv", *WORDS]) == 0
     files = ["from-oxide.csv", "from-west.csv", "from-east.csv"]
@@ -32,7 +32,7 @@ def test_an_export_of_the_deposit_compiles_to_the_same_instance(pitc, tmp_path, 
 
 def test_a_plan_of_words_is_one_of_pitc(pitc, tmp_path, monkeypatch, capsys):
     monkeypatch.chdir(tmp_path)
-    assert main(["deposit"]) == 0 and main(["sample-export", *ZONES]) == 0
+    assert main(["deposit"]) == 0 and main(["deposit", "--export", *ZONES]) == 0
     (tmp_path / "export.csv").write_text(capsys.readouterr().out, newline="")
     assert main(["import", "export.csv", *WORDS]) == 0
     assert main(["plan", "from.json", "--out", "mine.plan", "--name", "mine", "--price", "1804 "

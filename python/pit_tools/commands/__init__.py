@@ -2,15 +2,17 @@
 
 A module has `HELP`, what the command does with an example; `add_arguments(parser)`, which declares
 its words; and `run(args)`, which answers the status to end with. Packages that take long to load,
-as pandas, are imported by the functions that need them or by modules beside this folder.
+as pandas, are imported by the functions that need them, or by modules of the other packages.
 """
 from __future__ import annotations
 
 import argparse
+import json
 import math
 import re
+from typing import Sequence
 
-from pit_tools.errors import quoted
+from pit_tools.errors import UserError, quoted
 
 #: What a command says of its precedence file.
 PRECEDENCE = "BASE.prec, or what pitc_thin wrote"
@@ -20,6 +22,45 @@ def add_precedence_option(parser: argparse.ArgumentParser) -> None:
     """The option --prec of commands that read an instance by its base."""
     parser.add_argument("--prec", metavar="FILE",
                         help="a precedence file in place of BASE.prec, as that of pitc_thin")
+
+
+def add_json(parser: argparse.ArgumentParser) -> None:
+    """The option --json of commands that print what scripts read."""
+    parser.add_argument("--json", action="store_true", help="prints it as JSON, for programs")
+
+
+def print_json(found: object) -> None:
+    """Prints what is found as JSON, with null for a number that is infinite or NaN, which JSON has
+    not."""
+    print(json.dumps(_of_json(found), ensure_ascii=False, indent=1, allow_nan=False))
+
+
+def _of_json(found: object) -> object:
+    if isinstance(found, dict):
+        return {name: _of_json(part) for name, part in found.items()}
+    if isinstance(found, (list, tuple)):
+        return [_of_json(part) for part in found]
+    return None if isinstance(found, float) and not math.isfinite(found) else found
+
+
+def add_outs(parser: argparse.ArgumentParser, told: str) -> None:
+    """The option --out of commands that write files of several kinds, by their endings."""
+    parser.add_argument("--out", action="append", default=[], metavar="FILE",
+                        help=f"{told}; may be given again")
+
+
+def by_ending(places: Sequence[str], *endings: str,
+              has_others: bool = False) -> dict[str, list[str]]:
+    """The places of --out by their endings, and by "" others, if there may be such.
+
+    Raises UserError for one that ends with none of these, if there may be no others."""
+    found: dict[str, list[str]] = {ending: [] for ending in ("", *endings)}
+    for place in places:
+        ending = next((one for one in endings if place.lower().endswith(one)), "")
+        if not ending and not has_others:
+            raise UserError(f"--out: {quoted(place)} ends with none of {', '.join(endings)}")
+        found[ending].append(place)
+    return found
 
 
 def whole(text: str) -> int:

@@ -1,0 +1,1 @@
+"""Many instances by `pitc`, with a manifest of all that went in."""

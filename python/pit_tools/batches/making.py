@@ -1,0 +1,165 @@
+"""One instance of a batch: compiled, checked, measured, and put in its place."""
+from __future__ import annotations
+
+import os
+import re
+import shutil
+import subprocess
+import tempfile
+from contextlib import contextmanager
+from dataclasses import dataclass
+from typing import Any, Iterable, Iterator, Optional, Sequence, Union
+
+import numpy as np
+
+from pit_tools.batches.build import Way, build_told_once
+from pit_tools.batches.listing import Entry
+from pit_tools.errors import UserError
+from pit_tools.files.records import sum_of
+from pit_tools.instances.files import TEXTS, present, read_instance, read_outline
+
+#: The columns of SIZES, in order.
+COLUMNS = ("name", "blocks", "arcs", "coefficients", "limits", "cpit", "positive", "bytes",
+           "periods", "destinations", "resources", "rate", "tonnes", "pit_blocks", "pit_tonnes",
+           "pit_value", "cpit_bound", "pcpsp_bound", "thin_arcs")
+
+#: Of the name of a folder in which an instance is made, between its NAME and letters of chance.
+MAKING = ".making-"
+
+
+@dataclass(frozen=True)
+class Made:
+    """An instance that is whole: its line of the list, the sums of its inputs and texts by name,
+    and its row of SIZES."""
+
+    entry: Entry
+    sums: dict[str, str]
+    row: list[str]
+
+
+@dataclass(frozen=True)
+class Failed:
+    """An entry with which a step failed, and what it said."""
+
+    entry: Any
+    told: str
+
+
+def texts_of(way: Way) -> tuple[str, ...]:
+    """The endings of the files that a batch makes for each instance."""
+    return (*TEXTS, "thin") if way.thin else TEXTS
+
+
+def make(entry: Entry, way: Way, build: str) -> Union[Made, Failed]:
+    """Makes an instance by a way, which has to give this text of BUILD. Its texts come to their
+    places when all of them are right; where a step fails those that were there stay."""
+    try:
+        if build_told_once(way) != build:
+            raise UserError("this machine has other programs or packages than BUILD says")
+        return _made(entry, way)
+    except OSError as error:
+        return Failed(entry,
+                      f"{error.filename}: {error.strerror}" if error.filename else str(error))
+    except (UserError, MemoryError) as error:
+        return Failed(entry, str(error) or "there is not memory enough")
+
+
+def _made(entry: Entry, way: Way) -> Made:
+    before = {name: sum_of(os.path.join(way.folder, name)) for name in entry.inputs}
+    with _made_beside(os.path.join(way.folder, entry.name)) as base:
+        row = _measured(entry, way, base)
+        texts = {f"{entry.name}.{text}": sum_of(f"{base}.{text}") for text in texts_of(way)}
+        for name, found in before.items():
+            if sum_of(os.path.join(way.folder, name)) != found:
+                raise UserError(f"{name} was changed while the instance was made")
+        for text in texts_of(way):
+            os.replace(f"{base}.{text}", os.path.join(way.folder, f"{entry.name}.{text}"))
+    return Made(entry, {**before, **texts}, row)
+
+
+@contextmanager
+def _made_beside(base: str) -> Iterator[str]:
+    """A base in a new folder beside that of an instance, which goes at the end."""
+    folder, name = os.path.split(base)
+    made = tempfile.mkdtemp(prefix=f".{name}{MAKING}", dir=folder)
+    try:
+        yield os.path.join(made, name)
+    finally:
+        shutil.rmtree(made, ignore_errors=True)
+
+
+def clear_unfinished(entries: Iterable[Entry], folder: str) -> None:
+    """Takes away what a killed batch left of these instances."""
+    by_folder: dict[str, set[str]] = {}
+    for entry in entries:
+        within, name = os.path.split(os.path.join(folder, entry.name))
+        by_folder.setdefault(within, set()).add(name)
+    for within, names in by_folder.items():
+        for left in os.listdir(within):
+            if left.startswith(".") and MAKING in left and left[1:].rpartition(MAKING)[0] in names:
+                shutil.rmtree(os.path.join(within, left), ignore_errors=True)
+
+
+def _ran(way: Way, words: Sequence[str]) -> str:
+    """What a step printed. Raises UserError where it failed."""
+    done = subprocess.run(words, capture_output=True, text=True, errors="replace", cwd=way.folder,
+                          check=False)
+    if done.returncode:
+        told = (done.stderr.strip() or f"status {done.returncode}").splitlines()[-1]
+        step = [os.path.basename(words[0]), *[word for word in words[1:2] if word[0] != "-"]]
+        raise UserError(f"{' '.join(step)}: {told}")
+    return done.stdout
+
+
+def _measured(entry: Entry, way: Way, base: str) -> list[str]:
+    """Compiles an instance to a base, and answers its row of SIZES."""
+    _ran(way,
+         [way.pitc, "compile", "--plan", entry.plan, "--out", base, *way.options, *entry.zones])
+    counts = _ran(way, [way.pitc, "check", base]).strip()
+    if not way.thin:
+        return row_of(entry.name, base, counts, way.seconds)
+    told = _ran(way,
+                [way.thin, "--plan", entry.plan, "--out", f"{base}.thin", *entry.zones]).strip()
+    arcs = re.fullmatch(r"rows \d+ arcs (\d+) of (\d+)", told)
+    if arcs is None or f" arcs {arcs[2]} " not in f"{counts} ":
+        raise UserError(f"pitc counts `{counts}`, and pitc_thin tells `{told}`")
+    return row_of(entry.name, base, counts, way.seconds, int(arcs[1]))
+
+
+def row_of(name: str, base: str, counts: str, seconds: Optional[float] = None,
+           thin_arcs: Optional[int] = None) -> list[str]:
+    """The row of SIZES of an instance of which `pitc check` told these counts. Its pit is found by
+    BASE.thin where that has so many arcs; the relaxations are left out where there are no seconds
+    for them.
+
+    Raises UserError where this tool counts otherwise."""
+    from pit_tools.pits.closure import ultimate_pit
+    from pit_tools.pits.files import told
+    from pit_tools.schedules.bounds import bounds_of
+
+    arcs_path = f"{base}.prec" if thin_arcs is None else f"{base}.thin"
+    mine = read_instance(base, ("blocks", "prec", "upit"), arcs_path)
+    blocks, values = present(mine.blocks, "block file"), present(mine.upit, "UPIT").values
+    precedence: Any = present(mine.precedence, "precedence file")
+    arcs, counted = precedence.nnz, dict(zip(counts.split()[::2], counts.split()[1::2]))
+    pit = told(ultimate_pit(values, precedence), blocks, values)
+    pit_blocks, pit_tonnes, pit_value = (part.split()[-1 if at == 2 else 0]
+                                         for at, part in enumerate(pit.split(", ")))
+    pcpsp, cpit = read_outline(f"{base}.pcpsp", "PCPSP"), read_outline(f"{base}.cpit", "CPIT")
+    found = {"blocks": len(blocks), "arcs": int(counted.get("arcs", 0)) if thin_arcs == arcs
+             else arcs, "coefficients": pcpsp.uses, "limits": len(pcpsp.limits), "cpit": cpit.uses}
+    ours = " ".join(f"{what} {count}" for what, count in found.items())
+    if ours != counts or thin_arcs not in (None, arcs):
+        raise UserError(f"the programs count `{counts}`, thin arcs {thin_arcs}, and this tool "
+                        f"`{ours}`, arcs {arcs}")
+    kilograms = int(np.rint(blocks.tonnes * 1000).astype(np.int64).sum())
+    bounds = bounds_of(read_instance(base, TEXTS, arcs_path), seconds) if seconds else {}
+    relaxed = [bounds.get(f"{kind}, relaxed") for kind in ("CPIT", "PCPSP")]
+    cells = [name, *found.values(), int((values > 0).sum()),
+             sum(os.path.getsize(f"{base}.{text}") for text in TEXTS), pcpsp.header["NPERIODS"],
+             pcpsp.values.shape[1], pcpsp.header["NRESOURCE_SIDE_CONSTRAINTS"],
+             f"{float(pcpsp.header['DISCOUNT_RATE']):g}",
+             f"{kilograms // 1000}.{kilograms % 1000:03d}", pit_blocks, pit_tonnes, pit_value,
+             *("-" if one is None else f"{one:.2f}" for one in relaxed),
+             "-" if thin_arcs is None else thin_arcs]
+    return list(map(str, cells))

@@ -1,0 +1,252 @@
+"""Batches: many instances by `pitc`, with a manifest of all that went in, and a table of what came
+out."""
+from __future__ import annotations
+
+import csv
+import fcntl
+import hashlib
+import io
+import os
+from contextlib import ExitStack, closing, contextmanager
+from functools import partial
+from typing import Iterable, Iterator, Optional, Sequence
+
+from pit_tools import progress
+from pit_tools.batches.build import Way, build_told
+from pit_tools.batches.engines import Engine, in_turn
+from pit_tools.batches.listing import TABLES, BatchList, Entry, Part, read_list
+from pit_tools.batches.making import COLUMNS, Failed, Made, clear_unfinished, make, texts_of
+from pit_tools.batches.records import Record, Recorded, Sums, record_path, recorded_in
+from pit_tools.errors import UserError
+from pit_tools.files import inputs, kinds, outputs, records, renames
+from pit_tools.files.locks import lock
+from pit_tools.instances.files import TEXTS
+
+#: The kinds of files that the tables are.
+KINDS = {"MANIFEST": "sums", "SIZES": "table of a batch", "BUILD": "build of a batch"}
+
+#: The file that is locked in the folder of a batch; it stays when the lock is lifted.
+LOCK = ".batch-lock"
+
+
+@contextmanager
+def locked(folder: str, part: Part = Part()) -> Iterator[None]:
+    """Holds a folder for one batch alone; or for a part of one, beside its other parts.
+
+    Raises UserError where another one holds it."""
+    told = f"{os.path.abspath(folder)}: another batch runs in this folder"
+    with ExitStack() as opened:
+        lock(opened, os.path.join(folder, LOCK), fcntl.LOCK_EX if part.is_whole else fcntl.LOCK_SH,
+             told)
+        if not part.is_whole:
+            lock(opened, os.path.join(folder, f"{LOCK}{part.ending}"), fcntl.LOCK_EX, told)
+        yield
+
+
+#: What is told where nothing has succeeded.
+STOPPED = "stopped: {} failed, and none succeeded"
+
+
+class Batch:
+    """A list whose instances are made in the current folder, or a part of it.
+
+    `failed` has a line for each step that failed, `kept` those instances that were whole, `made`
+    all that are."""
+
+    def __init__(self, path: str, way: Way, part: Part = Part()):
+        self.way, self.part = way, part
+        self.list = read_list(path, texts_of(way), [record_path("", part)])
+        self.entries = self.list.entries_of(part)
+        inputs.reads(*(name for entry in self.entries for name in entry.inputs))
+        self.made: dict[Entry, Made] = {}
+        self.kept: set[Entry] = set()
+        self.failed: list[str] = []
+
+    def run(self, engine: Engine = in_turn, goes_on: bool = False,
+            stop_at: Optional[int] = None) -> bool:
+        """Makes each instance, or where it goes on those that are not whole; then BUILD, SIZES, and
+        MANIFEST where nothing failed. A part makes none of these. Nothing is taken away before it
+        is known that pitc works. It stops when `stop_at` instances have failed and none is whole.
+        """
+        with locked(self.way.folder, self.part):
+            build = build_told(self.way)
+            if goes_on:
+                self._keep(build)
+            _judge_old(self.way.folder, [entry for entry in self.entries if entry not in self.made],
+                       texts_of(self.way))
+            renames.clear_left([record_path(self.way.folder, self.part),
+                                *(TABLES if self.part.is_whole else ())])
+            with Record(record_path(self.way.folder, self.part), build, goes_on) as record:
+                _remove(TABLES)
+                clear_unfinished(self.entries, self.way.folder)
+                self._make(engine, build, record, stop_at)
+            if self.part.is_whole:
+                if build_told(self.way) != build:
+                    self.failed.append("the programs or the tool were changed while the batch ran")
+                self.failed += finish(self.list, build, self.made, not self.failed)
+        return not self.failed
+
+    def _keep(self, build: str) -> None:
+        """Takes over what records say, and sums say too, of this BUILD."""
+        sums = Sums(self.way.folder)
+        for one in recorded_in(self.way.folder):
+            texts = [f"{one.made.entry.name}.{text}" for text in texts_of(self.way)]
+            if (one.build == build
+                    and sums.other([*one.made.entry.inputs, *texts], one.made.sums) is None):
+                self.made[one.made.entry] = one.made
+        self.made = {entry: self.made[entry] for entry in self.entries if entry in self.made}
+        self.kept = set(self.made)
+
+    def _make(self, engine: Engine, build: str, record: Record, stop_at: Optional[int]) -> None:
+        entries = [entry for entry in self.entries if entry not in self.made]
+        with closing(engine(partial(make, way=self.way, build=build), entries)) as results:
+            for found in results:
+                if isinstance(found, Failed):
+                    self.failed.append(f"{found.entry.plan}: {found.told}")
+                else:
+                    record.add(found)
+                    self.made[found.entry] = found
+                progress.done(found.entry.name)
+                if not self.made and len(self.failed) == stop_at:
+                    self.failed.append(STOPPED.format(stop_at))
+                    break
+
+
+def _kind(name: str) -> str:
+    """The kind of a file that a batch writes."""
+    return KINDS.get(name) or kinds.ENDINGS[os.path.splitext(name)[1]]
+
+
+def _judge_old(folder: str, entries: Iterable[Entry], texts: Sequence[str]) -> None:
+    """Refuses a batch that would replace files of another kind."""
+    for name in (*TABLES, *(f"{entry.name}.{text}" for entry in entries for text in texts)):
+        outputs.judged_old(os.path.join(folder, name), _kind(name))
+
+
+def _remove(names: Iterable[str]) -> None:
+    for name in names:
+        if os.path.lexists(name):
+            os.remove(name)
+
+
+def finish(listed: BatchList, build: str, made: dict[Entry, Made], is_right: bool) -> list[str]:
+    """Writes BUILD and SIZES of what is whole, and MANIFEST where all of the list is, and no input
+    is another than when its instances were made. Answers what is not so."""
+    rows = [made[entry].row for entry in listed.entries if entry in made]
+    text = io.StringIO()
+    csv.writer(text, delimiter=" ", lineterminator="\n").writerows([COLUMNS, *rows])
+    tables = {"BUILD": build, "SIZES": text.getvalue()}
+    with outputs.together():
+        for name, content in tables.items():
+            with outputs.opened(name, KINDS[name], "utf-8") as file:
+                file.write(content)
+    if not is_right or len(rows) < len(listed.entries):
+        return []
+    changed = _changed(listed, made)
+    if changed:
+        return [f"{name} was changed while the batch ran" for name in changed]
+    read = {listed.path: listed.sum}
+    written = {name: hashlib.sha256(content.encode()).hexdigest()
+               for name, content in tables.items()}
+    for entry in listed.entries:
+        for name, found in made[entry].sums.items():
+            (read if name in entry.inputs else written)[name] = found
+    outcome, source = (tuple(records.File(name, os.path.getsize(name), found)
+                             for name, found in part.items()) for part in (written, read))
+    with outputs.opened("MANIFEST", KINDS["MANIFEST"], "utf-8") as file:
+        file.write(records.Record("MANIFEST", "batch", outcome, source).text)
+    return []
+
+
+def _changed(listed: BatchList, made: dict[Entry, Made]) -> list[str]:
+    """Inputs that are no longer, or were not for all instances, what they were when an instance was
+    made."""
+    sums = Sums("")
+    changed = [] if sums.of(listed.path) == listed.sum else [listed.path]
+    for entry in listed.entries:
+        changed += [name for name in entry.inputs if sums.of(name) != made[entry].sums[name]]
+    return list(dict.fromkeys(changed))
+
+
+class Joining:
+    """Parts of a list that were made in other folders, or in this one, joined to one batch in the
+    current folder."""
+
+    def __init__(self, path: str, folders: Sequence[str]):
+        self.list = read_list(path, (*TEXTS, "thin"), [record_path("")])
+        self.folders = list(dict.fromkeys(os.path.normpath(folder) for folder in folders))
+        self.made: dict[Entry, Made] = {}
+        self.failed: list[str] = []
+
+    def run(self) -> bool:
+        """Takes over each instance of which a record of a folder says, and its sums say too, that
+        it is whole; then BUILD, SIZES and MANIFEST as those of one batch. Nothing is taken away
+        before all are found."""
+        with ExitStack() as held:
+            for real in dict.fromkeys(os.path.realpath(folder) for folder in [".", *self.folders]):
+                held.enter_context(locked(real))
+            found = [(folder, one) for folder in self.folders for one in recorded_in(folder)]
+            build = _common_build(self.folders, [one for _, one in found])
+            whole = self._whole(found)
+            if self.failed:
+                return False
+            _judge_old("",
+                       [made.entry for folder, made in whole if not os.path.samefile(folder, ".")],
+                       (*TEXTS, "thin"))
+            texts = [name for _, made in whole for name in made.sums
+                     if name not in made.entry.inputs]
+            renames.clear_left([record_path(""), *TABLES, *texts])
+            _remove(TABLES)
+            for folder, made in whole:
+                _copied(folder, made)
+                self.made[made.entry] = made
+            with Record(record_path(""), build, False) as record:
+                for made in self.made.values():
+                    record.add(made)
+            self.failed += finish(self.list, build, self.made, True)
+        return not self.failed
+
+    def _whole(self, found: Sequence[tuple[str, Recorded]]) -> list[tuple[str, Made]]:
+        """The folder and the record of each instance of the list; `failed` says of which there is
+        none."""
+        here, sums = Sums(""), {folder: Sums(folder) for folder in self.folders}
+        by_entry: dict[Entry, list[tuple[str, Recorded]]] = {}
+        for folder, one in found:
+            by_entry.setdefault(one.made.entry, []).append((folder, one))
+        whole = []
+        for entry in self.list.entries:
+            told = "no part has it"
+            for folder, one in by_entry.get(entry, []):
+                texts = [name for name in one.made.sums if name not in entry.inputs]
+                other = here.other(entry.inputs, one.made.sums)
+                told = f"{other} is not the one that {one.path} names" if other else ""
+                if not told and (other := sums[folder].other(texts, one.made.sums)):
+                    told = f"{os.path.join(folder, other)} is not the one that {one.path} names"
+                if not told:
+                    whole.append((folder, one.made))
+                    break
+            if told:
+                self.failed.append(f"{entry.plan}: {told}")
+        return whole
+
+
+def _common_build(folders: Sequence[str], found: Sequence[Recorded]) -> str:
+    """The text of BUILD that all records have. Raises UserError where there is none, or they
+    differ."""
+    by_build = {one.build: one.path for one in found}
+    if not by_build:
+        raise UserError(f"no record of a batch is in {', '.join(folders)}")
+    if len(by_build) > 1:
+        raise UserError("parts were made by different builds: see the first lines of "
+                        f"{' and '.join(list(by_build.values())[:2])}")
+    return next(iter(by_build))
+
+
+def _copied(folder: str, made: Made) -> None:
+    """Brings the texts of an instance from a folder, where that is another one."""
+    if os.path.samefile(folder, "."):
+        return
+    with outputs.together():
+        for name in made.sums:
+            if name not in made.entry.inputs:
+                outputs.copied(os.path.join(folder, name), name, _kind(name))

@@ -1,0 +1,1 @@
+"""Solvers of other people over many instances, within limits, with judged results."""

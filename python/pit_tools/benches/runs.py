@@ -1,0 +1,173 @@
+"""Benches: solvers over the instances of a list, recorded run by run, so that one that was cut goes
+on."""
+from __future__ import annotations
+
+import fcntl
+import glob
+import os
+import re
+import shutil
+from contextlib import ExitStack, closing
+from functools import partial
+from typing import Any, Iterator, Optional, Sequence
+
+from pit_tools import progress
+from pit_tools.batches.engines import Engine, in_turn
+from pit_tools.batches.listing import Part
+from pit_tools.batches.making import Failed
+from pit_tools.batches.records import Record, Sums, build_of, lines_of
+from pit_tools.batches.runs import STOPPED
+from pit_tools.benches.listing import read_names
+from pit_tools.benches.results import profile_of, shown, table_of
+from pit_tools.benches.running import (RUNNING, Done, Setting, Task, build_told, files_of, run_task,
+                                       sums_of)
+from pit_tools.errors import UserError
+from pit_tools.files import inputs, outputs
+from pit_tools.files.locks import lock
+
+#: What a bench writes behind its base, and of which kinds tables and pictures are.
+TABLE, COLUMNS, PICTURE, RUNS = ".csv", ".parquet", ".svg", ".runs"
+KINDS = {TABLE: "table of a bench", COLUMNS: "table of a bench in Parquet", PICTURE: "SVG picture"}
+
+
+class Bench:
+    """A list over which solvers are run, or a part of its runs. `done` has those that are done,
+    `kept` how many of them were before, and `failed` a line for each that could not be done."""
+
+    def __init__(self, path: str, setting: Setting, part: Part = Part()):
+        self.setting, self.part = setting, part
+        self.names = read_names(path)
+        solvers = [*([""] if setting.bound_seconds else []), *(one.name for one in setting.solvers)]
+        every = [Task(solver, name) for name in self.names for solver in solvers]
+        self.tasks = every[part.number - 1::part.of]
+        self.done: dict[Task, Done] = {}
+        self.kept = 0
+        self.failed: list[str] = []
+        for task in self.tasks:
+            for name, file in files_of(task, setting).items():
+                if not os.path.isfile(file):
+                    raise UserError(f"{name} is not there: {task} needs it")
+        if part.is_whole:
+            # Before hours of runs.
+            for ending, kind in KINDS.items():
+                place = os.path.relpath(setting.base) + ending
+                outputs.judged(place)
+                outputs.judged_old(place, kind)
+
+    def run(self, engine: Engine = in_turn, goes_on: bool = False,
+            stop_at: Optional[int] = None) -> None:
+        """Does each task, or where it goes on those that no record has of the same files and
+        solver. It stops when `stop_at` solvers' runs have failed and none has given a schedule.
+
+        Raises UserError if it is to go on from records of another setting."""
+        base, build = self.setting.base, build_told(self.setting)
+        with ExitStack() as opened:
+            # The parts of one bench run beside one another.
+            told = f"{base}{RUNS}: another bench writes it"
+            lock(opened, f"{base}{RUNS}.lock",
+                 fcntl.LOCK_EX if self.part.is_whole else fcntl.LOCK_SH, told)
+            path = f"{base}{RUNS}{self.part.ending}"
+            if not self.part.is_whole:
+                lock(opened, f"{path}.lock", fcntl.LOCK_EX, told)
+            if goes_on:
+                self._keep(build, [base])
+            self._clear_left()
+            with opened.enter_context(Record(path, build, goes_on)) as record:
+                self._run(engine, build, record, stop_at)
+
+    def join(self, folders: Sequence[str]) -> None:
+        """Takes the runs that records in these folders have of the same files and solvers."""
+        name = os.path.basename(self.setting.base)
+        self._keep(build_told(self.setting), [os.path.join(folder, name) for folder in folders])
+        self.failed += [f"{task}: no part has it" for task in self.tasks if task not in self.done]
+
+    def _keep(self, build: str, bases: Sequence[str]) -> None:
+        """Takes over what records say of the tasks, of files and solvers as they are now."""
+        sums, known = Sums(""), set(self.tasks)
+        for found in (one for base in bases for one in _recorded(base, build)):
+            try:
+                task, cells = Task(*found["task"]), dict(found["cells"])
+                same = found["sums"] == sums_of(task, self.setting, sums.of) if task in known \
+                    else False
+            except (TypeError, KeyError, ValueError):
+                continue
+            if same:
+                self.done[task] = Done(task, found["sums"], cells)
+        self.kept = len(self.done)
+
+    def _clear_left(self) -> None:
+        """Takes away what a bench that was killed has left, unless other parts may run."""
+        if self.part.is_whole:
+            above, name = os.path.split(self.setting.base)
+            for left in glob.glob(os.path.join(glob.escape(above),
+                                               f".{glob.escape(name)}{RUNNING}*")):
+                shutil.rmtree(left, ignore_errors=True)
+
+    def _run(self, engine: Engine, build: str, record: Record, stop_at: Optional[int]) -> None:
+        waiting = [task for task in self.tasks if task not in self.done]
+        step = partial(run_task, setting=self.setting, build=build)
+        fails, has_one = 0, any(_succeeded(done) for done in self.done.values())
+        with closing(engine(step, waiting)) as results:
+            for found in results:
+                if isinstance(found, Failed):
+                    self.failed.append(f"{found.entry}: {found.told}")
+                else:
+                    self.done[found.entry] = found
+                    record.add_line({"task": [found.entry.solver, found.entry.name],
+                                     "sums": found.sums, "cells": found.cells})
+                progress.done(str(found.entry))
+                if found.entry.solver:
+                    fails += not _succeeded(found)
+                    has_one |= _succeeded(found)
+                if fails == stop_at and not has_one:
+                    self.failed.append(STOPPED.format(stop_at))
+                    break
+
+    @property
+    def is_whole(self) -> bool:
+        return not self.failed and len(self.done) == len(self.tasks)
+
+    def write(self, ratio: float) -> Any:
+        """Writes the table, and the profiles, of what is done; answers the table. They replace
+        those of the base, or none is replaced."""
+        from pit_tools.benches.profile_picture import profile_picture
+        from pit_tools.files.parquet import bytes_of
+        from pit_tools.surveys.picture_files import write_picture
+
+        base = os.path.relpath(self.setting.base)
+        cells = {(task.solver, task.name): done.cells for task, done in self.done.items()}
+        table = table_of(self.names, [one.name for one in self.setting.solvers], cells, ratio)
+        inputs.reads(*dict.fromkeys(path for task in self.tasks
+                                    for path in files_of(task, self.setting).values()))
+        others = [base + ending for ending in KINDS]
+        with outputs.together(record=base, others=others):
+            with outputs.opened(base + TABLE, KINDS[TABLE], "utf-8") as file:
+                shown(table).to_csv(file, index=False, lineterminator="\n")
+            try:
+                packed = bytes_of(table)
+            except UserError:
+                pass
+            else:
+                with outputs.opened(base + COLUMNS, KINDS[COLUMNS]) as file:
+                    file.write(packed)
+            write_picture(profile_picture(profile_of(table), len(self.names)), base + PICTURE)
+        return table
+
+
+def _succeeded(found: Any) -> bool:
+    return isinstance(found, Done) and found.cells.get("schedule") == "feasible"
+
+
+def _recorded(base: str, build: str) -> Iterator[dict[str, Any]]:
+    """The lines of all records of a base.
+
+    Raises UserError if one is of another setting."""
+    for path in sorted(glob.glob(f"{glob.escape(base)}{RUNS}*")):
+        if not re.fullmatch(rf"{re.escape(base)}{re.escape(RUNS)}(-\d+-of-\d+)?", path):
+            continue
+        found = build_of(path)
+        if found is not None and found != build:
+            raise UserError(f"{path}: it is of other limits, another problem or another tool than "
+                            "this bench: give the same, or run without --continue, and all anew")
+        if found is not None:
+            yield from lines_of(path)

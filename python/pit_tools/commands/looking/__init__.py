@@ -1,0 +1,1 @@
+"""Commands that show what an instance, a pit or a schedule holds."""

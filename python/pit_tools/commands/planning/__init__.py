@@ -1,0 +1,1 @@
+"""Commands that lead from an export to a pit, and back."""

@@ -1,0 +1,1 @@
+"""Commands for solvers: instances in other forms, bounds, and schedules."""

@@ -1,0 +1,738 @@
+"""Opens an export and finds how it is written: packed, its encoding, its separator, its header,
+rows of units; a workbook, Parquet, a GSLIB file or a list without a header too. Rows are given as
+texts, in pieces, by pandas."""
+from __future__ import annotations
+
+import bz2
+import codecs
+import csv
+import gzip
+import io
+import lzma
+import os
+import re
+import stat
+import struct
+import zipfile
+import zlib
+from contextlib import contextmanager, suppress
+from dataclasses import dataclass, field
+from itertools import islice
+from typing import IO, Any, BinaryIO, Callable, Iterator, Optional, Sequence, TextIO, Union
+
+import numpy as np
+import pandas as pd
+
+from pit_tools.errors import UserError
+from pit_tools.exports.workbook import cell_name, sheets_of
+from pit_tools.files.parquet import MARK, frame_of, texts_of
+from pit_tools.texts.decimals import is_number_like, whole_of
+from pit_tools.texts.formulas import Lacking, plain_name
+
+# How many rows are texts at a time.
+CHUNK = 100_000
+
+# How many bytes are looked at at a time.
+PIECE = 1 << 22
+
+# How many bytes a line may have, and a cell in quotes with all its lines; and how many signs are
+# looked at to find the header.
+MOST_LINE = 1 << 24
+HEAD = 1 << 20
+
+# How many columns there may be: as many as a sheet has.
+MOST_COLUMNS = 16_384
+
+# How many times its size an archive may unpack to, where that is more than so many bytes.
+MOST_TIMES, LEAST_UNPACKED = 200, 1 << 24
+
+# How much of a line is looked at to tell what may be wrong with it, and of a cell is told.
+LOOKED_AT, SHOWN = 1000, 60
+
+csv.field_size_limit(MOST_LINE)
+
+# Four letters beyond ASCII in a row, as Cyrillic words have in its encodings of one byte.
+CYRILLIC = re.compile(rb"[\xc0-\xff]{4}")
+LIKE_CYRILLIC = ": its words look Cyrillic, so is it --encoding cp1251?"
+
+# Among how many lines the header is looked for.
+HEAD_LINES = 100
+
+# Separators as blanks.
+BLANKED = str.maketrans(",;|", "   ")
+
+SEPARATORS = {",": "commas", ";": "semicolons", "\t": "tabs", "|": "bars", " ": "blanks"}
+
+
+def refuse_pipe(path: str) -> None:
+    """Raises UserError for what can be read once alone: what is read is read several times."""
+    mode = os.stat(path).st_mode
+    if not stat.S_ISREG(mode) and not stat.S_ISDIR(mode):
+        raise UserError(f"{path}: it is a pipe or a device, and is read more than once: write it "
+                        "into a file first")
+
+
+def opened(path: str) -> BinaryIO:
+    """The bytes of a file, unpacked where it is a gzip, bzip2, xz or zip file of one text."""
+    refuse_pipe(path)
+    with open(path, "rb") as file:
+        front = file.read(6)
+    for mark, unpack in UNPACKERS:
+        if front.startswith(mark):
+            return io.BufferedReader(Unpacked(path, unpack), 1 << 16)
+    return open(path, "rb")
+
+
+def _only_file_of(path: str) -> IO[bytes]:
+    """The one file of a zip archive."""
+    archive = zipfile.ZipFile(path)  # pylint: disable=consider-using-with
+    names = [name for name in archive.namelist() if not name.endswith("/")]
+    if "mimetype" in names and "content.xml" in names:
+        raise UserError(f"{path}: it is a sheet of OpenDocument (.ods): save it as .xlsx or as CSV")
+    if len(names) != 1:
+        raise UserError(f"{path}: the archive has {len(names)} files: unpack it, and name one")
+    return archive.open(names[0])
+
+
+#: What opens an archive: a file of bytes.
+Unpacker = Callable[[str], Union[io.BufferedIOBase, IO[bytes]]]
+
+#: How archives begin, and what opens them.
+UNPACKERS: list[tuple[bytes, Unpacker]] = [(b"\x1f\x8b", gzip.open), (b"BZh", bz2.open),
+                                           (b"\xfd7zXZ", lzma.open), (b"PK\x03\x04", _only_file_of)]
+
+
+class Unpacked(io.RawIOBase):
+    """What an archive holds. It raises UserError where that is damaged, cut short, or grows beyond
+    all measure."""
+
+    def __init__(self, path: str, unpack: Unpacker) -> None:
+        self.path, self.count = path, 0
+        self.most = max(LEAST_UNPACKED, MOST_TIMES * os.path.getsize(path))
+        self.file = self.read_by(lambda: unpack(path))
+
+    def readable(self) -> bool:
+        return True
+
+    def readinto(self, room: Any) -> int:
+        piece = self.read_by(lambda: self.file.read(len(room)))
+        room[:len(piece)] = piece
+        self.count += len(piece)
+        if self.count > self.most:
+            raise _beyond_measure(self.path, "archive")
+        return len(piece)
+
+    def read_by(self, step: Callable[[], Any]) -> Any:
+        """What a step gives, its faults told with the archive's name."""
+        try:
+            return step()
+        except (EOFError, zlib.error, lzma.LZMAError, zipfile.BadZipFile, gzip.BadGzipFile,
+                RuntimeError, NotImplementedError, ValueError, struct.error) as error:
+            raise UserError(f"{self.path}: the archive is cut short or damaged, or locked: "
+                            f"{' '.join(str(error).split())}") from None
+        except OSError as error:
+            if error.errno:
+                raise
+            raise UserError(f"{self.path}: the archive is damaged: {error}") from None
+
+    def close(self) -> None:
+        if not self.closed:
+            self.file.close()
+        super().close()
+
+
+def is_workbook(path: str) -> bool:
+    """Whether a file is a workbook of the kind .xlsx. It raises UserError for one that grows beyond
+    all measure; a damaged archive is told by who unpacks it."""
+    refuse_pipe(path)
+    with open(path, "rb") as file:
+        if file.read(4) != b"PK\x03\x04":
+            return False
+    try:
+        with zipfile.ZipFile(path) as archive:
+            parts = {part.filename: part.file_size for part in archive.infolist()}
+    except (zipfile.BadZipFile, NotImplementedError, ValueError, struct.error):
+        return False
+    if "xl/workbook.xml" not in parts:
+        return False
+    if sum(parts.values()) > max(LEAST_UNPACKED, MOST_TIMES * os.path.getsize(path)):
+        raise _beyond_measure(path, "workbook")
+    return True
+
+
+def _beyond_measure(path: str, what: str) -> UserError:
+    return UserError(f"{path}: the {what} unpacks to more than {MOST_TIMES} times its size: unpack "
+                     "it first, and look at it")
+
+
+def encoding_of(path: str) -> tuple[str, str]:
+    """The encoding of a text, and what to tell of it: by its mark, by its zero bytes, or by trying
+    UTF-8 over all of it. It raises UserError as `judge_text` does."""
+    with opened(path) as file:
+        front = file.read(4096)
+    even, odd = front[::2].count(0), front[1::2].count(0)
+    if front.startswith(b"\xd0\xcf\x11\xe0"):
+        raise UserError(f"{path}: it is a workbook of the old kind (.xls): save it as .xlsx or as "
+                        "CSV")
+    if front.startswith((codecs.BOM_UTF16_LE, codecs.BOM_UTF16_BE)):
+        name, told = "utf-16", "UTF-16"
+    elif odd > len(front) // 3 and even < odd // 20 + 1:
+        name, told = "utf-16-le", "UTF-16 without a mark"
+    elif even > len(front) // 3 and odd < even // 20 + 1:
+        name, told = "utf-16-be", "UTF-16 without a mark"
+    else:
+        name, told = "utf-8-sig" if front.startswith(codecs.BOM_UTF8) else "utf-8", "UTF-8"
+    try:
+        judge_text(path, name, "strict" if name == "utf-8" else "replace")
+    except UnicodeDecodeError as error:
+        # Of Cyrillic words cp1252 makes such as Âîñòîê.
+        like = LIKE_CYRILLIC if CYRILLIC.search(error.object) else "; --encoding names another"
+        name, told = "cp1252", f"no UTF-8, and read as cp1252 (Western Windows){like}"
+        judge_text(path, name, "replace")
+    return name, told
+
+
+def judge_text(path: str, encoding: str, errors: str = "strict") -> None:
+    """Goes through all of a text. It raises UserError for a zero byte, with its line, since readers
+    end a cell there, and UnicodeError where the text is not written in this encoding."""
+    lines = 1
+    with io.TextIOWrapper(opened(path), encoding=encoding, errors=errors, newline="") as text:
+        while piece := text.read(PIECE):
+            if (at := piece.find("\0")) >= 0:
+                lines += piece.count("\n", 0, at)
+                cell = piece[piece.rfind("\n", 0, at) + 1:at][-SHOWN:]
+                raise UserError(f"{path}: line {lines}: a zero byte stands behind `{cell}`, and no "
+                                "text has one: is the file damaged? Export it as CSV")
+            lines += piece.count("\n")
+
+
+@dataclass
+class Source:
+    """An export: how it is written, and its columns.
+
+    `names` are those of the header, or of `--names`. `above` is how many lines stand above the
+    header or, where there is none, above the first row; `units` are the rows between the header and
+    the first number. `sheet` has the cells of a workbook's sheet as texts, and of Parquet the
+    columns as pandas reads them."""
+
+    path: str
+    encoding: str
+    encoding_told: str
+    separator: str
+    names: list[str]
+    above: int
+    has_header: bool
+    header_line: int
+    kind: str = "text"
+    units: list[list[str]] = field(default_factory=list)
+    sheet: Optional[pd.DataFrame] = None
+    sheet_name: str = ""
+    sheets_left: list[str] = field(default_factory=list)
+
+    def __post_init__(self) -> None:
+        if len(self.names) > MOST_COLUMNS:
+            raise UserError(f"{self.path}: {_too_wide(self.names)}")
+
+    def told(self) -> str:
+        """How the export is written, in words."""
+        if self.kind == "Parquet":
+            return f"{self.path}: Parquet, {len(self.names):,} columns"
+        if self.kind == "workbook":
+            how = f"sheet `{self.sheet_name}` of a workbook"
+        elif self.kind == "GSLIB":
+            how = f"GSLIB, {self.encoding_told}"
+        else:
+            how = (f"cells between {SEPARATORS.get(self.separator, repr(self.separator))}, "
+                   f"{self.encoding_told}")
+        header = f"header in line {self.header_line}" if self.has_header else "no header"
+        units = (f"; {len(self.units)} between it and the first number left out" if self.units
+                 else "")
+        left = (f"; left out: {', '.join(f'`{name}`' for name in self.sheets_left)}, without these "
+                "columns" if self.sheets_left else "")
+        return f"{self.path}: {how}; {header}{units}{left}"
+
+    def doubts(self) -> list[str]:
+        """What may be wrong of how it is read."""
+        return ([f"{self.path}: {self.encoding_told}"]
+                if self.encoding_told.endswith(LIKE_CYRILLIC) else [])
+
+    def lines_above(self) -> list[str]:
+        """The lines above the header, such as comments of the package."""
+        if self.sheet is not None or not self.has_header:
+            return []
+        with io.TextIOWrapper(opened(self.path), encoding=self.encoding, errors="replace",
+                              newline="") as text:
+            return [text.readline().strip() for _ in range(self.above)]
+
+    @contextmanager
+    def handle(self) -> Iterator[io.TextIOWrapper]:
+        """The text from the header on, or from the first row."""
+        text = io.TextIOWrapper(opened(self.path), encoding=self.encoding, errors="replace",
+                                newline="")
+        try:
+            for _ in range(self.above):
+                text.readline()
+            yield text
+        finally:
+            # All was read, or another fault is told: that it cannot be closed says nothing.
+            with suppress(OSError):
+                text.close()
+
+    def chunks(self, columns: Sequence[int]) -> Iterator[pd.DataFrame]:
+        """The rows as texts, the columns being numbers of the header's; the index counts records
+        from 0, the header being record 0 where there is one. It raises UserError for a row of
+        another width."""
+        wanted = sorted(columns)
+        if self.sheet is not None and self.kind == "Parquet":
+            for start in range(0, len(self.sheet), CHUNK):
+                yield texts_of(self.sheet.iloc[start:start + CHUNK, wanted])
+            return
+        if self.sheet is not None:
+            yield (self.sheet.iloc[1 if self.has_header else 0:][wanted].reset_index(drop=True)
+                   .rename(lambda at: at + self.has_header))
+            return
+        self.judge_widths()
+        blank = self.separator == " "
+        try:
+            with self.handle() as text, pd.read_csv(text, sep=r"\s+" if blank else self.separator,
+                                                    header=None, dtype=str, usecols=wanted,
+                                                    keep_default_na=False, na_values=[],
+                                                    chunksize=CHUNK, skipinitialspace=True,
+                                                    engine="c") as reader:
+                for number, table in enumerate(reader):
+                    if not number and self.has_header:
+                        table = table.iloc[1:]
+                    yield table
+        except pd.errors.ParserError as error:
+            raise UserError(f"{self.path}: {' '.join(str(error).split())}") from None
+        except pd.errors.EmptyDataError:
+            raise UserError(f"{self.path}: there is no row") from None
+
+    @property
+    def is_read_as_text(self) -> bool:
+        """Whether its bytes do not show its lines: signs have two and more, or CR alone stands
+        behind each line."""
+        if self.encoding.startswith(("utf-16", "utf-32")):
+            return True
+        with opened(self.path) as file:
+            front = file.read(PIECE)
+        return b"\r" in front and b"\n" not in front
+
+    def judge_widths(self) -> None:
+        """Stops at the first row that has more or fewer cells than the header, since pandas passes
+        over these."""
+        if self.is_read_as_text:
+            with self.handle() as text:
+                self._judge(widths_of(text, self.separator), self.above)
+            return
+        line = self.above
+        with opened(self.path) as file:
+            for _ in range(self.above):
+                file.readline()
+            while piece := file.read(PIECE):
+                piece += self.line_behind(file, piece, line)
+                quotes, pieces, length = piece.count(b'"'), [piece], len(piece)
+                while quotes % 2 and (more := file.readline(MOST_LINE)):
+                    quotes, length = quotes + more.count(b'"'), length + len(more)
+                    if length > PIECE + MOST_LINE:
+                        raise UserError(f"{self.path}: a quote that opens behind line {line:,} is "
+                                        f"not closed within {MOST_LINE:,} bytes")
+                    pieces.append(more)
+                piece = b"".join(pieces)
+                if not _has_width(piece, self.separator, len(self.names)):
+                    text = io.StringIO(piece.decode(self.encoding, "replace"), newline="")
+                    self._judge(widths_of(text, self.separator), line)
+                line += piece.count(b"\n")
+
+    def line_behind(self, file: BinaryIO, piece: bytes, line: int) -> bytes:
+        """The rest of the line in which a piece ends. It raises UserError where that does not
+        end."""
+        rest = file.readline(MOST_LINE)
+        if len(rest) == MOST_LINE and not rest.endswith(b"\n") and b"\r" not in rest:
+            last = line + piece.count(b"\n")
+            raise UserError(f"{self.path}: behind line {last:,} a line has more than {MOST_LINE:,} "
+                            "bytes: has the file lost its line ends?")
+        return rest
+
+    def _judge(self, widths: Iterator[tuple[int, int]], above: int) -> None:
+        try:
+            self._judge_each(widths, above)
+        except csv.Error as error:
+            raise UserError(f"{self.path}: behind line {above:,}: {error}") from None
+
+    def _judge_each(self, widths: Iterator[tuple[int, int]], above: int) -> None:
+        width = len(self.names)
+        for line, found in widths:
+            if found != width:
+                why = ("is a separator in a cell without quotes, or at the ends of lines?"
+                       if found > width else self._lacking_told(line + above))
+                raise UserError(f"{self.path}: line {line + above} has {found} cells, and the "
+                                f"header {width}: {why}")
+
+    def _lacking_told(self, number: int) -> str:
+        """What a line with too few cells may be, by its text."""
+        with self.handle() as text:
+            line = next(islice(text, number - self.above - 1, None), "").strip()
+        if line == "\x1a":
+            return "it is Ctrl-Z, the end mark of DOS, and no row: take it out"
+        shown = f"`{line[:SHOWN]}{'..' if line[SHOWN:] else ''}`"
+        words = line[:LOOKED_AT].translate(BLANKED).split()
+        if words and all(map(is_number_like, words)):
+            return f"{shown}: is the file cut short?"
+        if self.separator == " " and any(word.count(".") > 1 for word in words):
+            return (f"{shown} has numbers without a blank between them: export it with a "
+                    "separator, or wider columns")
+        if not any(one.rstrip(".")[-1:].isdecimal() and other.lstrip("-")[:1].isdecimal()
+                   for one, other in zip(words, words[1:])):
+            return (f"{shown} is a heading between rows, as of a bench, and no row: take such "
+                    "lines out")
+        return (f"{shown}: is the file cut short, or are these rows of another kind, as parcels of "
+                "blocks in a model of Whittle?")
+
+    def place_of(self, record: int, column: Optional[int] = None) -> str:
+        """Where a record, or a cell of it, stands, as `a.csv: line 12`."""
+        if self.sheet is None:
+            return f"{self.path}: line {self.line_of(record)}"
+        if self.kind == "Parquet":
+            return f"{self.path}: row {record + 1}"
+        where = (f"row {self.line_of(record)}" if column is None
+                 else f"cell {cell_name(self.line_of(record), column + 1)}")
+        return f"{self.path}: sheet `{self.sheet_name}`, {where}"
+
+    def cells_of(self, record: int) -> list[str]:
+        """The cells of a record as they stand."""
+        for table in self.chunks(range(len(self.names))):
+            if record in table.index:
+                return [str(cell).strip() for cell in table.loc[record]]
+        return []
+
+    def line_of(self, record: int) -> int:
+        """The line on which a record ends, counted from 1 in the file: blank lines and line breaks
+        within quotes count."""
+        if self.sheet is not None:
+            return record + self.header_line if self.has_header else record + 1
+        count = -1
+        with self.handle() as text:
+            if self.separator == " ":
+                for line, row in enumerate(text):
+                    count += bool(row.strip())
+                    if count == record:
+                        return line + 1 + self.above
+                return 0
+            reader = csv.reader(text, delimiter=self.separator)
+            for cells in reader:
+                count += bool(cells) and (len(cells) > 1 or bool(cells[0].strip()))
+                if count == record:
+                    return reader.line_num + self.above
+        return 0
+
+
+def _too_wide(row: Sequence[str]) -> str:
+    return (f"it has {len(row):,} columns, and a sheet has {MOST_COLUMNS:,} at the most: export "
+            "fewer")
+
+
+def _has_width(piece: bytes, separator: str, width: int) -> bool:
+    """Whether whole lines without quotes all have so many cells, or no character; False says
+    nothing."""
+    if separator == " " or b'"' in piece:
+        return False
+    signs = np.frombuffer(piece if piece.endswith(b"\n") else piece + b"\n", np.uint8)
+    ends = np.flatnonzero(signs == ord("\n"))
+    starts = np.r_[0, ends[:-1] + 1]
+    found = np.add.reduceat(signs == ord(separator), starts)
+    is_blank = ends - starts == (signs[starts] == ord("\r"))
+    return bool(((found == width - 1) | is_blank).all())
+
+
+def widths_of(text: TextIO, separator: str) -> Iterator[tuple[int, int]]:
+    """The line on which each record ends, counted from 1, and its number of cells; blank lines are
+    none. It raises csv.Error where a line is too long."""
+    if separator == " ":
+        for line, row in enumerate(_lines_of(text), 1):
+            if row.strip():
+                yield line, len(row.split())
+        return
+    line, rows = 0, _lines_of(text)
+    for row in rows:
+        line += 1
+        if '"' not in row:
+            if row.strip(" \t\r\n"):
+                yield line, row.count(separator) + 1
+            continue
+        # A quoted cell may go on over lines.
+        pieces, quotes = [row], row.count('"')
+        while quotes % 2 and (more := next(rows, "")):
+            pieces.append(more)
+            quotes += more.count('"')
+            line += 1
+        yield line, len(next(csv.reader(pieces, delimiter=separator), []))
+
+
+def _lines_of(text: TextIO) -> Iterator[str]:
+    while row := text.readline(MOST_LINE):
+        if len(row) == MOST_LINE and row[-1] not in "\r\n":
+            raise csv.Error(f"a line has more than {MOST_LINE:,} characters")
+        yield row
+
+
+def head_of(path: str, encoding: str) -> str:
+    """The first lines of a text, enough for any header."""
+    with io.TextIOWrapper(opened(path), encoding=encoding, errors="replace", newline="") as text:
+        head = text.read(HEAD)
+    if not head.strip():
+        raise UserError(f"{path}: there is no text")
+    if len(head) == HEAD and "\n" not in head and "\r" not in head:
+        raise UserError(f"{path}: the first line has more than {HEAD:,} signs: has the file lost "
+                        "its line ends?")
+    if len(head) == HEAD and "\n" in head:
+        head = head[:head.rindex("\n") + 1]
+    return head
+
+
+def records_of(head: str, separator: str) -> list[tuple[list[str], int, int]]:
+    """The first records of a text, each with how many lines stand above it and the line on which it
+    ends."""
+    if separator == " ":
+        lines = head.splitlines()[:HEAD_LINES]
+        return [(line.split(), at, at + 1) for at, line in enumerate(lines)]
+    records, above = [], 0
+    reader = csv.reader(io.StringIO(head, newline=""), delimiter=separator)
+    try:
+        for row in reader:
+            records.append((row, above, reader.line_num))
+            above = reader.line_num
+            if len(records) == HEAD_LINES:
+                break
+    except csv.Error:
+        pass
+    return records
+
+
+def gslib_of(path: str, head: str, encoding: str, told: str) -> Optional[Source]:
+    """A GSLIB file: a title, a number of columns, a name on each of so many lines, and then rows of
+    so many numbers."""
+    lines = head.splitlines()
+    columns = (whole_of((lines[1].split() or [""])[0]) or 0) if len(lines) > 3 else 0
+    if not 1 <= columns <= 200 or len(lines) < columns + 3:
+        return None
+    first = lines[columns + 2].split()
+    if len(first) != columns or not all(map(is_number_like, first)):
+        return None
+    names = [line.strip() for line in lines[2:columns + 2]]
+    if all(is_number_like(name) for name in names):
+        return None
+    return Source(path, encoding, told, " ", names, columns + 2, False, 0, kind="GSLIB")
+
+
+def sources_of(path: str, resolve: Callable[[Sequence[str]], object], *, encoding: str = "",
+               separator: str = "", names: Sequence[str] = (), sheet: str = "") -> list[Source]:
+    """Opens an export: one text, the sheets of a workbook, or Parquet. `resolve` is called with the
+    names of a header that may be one, and raises Lacking where a column is not among them: the
+    first line that it accepts is the header.
+
+    It raises UserError where no line has all the columns, and tells what the closest one has."""
+    refuse_pipe(path)
+    with open(path, "rb") as file:
+        is_parquet = file.read(len(MARK)) == MARK
+    if is_parquet:
+        return [parquet_of(path, resolve, names)]
+    if is_workbook(path):
+        return workbook_of(path, resolve, names, sheet)
+    return [text_of(path, resolve, encoding, separator, names)]
+
+
+def parquet_of(path: str, resolve: Callable[[Sequence[str]], object],
+               names: Sequence[str]) -> Source:
+    """Opens Parquet, whose columns have names."""
+    if names:
+        raise UserError(f"{path}: --names is for a text without a header, and Parquet has names")
+    frame = frame_of(path)
+    found = list(frame.columns)
+    try:
+        resolve(found)
+    except Lacking as lacking:
+        raise UserError(f"{path}: {lacking}: there are {_names_told(found)}") from None
+    return Source(path, "", "", "", found, 0, False, 0, kind="Parquet",
+                  sheet=frame.set_axis(range(len(found)), axis=1))
+
+
+def text_of(path: str, resolve: Callable[[Sequence[str]], object], encoding: str, separator: str,
+            names: Sequence[str]) -> Source:
+    """Opens a text, as `sources_of` says."""
+    told = encoding
+    if encoding:
+        encoding = _judged_encoding(path, encoding)
+    else:
+        encoding, told = encoding_of(path)
+    head = head_of(path, encoding)
+    if names:
+        return headerless(path, resolve, head, encoding, told, separator, names)
+    gslib = gslib_of(path, head, encoding, told)
+    if gslib and not separator:
+        resolve(gslib.names)
+        return gslib
+    closest: tuple[int, str] = (-1, "")
+    for one in [separator] if separator else SEPARATORS:
+        for row, above, line in records_of(head, one):
+            if not any(cell.strip() for cell in row):
+                continue
+            if len(row) > MOST_COLUMNS:
+                raise UserError(f"{path}: {_too_wide(row)}")
+            try:
+                resolve(row)
+                return Source(path, encoding, told, one, row, above, True, line)
+            except Lacking as lacking:
+                shared = (len(row) + 1000 * lacking.hits
+                          - 500 * (sum(map(is_number_like, row)) > len(row) / 2))
+                if shared > closest[0]:
+                    closest = shared, f"{lacking} in line {line}, which has {_names_told(row)}"
+    judge_kind(path, head)
+    judge_turns(path, head, separator)
+    first = records_of(head, separator or closest_separator(head))[0][0]
+    if len(first) > 3 and sum(map(is_number_like, first)) > len(first) / 2:
+        raise UserError(f"{path}: there is no header, since line 1 has numbers: name its "
+                        f"{len(first)} columns by --names X,Y,..")
+    told = closest[1] or f"the first {HEAD_LINES} lines are blank"
+    raise UserError(f"{path}: {told}")
+
+
+def _judged_encoding(path: str, given: str) -> str:
+    """The name of an encoding in Python. It raises UserError where there is none of this name, or
+    the text is written in another one."""
+    try:
+        name = codecs.lookup(given).name
+        judge_text(path, name)
+    except LookupError:
+        raise UserError(f"no encoding `{given}`: there are utf-8, cp1252, latin-1, utf-16 and "
+                        "others") from None
+    except UnicodeError as error:
+        raise UserError(f"{path}: it is not written in {given}: "
+                        f"{' '.join(str(error).split())[:200]}") from None
+    return name
+
+
+def _names_told(row: Sequence[str]) -> str:
+    """The cells of a line that is no header, shortened where they are long or many."""
+    cells = [" ".join(name.split()) for name in row]
+    told = " ".join(f"`{cell[:40]}{'..' if cell[40:] else ''}`" for cell in cells[:40])
+    return told + (f" and {len(cells) - 40} more" if len(cells) > 40 else "")
+
+
+def closest_separator(head: str) -> str:
+    """The separator that cuts the first lines most."""
+    lines = [line for line in head.splitlines() if line.strip()][:20]
+    return max(SEPARATORS, key=lambda one: min(len(line.split() if one == " " else line.split(one))
+                                               for line in lines) - (one == " "))
+
+
+#: How texts begin that are no tables, and what they are, with what to do.
+OTHERS = [(r"%PDF-", "a PDF: export the block model as CSV"),
+          (r"\s*(<!DOCTYPE html|<html|<table)", "a page of HTML, as some programs write it for a "
+           "spreadsheet: open it there, and save it as .xlsx or as CSV"),
+          (r"\s*0\s*\n\s*SECTION\b", "a DXF, of lines and surfaces and no blocks: export the "
+           "block model's centroids as CSV"),
+          (r"\s*[\[{]\s*[\"{]", "JSON: export the block model as CSV")]
+
+
+def judge_kind(path: str, head: str) -> None:
+    """Stops at texts that are no tables: those of OTHERS, and files of Micromine and Surpac in
+    their own form."""
+    for front, what in OTHERS:
+        if re.match(f"(?i){front}", head):
+            raise UserError(f"{path}: it is {what}")
+    lines = [*head.splitlines()[:3], "", ""]
+    if re.match(r"\s*THIS\b.*|\s*\d+\s+VARIABLES\b", lines[0]) and re.search(
+            r"(?i)\bvariables\b", " ".join(lines)):
+        raise UserError(f"{path}: it is a file of Micromine in its own form (.DAT): export it as "
+                        "CSV")
+    if re.match(r"\s*0,\s*0\.0+,\s*0\.0+,\s*0\.0+,", lines[1]):
+        raise UserError(f"{path}: it is a string file of Surpac (.str), of lines and points and no "
+                        "blocks: export the block model's centroids as CSV")
+
+
+def judge_turns(path: str, head: str, separator: str) -> None:
+    """Stops where lines of two widths take turns: a model of blocks and their parcels."""
+    widths = [len(row)
+              for row, _, _ in records_of(head, separator or closest_separator(head)) if row]
+    usual = [width for width in set(widths) if widths.count(width) >= len(widths) / 5]
+    if len(usual) > 1 and len(widths) > 9:
+        told = " and ".join(map(str, sorted(usual)))
+        raise UserError(f"{path}: lines of {told} cells take turns, as "
+                        f"`{' '.join(head.splitlines()[0].split())[:60]}` and "
+                        f"`{' '.join(head.splitlines()[1].split())[:60]}`: a model of blocks and "
+                        "their parcels, as Whittle writes it? Export one row for each block")
+
+
+def headerless(path: str, resolve: Callable, head: str, encoding: str, told: str, separator: str,
+               names: Sequence[str]) -> Source:
+    """A list without a header, whose columns are named."""
+    resolve(names)
+    judge_turns(path, head, separator)
+    tried = [separator] if separator else list(SEPARATORS)
+    for one in tried:
+        for row, above, _ in records_of(head, one):
+            if len(row) == len(names) and sum(map(is_number_like, row)) >= min(3, len(row)):
+                return Source(path, encoding, told, one, list(names), above, False, 0)
+    widths = sorted(
+        {len(row) for row, _, _ in records_of(head, separator or closest_separator(head)) if row})
+    raise UserError(f"{path}: --names has {len(names)} names, and lines have "
+                    f"{', '.join(map(str, widths))} cells")
+
+
+def workbook_of(path: str, resolve: Callable[[Sequence[str]], object], names: Sequence[str],
+                sheet: str) -> list[Source]:
+    """All sheets of a workbook that have all the columns, or the one that is named. It raises
+    UserError where their headers differ, or another sheet has rows of as many numbers below another
+    header."""
+    found: list[Source] = []
+    others: dict[str, pd.DataFrame] = {}
+    numbers: list[int] = []
+    told = ""
+    for name, texts in sheets_of(path, sheet):
+        at, lacking = _header_at(texts, resolve, names)
+        if at is None:
+            told = told or (f"{lacking} in sheet `{name}`" if lacking else "")
+            others[name] = texts
+        else:
+            row = list(names) or texts.iloc[at].tolist()
+            numbers.append(sum(map(is_number_like, texts.iloc[-1])))
+            found.append(Source(path, "", "", "", row, at, not names, at + 1, kind="workbook",
+                                sheet=texts.iloc[at:], sheet_name=name))
+    if not found:
+        raise UserError(f"{path}: {told or 'the workbook is empty'}")
+    for one in found[1:]:
+        if [*map(plain_name, one.names)] != [*map(plain_name, found[0].names)]:
+            raise UserError(f"{path}: the sheets `{found[0].sheet_name}` and `{one.sheet_name}` "
+                            "have these columns below headers that differ: give them one header "
+                            "where both are parts of the model; else name the one that is meant by "
+                            "--sheet")
+    for name, texts in others.items():
+        least = max(3, numbers[0])
+        many = (int((texts.apply(lambda row: sum(map(is_number_like, row)), axis=1) >= least).sum())
+                if len(texts) else 0)
+        if many > 2:
+            raise UserError(f"{path}: the sheet `{name}` has {many:,} rows of numbers as "
+                            f"`{found[0].sheet_name}`, and no header with its columns: give it the "
+                            "header where it is a part of the model; else name the sheet that is "
+                            "meant by --sheet")
+        found[0].sheets_left.append(name)
+    resolve(found[0].names)
+    return found
+
+
+def _header_at(texts: pd.DataFrame, resolve: Callable,
+               names: Sequence[str]) -> tuple[Optional[int], Optional[Lacking]]:
+    """The row of a sheet that is its header, or None and what it lacks; 0 where the columns are
+    named and are as many."""
+    if names:
+        resolve(names)
+        return (0 if texts.shape[1] == len(names) else None), None
+    first = None
+    for at in range(min(HEAD_LINES, len(texts))):
+        try:
+            resolve(texts.iloc[at].tolist())
+            return at, None
+        except Lacking as lacking:
+            first = first or lacking
+    return None, first

@@ -1,0 +1,77 @@
+"""Parquet, by pandas and the package that it finds for it."""
+from __future__ import annotations
+
+import datetime
+from decimal import Decimal
+
+import numpy as np
+import pandas as pd
+
+from pit_tools.errors import UserError
+from pit_tools.texts.decimals import plain
+
+#: How a file begins.
+MARK = b"PAR1"
+
+LACKING = ("no package is there that reads and writes Parquet: install pyarrow (python3 -m pip "
+           "install pyarrow), or export as CSV")
+
+
+def frame_of(path: str) -> pd.DataFrame:
+    """The columns of a file, as pandas reads them, an index with a name among them. It raises
+    UserError where no package reads Parquet, or this file cannot be read."""
+    try:
+        frame = pd.read_parquet(path)
+    except ImportError:
+        raise UserError(f"{path}: it is a Parquet file, and {LACKING}") from None
+    except MemoryError:
+        raise
+    except Exception as error:  # pylint: disable=broad-except
+        # Packages say nowhere what they raise of a damaged file.
+        told = " ".join(str(error).split())[:200] or type(error).__name__
+        raise UserError(f"{path}: the Parquet file cannot be read: {told}") from None
+    if any(name is not None for name in frame.index.names):
+        frame = frame.reset_index()
+    return frame.rename(columns=str).reset_index(drop=True)
+
+
+def texts_of(frame: pd.DataFrame) -> pd.DataFrame:
+    """The cells as texts, as a CSV file of the same columns has them: the shortest decimals of
+    numbers, and an empty text where nothing is known."""
+    return frame.apply(_texts_of)
+
+
+def _texts_of(column: pd.Series) -> pd.Series:
+    known = column.notna()
+    texts = pd.Series("", index=column.index, dtype=object)
+    values = column[known]
+    if isinstance(column.dtype, np.dtype) and column.dtype.kind in "iuf":
+        texts[known] = values.to_numpy().astype(str).astype(object)
+    else:
+        texts[known] = [_text_of(value) for value in values]
+    return texts
+
+
+def _text_of(value: object) -> str:
+    if isinstance(value, (bool, np.bool_)):
+        return str(value).upper()
+    if isinstance(value, bytes):
+        return value.decode("utf-8", "replace")
+    if isinstance(value, Decimal):
+        return plain(value)
+    if isinstance(value, (datetime.date, datetime.time)):
+        return value.isoformat()
+    return str(value)
+
+
+def bytes_of(frame: pd.DataFrame) -> bytes:
+    """The file of a frame. It raises UserError where no package writes Parquet, or two columns have
+    one name."""
+    names = frame.columns[frame.columns.duplicated()]
+    if len(names):
+        raise UserError(f"the export has a column `{names[0]}` already, and Parquet takes a name "
+                        "once: rename it in the export, and import again")
+    try:
+        return bytes(frame.to_parquet(index=False))
+    except ImportError:
+        raise UserError(LACKING) from None

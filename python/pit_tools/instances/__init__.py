@@ -1,0 +1,1 @@
+"""Instances as arrays and sparse matrices: made of a plan, read, written, and as others publish."""

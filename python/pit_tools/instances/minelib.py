@@ -1,0 +1,325 @@
+"""Files as the MineLib library publishes them, to an instance as `pitc` writes it, and back.
+
+The library's files are known here by hearsay alone: none was tried. What is taken to be theirs:
+comments from `%` on; a last line `EOF`; block files with fields of each mine's own behind the
+coordinates, words among them; precedence lines only for some blocks, and predecessors with smaller
+identifiers; header keys and sections in any order and case; exponents; a second number behind a
+limit `L` or `G`, and infinite ones; and not all of UPIT, CPIT and PCPSP.
+"""
+from __future__ import annotations
+
+import os
+from dataclasses import dataclass, replace
+from typing import Optional
+
+import numpy as np
+from scipy import sparse
+
+from pit_tools.errors import UserError
+from pit_tools.instances.files import Blocks, Instance, Problem, UltimatePit, Uses, write_instance
+from pit_tools.instances.identifiers import Identifiers, order_of, reordered
+from pit_tools.instances.published import read_problem, read_upit
+from pit_tools.texts.formats import MOST_AMOUNT, MOST_BLOCKS, MOST_INDEX, MOST_ZONE
+from pit_tools.texts.lines import (Piece, Rounding, Told, integers_of, line_lengths, numbers_of,
+                                   pieces_of, refuse_row)
+
+
+@dataclass(frozen=True)
+class Columns:
+    """Which fields of a block line are what, counted from 1; 0 stands for none. A block's
+    identifier and coordinates are fields 1 to 4, and other fields are skipped."""
+
+    tonnes: int = 0
+    grade: int = 0
+    zone: int = 0
+
+    def __post_init__(self) -> None:
+        for name, field in vars(self).items():
+            if field < 0 or 0 < field < 5:
+                raise UserError(f"field {field} cannot be the {name}: fields 1 to 4 are a block's "
+                                "identifier and coordinates")
+
+
+class _Blocks:
+    """The lines of a block file as they come, and then the blocks in order of identifier."""
+
+    def __init__(self, path: str, columns: Columns, told: Told):
+        self.path, self.told = path, told
+        self.fields = [0, 1, 2, 3] + [field - 1 for field in vars(columns).values() if field]
+        self.names = [name for name, field in vars(columns).items() if field]
+        self.roundings = {"tonnes": Rounding(3), "grade": Rounding(6)}
+        self.parts: list[list[np.ndarray]] = []
+        self.row = 0
+
+    def take(self, piece: Piece) -> None:
+        """Takes the named fields of lines."""
+        numbers = numbers_of(piece, self.fields, "a block line")
+        if not self.parts:
+            self._tell_fields(piece)
+        whole = [piece.whole(numbers[0], "the identifier", 0, MOST_BLOCKS)]
+        whole += [piece.whole(numbers[at], f"the index {name}", -2**31)
+                  for at, name in enumerate("xyz", 1)]
+        own: dict[str, np.ndarray] = {
+            "tonnes": np.zeros(numbers.shape[1]), "grade": np.zeros(numbers.shape[1]),
+            "zone": np.zeros(numbers.shape[1], np.int32)}
+        for name, column in zip(self.names, numbers[4:]):
+            own[name] = self._own(piece, name, column)
+        self.parts.append([*whole, *own.values()])
+
+    def _own(self, piece: Piece, name: str, column: np.ndarray) -> np.ndarray:
+        """A column of tonnes, grades or zones, within what `pitc check` takes."""
+        if name == "zone":
+            return piece.whole(column, "the zone", 0, MOST_ZONE)
+        is_wrong = (column < 0) | (column > MOST_AMOUNT)
+        if is_wrong.any():
+            row = int(is_wrong.argmax())
+            piece.refuse(row, f"the {name} is {column[row]:.15g}, and `pitc check` takes 0 to "
+                              f"{MOST_AMOUNT:,}")
+        return self.roundings[name].of(piece, column, f"the {name}")
+
+    def _tell_fields(self, piece: Piece) -> None:
+        """Tells which fields are left out, by those of the first line."""
+        cells = piece.line_of(0)[1].split()
+        left = [f"{at} (`{cell[:20]}`)" for at, cell in enumerate(cells, 1)
+                if at - 1 not in self.fields]
+        if left:
+            more = f" and {len(left) - 12} more" if len(left) > 12 else ""
+            self.told.tell(f"{os.path.basename(self.path)}: fields that were left out, as the "
+                           f"first line has them: {', '.join(left[:12])}{more}")
+        for name in ("tonnes", "grade"):
+            if name not in self.names:
+                self.told.tell(f"no field was named for {name}: --{name} N; it is 0 for all blocks")
+
+    def blocks(self) -> tuple[Blocks, int]:
+        """The blocks, and the first identifier, 0 or 1."""
+        if not self.parts:
+            raise UserError(f"{self.path}: there are no blocks")
+        ids, *columns = map(np.concatenate, zip(*self.parts))
+        self.parts.clear()
+        first = int(ids.min())
+        if first > 1:
+            refuse_row(pieces_of(self.path), int(ids.argmin()),
+                       "identifiers are not consecutive from 0 or 1: the least is this one")
+        if not np.array_equal(ids, np.arange(first, first + len(ids))):
+            order = np.argsort(ids, kind="stable")
+            steps = np.flatnonzero(np.diff(ids[order]) != 1)
+            if len(steps):
+                refuse_row(pieces_of(self.path), int(order[steps[0] + 1]),
+                           f"identifiers are not consecutive: {ids[order[steps[0]]]} is the one "
+                           "before")
+            columns = [column[order] for column in columns]
+        for name, rounding in self.roundings.items():
+            rounding.tell(pieces_of(self.path), f"{name} were", self.told)
+        axes = [self._index(name, column) for name, column in zip("xyz", columns)]
+        return Blocks(*axes, *columns[3:]), first
+
+    def _index(self, name: str, index: np.ndarray) -> np.ndarray:
+        """A coordinate as an index from 0 on."""
+        least, most = int(index.min()), int(index.max())
+        if least < 0:
+            self.told.tell(f"{name} was moved by {-least}, since indices count from 0")
+            index, most = index - np.int32(least), most - least
+        if most > MOST_INDEX:
+            raise UserError(f"{self.path}: {name} goes to {most}, and indices to {MOST_INDEX}: are "
+                            "these metres?")
+        return index
+
+
+def read_blocks(path: str, columns: Columns, told: Told) -> tuple[Blocks, int]:
+    """The blocks in order of identifier, and the first identifier, 0 or 1.
+
+    Raises UserError, with the line, where identifiers are not consecutive, coordinates are no
+    indices, a named field is lacking, or it is none that `pitc check` takes.
+    """
+    reader = _Blocks(path, columns, told)
+    for piece in pieces_of(path):
+        reader.take(piece)
+    return reader.blocks()
+
+
+def _arcs_of(piece: Piece) -> tuple[np.ndarray, np.ndarray, np.ndarray]:
+    """The identifiers, numbers of predecessors, and predecessors of lines `id k p1 .. pk`."""
+    lengths = line_lengths(piece.text)
+    fields = integers_of(piece.text)
+    starts = np.cumsum(lengths) - lengths
+    if len(fields) != lengths.sum() or lengths.min() < 2:
+        for row, (_, line) in enumerate(piece.lines()):
+            cells = line.split()
+            if len(cells) < 2 or not all(cell.lstrip("+-").isdecimal() for cell in cells):
+                piece.refuse(row, "no line `id k p1 .. pk`")
+        raise UserError(f"{piece.path}: lines from {piece.first} on cannot be read")
+    is_wrong = fields[starts + 1] != lengths - 2
+    if is_wrong.any():
+        row = int(is_wrong.argmax())
+        piece.refuse(row, f"{lengths[row] - 2} predecessors stand in a line `id k p1 .. pk`, and k "
+                          f"is {fields[starts[row] + 1]}")
+    is_predecessor = np.ones(len(fields), dtype=bool)
+    is_predecessor[starts] = is_predecessor[starts + 1] = False
+    return fields[starts], lengths - 2, fields[is_predecessor]
+
+
+def read_precedence(path: str, blocks: int, first: int, told: Told) -> sparse.csr_matrix:
+    """The precedences: `id k p1 .. pk` in any order; blocks without a line have none.
+
+    Raises UserError, with the line, where a number of predecessors or an identifier is wrong.
+    """
+    rows, counts, above = [], [], []
+    done = 0
+    for piece in pieces_of(path):
+        ids, count, predecessors = _arcs_of(piece)
+        for what, column in (("the block", ids), ("a predecessor", predecessors)):
+            is_wrong = (column < first) | (column >= first + blocks)
+            if is_wrong.any():
+                at = int(is_wrong.argmax())
+                row = at if column is ids else \
+                    int(np.searchsorted(np.cumsum(count), at, side="right"))
+                piece.refuse(row, f"{what} {column[at]} is not one of the {blocks} of the block "
+                                  "file")
+        rows.append((ids - first).astype(np.int32))
+        counts.append(count.astype(np.int32))
+        above.append((predecessors - first).astype(np.int32))
+        done += len(ids)
+    lines = [np.concatenate(part) if part else np.empty(0, np.int32)
+             for part in (rows, counts, above)]
+    if done < blocks:
+        told.tell(f"{blocks - done} blocks had no line in the precedence file, and wait for none")
+    return _matrix_of(path, blocks, *lines)
+
+
+def _matrix_of(path: str, blocks: int, rows: np.ndarray, counts: np.ndarray,
+               above: np.ndarray) -> sparse.csr_matrix:
+    """The matrix of lines of a precedence file."""
+    order = None if np.all(rows[1:] > rows[:-1]) else np.argsort(rows, kind="stable")
+    if order is not None:
+        twice = np.flatnonzero(np.diff(rows[order]) == 0)
+        if len(twice):
+            refuse_row(pieces_of(path), int(order[twice[0] + 1]), "the block has a line before")
+        ends = np.cumsum(counts, dtype=np.int64)
+        starts = np.repeat((ends - counts)[order], counts[order])
+        lengths = counts[order].astype(np.int64)
+        within = np.arange(len(above)) - np.repeat(np.cumsum(lengths) - lengths, lengths)
+        above = above[starts + within]
+    numbers = np.zeros(blocks, dtype=np.int64)
+    numbers[rows] = counts
+    matrix = sparse.csr_matrix((blocks, blocks), dtype=np.int8)
+    matrix.indptr = np.concatenate([[0], np.cumsum(numbers)])
+    if len(above) < 2**31:
+        matrix.indptr = matrix.indptr.astype(np.int32)
+    matrix.indices, matrix.data = above, np.ones(len(above), dtype=np.int8)
+    matrix.sort_indices()
+    lower = np.repeat(np.arange(blocks, dtype=np.int32), numbers)
+    is_wrong = matrix.indices == lower
+    is_wrong[1:] |= (matrix.indices[1:] == matrix.indices[:-1]) & (lower[1:] == lower[:-1])
+    if is_wrong.any():
+        at = int(np.flatnonzero(rows == lower[int(is_wrong.argmax())])[0])
+        refuse_row(pieces_of(path), at, "the block names a predecessor twice, or itself")
+    return matrix
+
+
+def _no_uses() -> Uses:
+    return Uses(np.empty(0, np.int32), np.empty(0, np.int8), np.empty(0, np.int8), np.empty(0))
+
+
+def _cpit_of(pcpsp: Problem) -> Problem:
+    """Each block goes where it is worth most, to the first of such."""
+    best = pcpsp.values.argmax(axis=1)
+    uses = pcpsp.uses
+    taken = uses.destination == best[uses.block]
+    kept = Uses(uses.block[taken], np.zeros(taken.sum(), np.int8), uses.resource[taken],
+                uses.amount[taken])
+    return replace(pcpsp, kind="CPIT", values=pcpsp.values.max(axis=1)[:, None], uses=kept)
+
+
+def _completed(mine: Instance, told: Told) -> Instance:
+    """The instance with the problems that are lacking, made of those that are there."""
+    pcpsp, cpit, upit = mine.pcpsp, mine.cpit, mine.upit
+    if cpit is None and pcpsp is not None:
+        cpit = _cpit_of(pcpsp)
+        told.tell("the CPIT was made of the PCPSP: each block goes where it is worth most")
+    if cpit is None and upit is not None:
+        cpit = Problem("CPIT", upit.name, 1, 0, 0.0, upit.values[:, None], _no_uses())
+        told.tell("the CPIT was made of the UPIT: one period, no resource")
+    if cpit is None:
+        raise UserError("give a UPIT, a CPIT or a PCPSP")
+    if pcpsp is None:
+        pcpsp = replace(cpit, kind="PCPSP")
+        told.tell("the PCPSP was made of the CPIT: one destination")
+    if upit is None:
+        upit = UltimatePit(cpit.name, cpit.values[:, 0])
+        told.tell("the UPIT was made of the CPIT's values")
+    return replace(mine, pcpsp=pcpsp, cpit=cpit, upit=upit)
+
+
+def read_published(files: dict[str, str], columns: Columns = Columns(), order: Optional[str] = None,
+                   without_general: bool = False,
+                   told: Optional[Told] = None) -> tuple[Instance, Identifiers]:
+    """An instance of published files, by the endings blocks, prec, upit, cpit and pcpsp, and the
+    identifiers that its blocks had; blocks, prec and one of the others have to be there.
+
+    Raises UserError where a file is none, or they are not of the same blocks.
+    """
+    told = told if told is not None else Told()
+    lacking = [ending for ending in ("blocks", "prec") if ending not in files]
+    if lacking:
+        raise UserError(f"give the file of {' and '.join(lacking)}")
+    blocks, first = read_blocks(files["blocks"], columns, told)
+    precedence = read_precedence(files["prec"], len(blocks), first, told)
+    upit = read_upit(files["upit"], first, without_general, told) if "upit" in files else None
+    problems = [read_problem(files[ending], ending.upper(), first, order, without_general, told)
+                if ending in files else None for ending in ("pcpsp", "cpit")]
+    mine = _completed(Instance(blocks, precedence, upit, *problems), told)
+    for part in (mine.upit, mine.cpit, mine.pcpsp):
+        if part is not None and len(part.values) != len(blocks):
+            raise UserError(f"a model file has {len(part.values)} blocks, and the block file "
+                            f"{len(blocks)}")
+    return _in_order(mine, first, told)
+
+
+def _in_order(mine: Instance, first: int, told: Told) -> tuple[Instance, Identifiers]:
+    """The instance in an order in which predecessors come behind their blocks."""
+    _look_at_heights(mine, told)
+    order = None if mine.precedence is None else order_of(mine.precedence)
+    published = np.arange(first, first + len(mine.blocks or ()))
+    if first:
+        told.tell(f"identifiers counted from {first}, and count from 0 now")
+    if order is not None:
+        mine, published = reordered(mine, order), published[order]
+        told.tell("a predecessor stood before its block: blocks have other identifiers now")
+    return mine, Identifiers(published)
+
+
+def _look_at_heights(mine: Instance, told: Told) -> None:
+    """Tells where predecessors lie below their blocks."""
+    if mine.blocks is None or mine.precedence is None or not mine.precedence.nnz:
+        return
+    heights = np.repeat(mine.blocks.z, np.diff(mine.precedence.indptr))
+    if (mine.blocks.z[mine.precedence.indices] < heights).mean() > 0.5:
+        told.tell("most predecessors lie at a smaller z than their block: z counts downward there")
+
+
+def _in_fields(uses: Uses, order: str) -> Uses:
+    """The uses with what stands first, second and third in the order of fields in its own places,
+    so that they are written in that order."""
+    columns = {"b": uses.block, "d": uses.destination, "r": uses.resource}
+    rank = np.lexsort([columns[letter] for letter in reversed(order)])
+    first, second, third = (columns[letter][rank] for letter in order)
+    return Uses(first, second, third, uses.amount[rank])
+
+
+def _with_fields(problem: Optional[Problem], order: str) -> Optional[Problem]:
+    if problem is None:
+        return None
+    # A CPIT's lines are written of the first and the third place.
+    places = order if problem.kind == "PCPSP" else "rdb" if order[0] == "r" else "bdr"
+    return replace(problem, uses=_in_fields(problem.uses, places))
+
+
+def write_published(mine: Instance, base: str, order: str = "bdr", with_end: bool = True) -> None:
+    """Writes an instance as the library's files are remembered: `EOF` behind each model, and
+    coefficients in an order of their fields, one of published_models.ORDERS.
+
+    Raises UserError as `write_instance` does.
+    """
+    swapped = replace(mine, pcpsp=_with_fields(mine.pcpsp, order),
+                      cpit=_with_fields(mine.cpit, order))
+    write_instance(swapped, base, b"EOF\n" if with_end else b"", as_published=True)

@@ -1,0 +1,389 @@
+"""UPIT, CPIT and PCPSP files as other programs write them: their header and sections, in any order.
+
+What does not fit is refused with its line; what is changed or left out is told.
+"""
+from __future__ import annotations
+
+import difflib
+import os
+import re
+from itertools import chain
+from typing import Iterator, Optional
+
+import numpy as np
+
+from pit_tools.errors import UserError, quoted
+from pit_tools.instances.files import (COEFFICIENTS, KEYS, LIMITS, OBJECTIVE, SECTIONS, Limit,
+                                       Problem, UltimatePit, Uses)
+from pit_tools.texts.decimals import number_of, whole_of
+from pit_tools.texts.formats import MOST_BLOCKS, MOST_DESTINATIONS, MOST_PERIODS, MOST_RESOURCES
+from pit_tools.texts.lines import (Piece, Rounding, Told, line_lengths, numbers_of, pieces_of,
+                                   refuse_row)
+
+#: Orders of the fields of a coefficient, in front of its amount: block, destination, resource.
+ORDERS = ("bdr", "brd", "rbd")
+
+#: How limits may be spelled.
+LETTERS = {"L": "L", "<=": "L", "<": "L", "LE": "L", "G": "G", ">=": "G", ">": "G", "GE": "G",
+           "I": "I"}
+
+
+class Model:
+    """A model file: its header, its values, and where its sections are."""
+
+    def __init__(self, path: str, kind: str, told: Told):
+        self.path, self.kind, self.told = path, kind, told
+        self.header: dict[str, str] = {}
+        self.unknown: list[str] = []
+        self.sections: dict[str, int] = {}
+        self.general = 0
+
+    @property
+    def file_name(self) -> str:
+        """The file's name without its folder."""
+        return os.path.basename(self.path)
+
+    def parts(self) -> Iterator[tuple[str, Piece]]:
+        """Pieces of the lines of sections, each with its section's name. Key lines are taken on
+        the way; a second way through the file takes none."""
+        section, is_first = "", not self.header
+        for piece, is_key in chain.from_iterable(map(Piece.at_keys, pieces_of(self.path))):
+            if is_key:
+                section = self._key_line(piece, is_first) or section
+            elif piece.text.strip():
+                if not section:
+                    piece.refuse(0, "it stands before the first section")
+                yield section, piece
+
+    def rows(self, section: str) -> Iterator[Piece]:
+        """The pieces of one section, by another way through the file."""
+        return (piece for name, piece in self.parts() if name == section)
+
+    def _key_line(self, piece: Piece, is_first: bool) -> str:
+        """Takes a line with a colon; answers the section that it begins, if it does."""
+        key, _, value = piece.text.decode("utf-8", "replace").partition(":")
+        name, value = re.sub(r"\s+", "_", key.strip()).upper(), value.strip()
+        if not is_first:
+            return "" if value else name
+        if value and name not in SECTIONS:
+            self._header_line(piece, name, value)
+            return ""
+        if value:
+            piece.refuse(0, f"nothing stands behind {name}:")
+        if name in KEYS:
+            piece.refuse(0, f"{name} has no value")
+        if name not in SECTIONS and not name.startswith("GENERAL"):
+            near = difflib.get_close_matches(name[:60], SECTIONS, 1, 0.7)
+            piece.refuse(0, f"no section that is known{': is it ' + near[0] if near else ''}")
+        if name in self.sections:
+            piece.refuse(0, f"the section stands in line {self.sections[name]} too")
+        self.sections[name] = piece.first
+        return name
+
+    def _header_line(self, piece: Piece, name: str, value: str) -> None:
+        if name in self.header:
+            piece.refuse(0, f"{name} stands twice")
+        if name not in KEYS:
+            self.unknown.append(f"{name[:60]} in line {piece.first}")
+            self.told.tell(f"{self.file_name}: line {piece.first}: {name[:60]} is no key that is "
+                           "known, and was left out")
+        self.header[name] = value
+
+    def number(self, key: str, least: float, most: float, default: Optional[float] = None) -> float:
+        """The number behind a key. Raises UserError where it is none or lies outside."""
+        if key not in self.header:
+            if default is not None:
+                return default
+            others = f"; not known: {', '.join(self.unknown[:9])}" if self.unknown else ""
+            raise UserError(f"{self.path}: no {key}{others}")
+        number = number_of(self.header[key])
+        if number is None or not least <= number <= most:
+            percent = " (is it in percent?)" if key == "DISCOUNT_RATE" and (number or 0) > 1 else ""
+            raise UserError(f"{self.path}: {key} is {quoted(self.header[key])}, and no number from "
+                            f"{least} to {most}{percent}")
+        return number
+
+    def count(self, key: str, least: int, most: int, default: Optional[int] = None) -> int:
+        """The whole number behind a key, as `number`."""
+        number = self.number(key, least, most, default)
+        if number % 1:
+            raise UserError(f"{self.path}: {key} is {quoted(self.header[key])}, and no whole "
+                            "number")
+        return int(number)
+
+    def name(self) -> str:
+        """Its NAME, or the file's, in characters that a NAME may have."""
+        given = self.header.get("NAME", os.path.splitext(self.file_name)[0])
+        name = re.sub(r"[^A-Za-z0-9_.-]", "_", given)[:64]
+        if name != self.header.get("NAME"):
+            self.told.tell(f"{self.file_name}: NAME is {name} now")
+        return name
+
+
+class _Values:
+    """The lines of an objective as they come, and then the values by block."""
+
+    def __init__(self, model: Model, first: int):
+        self.model, self.first = model, first
+        self.ids: list[np.ndarray] = []
+        self.parts: list[np.ndarray] = []
+        self.rounding = Rounding(6)
+
+    def take(self, piece: Piece) -> None:
+        """Takes lines `block value ..`, all with as many values."""
+        length = 1 + (len(self.parts[0]) if self.parts else int(line_lengths(piece.text)[0]) - 1)
+        if length < 2 or self.model.kind != "PCPSP" and length != 2:
+            piece.refuse(0, f"a line of the objective of a {self.model.kind} is a block and "
+                            f"{'its values' if self.model.kind == 'PCPSP' else 'one value'}")
+        numbers = numbers_of(piece, range(length), "a line of the objective", length)
+        self.ids.append(piece.whole(numbers[0], "the block"))
+        self.parts.append(self.rounding.of(piece, numbers[1:], "a value"))
+
+    def by_block(self) -> np.ndarray:
+        """The values (blocks, destinations), in order of identifier."""
+        if not self.parts:
+            raise UserError(f"{self.model.path}: no lines below {OBJECTIVE}")
+        ids, values = np.concatenate(self.ids), np.concatenate(self.parts, axis=1).T
+        self.rounding.tell(self.model.rows(OBJECTIVE), "values were", self.model.told)
+        at = ids - self.first
+        seen = np.zeros(len(ids), dtype=bool)
+        is_wrong = (at < 0) | (at >= len(ids))
+        seen[at[~is_wrong]] = True
+        if not seen.all():
+            if not is_wrong.any():
+                is_wrong = np.ones(len(ids), dtype=bool)
+                is_wrong[np.unique(at, return_index=True)[1]] = False
+            refuse_row(self.model.rows(OBJECTIVE), int(is_wrong.argmax()),
+                       f"the objective has {len(ids)} lines, which are not one for each block from "
+                       f"{self.first} on")
+        ordered = np.empty_like(values, order="C")
+        ordered[at] = values
+        return ordered
+
+
+class _Coefficients:
+    """The lines of coefficients as they come, and then the uses by (block, destination,
+    resource)."""
+
+    def __init__(self, model: Model):
+        self.model = model
+        self.places = 3 if model.kind == "PCPSP" else 2
+        self.parts: list[list[np.ndarray]] = []
+        self.rounding = Rounding(6)
+
+    def take(self, piece: Piece) -> None:
+        """Takes lines of two or three places and an amount."""
+        what, places = f"a coefficient of a {self.model.kind}", self.places
+        numbers = numbers_of(piece, range(places + 1), what, places + 1)
+        whole = [piece.whole(numbers[at], f"field {at + 1} of {what}") for at in range(places)]
+        self.parts.append([*whole, self.rounding.of(piece, numbers[places], "an amount")])
+
+    def uses(self, first: int, ends: tuple[int, int, int], order: Optional[str]) -> Uses:
+        """The uses, where a block's identifier is below first + ends[0], a destination below
+        ends[1] and a resource below ends[2]; the fields stand in this order, or in the one that
+        fits."""
+        empty = [np.empty(0, np.int32)] * self.places + [np.empty(0)]
+        *fields, amount = map(np.concatenate, zip(*self.parts)) if self.parts else empty
+        self.parts.clear()
+        self.rounding.tell(self.model.rows(COEFFICIENTS), "amounts were", self.model.told)
+        block, destination, resource = self._in_order(fields, first, ends, order)
+        keys = (block.astype(np.int64) * ends[1] + destination) * max(ends[2], 1) + resource
+        if np.any(keys[1:] < keys[:-1]):
+            rank = np.argsort(keys, kind="stable")
+            keys = keys[rank]
+            block, destination, resource, amount = (
+                part[rank] for part in (block, destination, resource, amount))
+        twice = np.flatnonzero(keys[1:] == keys[:-1])
+        if len(twice):
+            at = int(twice[0])
+            raise UserError(f"{self.model.path}: a coefficient stands twice: block "
+                            f"{block[at] + first}, destination {destination[at]}, resource "
+                            f"{resource[at]}")
+        return Uses(block, destination.astype(np.int8), resource.astype(np.int8), amount)
+
+    def _in_order(self, fields: list[np.ndarray], first: int, ends: tuple[int, int, int],
+                  given: Optional[str]) -> list[np.ndarray]:
+        """Block, destination and resource, block counted from 0."""
+        with_d = self.model.kind == "PCPSP"
+        orders = list(dict.fromkeys(order if with_d else order.replace("d", "")
+                                    for order in ([given] if given else ORDERS)))
+        starts, limits = {"b": first, "d": 0, "r": 0}, dict(zip("bdr", ends))
+        fitting = [order for order in orders if all(
+            column.min(initial=starts[letter]) >= starts[letter]
+            and column.max(initial=starts[letter] - 1) < starts[letter] + limits[letter]
+            for letter, column in zip(order, fields))]
+        if not fitting:
+            self._refuse_outside(fields, orders[0], starts, limits)
+        columns = dict(zip(fitting[0], fields))
+        for other in fitting[1:]:
+            if any(not np.array_equal(column, columns[letter])
+                   for letter, column in zip(other, fields)):
+                raise UserError(f"{self.model.path}: a coefficient's fields fit the orders "
+                                f"{' and '.join(fitting)}, which are other models: say which by "
+                                "--order")
+        if not given and fitting[0] != orders[0]:
+            self.model.told.tell(f"{self.model.file_name}: fields of coefficients stand in the "
+                                 f"order {fitting[0]}, the only one that fits")
+        destination = columns["d"] if with_d else np.zeros(len(fields[0]), np.int8)
+        return [columns["b"] - np.int32(first), destination, columns["r"]]
+
+    def _refuse_outside(self, fields: list[np.ndarray], order: str, starts: dict[str, int],
+                        limits: dict[str, int]) -> None:
+        names = {"b": "block", "d": "destination", "r": "resource"}
+        for letter, column in zip(order, fields):
+            is_wrong = (column < starts[letter]) | (column >= starts[letter] + limits[letter])
+            if is_wrong.any():
+                row = int(is_wrong.argmax())
+                refuse_row(self.model.rows(COEFFICIENTS), row,
+                           f"in the order {order} of fields the {names[letter]} is {column[row]}, "
+                           f"and there are {limits[letter]}")
+
+
+def _limit_of(piece: Piece, row: int, line: str, model: Model,
+              ends: tuple[int, int]) -> Optional[Limit]:
+    """The limit of a line, None where it sets none."""
+    fields = line.split(maxsplit=5)
+    resource, period = (whole_of(cell) for cell in [*fields[:2], "", ""][:2])
+    letter = LETTERS.get("".join(fields[2:3]).upper())
+    numbers = [number for cell in fields[3:] if (number := _end_of(cell)) is not None]
+    if resource is None or period is None or letter is None \
+            or not (5 if letter == "I" else 4) <= 3 + len(numbers) == len(fields) <= 5:
+        piece.refuse(row, "no limit `r t L v`, `r t G v` or `r t I v w`")
+    if not (resource < ends[0] and period < ends[1]):
+        piece.refuse(row, f"there are {ends[0]} resources and {ends[1]} periods, from 0")
+    if letter != "I" and len(numbers) == 2:
+        model.told.tell(_told(model, piece, row, "the second number was left out"))
+        numbers = numbers[:1]
+    least = numbers[0] if letter in "GI" else -np.inf
+    most = numbers[-1] if letter in "LI" else np.inf
+    if least > most or least == np.inf or most == -np.inf:
+        piece.refuse(row, "no amount is within this limit")
+    if least == -np.inf and most == np.inf:
+        model.told.tell(_told(model, piece, row, "it sets no limit, and was left out"))
+        return None
+    kept = "L" if least == -np.inf else "G" if most == np.inf else "I"
+    if kept != letter:
+        model.told.tell(_told(model, piece, row, f"one end is infinite: it is {kept} now"))
+    return Limit(resource, period, kept, least, most)
+
+
+def _end_of(cell: str) -> Optional[float]:
+    """A number of a limit, which may be infinite; None where it is none."""
+    if re.fullmatch("[+-]?inf(inity)?", cell.lower()):
+        return float(cell)
+    number = number_of(cell)
+    return None if number is None or abs(number) >= 9e9 else number
+
+
+def _told(model: Model, piece: Piece, row: int, text: str) -> str:
+    return f"{model.file_name}: line {piece.line_of(row)[0]}: {text}"
+
+
+class _Limits:
+    """The limits as their lines come."""
+
+    def __init__(self, model: Model):
+        self.model = model
+        self.pieces: list[Piece] = []
+
+    def take(self, piece: Piece) -> None:
+        """Keeps lines until resources and periods are known."""
+        self.pieces.append(piece)
+
+    def limits(self, resources: int, periods: int) -> list[Limit]:
+        """The limits, rising by (resource, period)."""
+        found: dict[tuple[int, int], Limit] = {}
+        for piece in self.pieces:
+            for row, (_, line) in enumerate(piece.lines()):
+                limit = _limit_of(piece, row, line, self.model, (resources, periods))
+                if limit is None:
+                    continue
+                if (limit.resource, limit.period) in found:
+                    piece.refuse(row, f"resource {limit.resource} has two limits in period "
+                                      f"{limit.period}")
+                found[limit.resource, limit.period] = self._rounded(limit, piece, row)
+        return [found[key] for key in sorted(found)]
+
+    def _rounded(self, limit: Limit, piece: Piece, row: int) -> Limit:
+        ends = [round(end, 6) for end in limit.ends]
+        if ends != limit.ends:
+            self.model.told.tell(_told(self.model, piece, row, "rounded to 6 decimals"))
+        return Limit.of(limit.resource, limit.period, limit.letter, ends)
+
+
+def _read(path: str, kind: str, first: int, without_general: bool,
+          told: Told) -> tuple[Model, np.ndarray, _Coefficients, _Limits]:
+    """The header and the sections of a model file."""
+    model = Model(path, kind, told)
+    values, uses, limits = _Values(model, first), _Coefficients(model), _Limits(model)
+    takers = {OBJECTIVE: values, COEFFICIENTS: uses, LIMITS: limits}
+    for section, piece in model.parts():
+        if section in takers:
+            if kind == "UPIT" and section != OBJECTIVE:
+                piece.refuse(0, f"a UPIT has no {section}")
+            takers[section].take(piece)  # type: ignore[attr-defined]
+        else:
+            model.general += len(line_lengths(piece.text))
+    _look_at_general(model, without_general)
+    _look_at_type(model)
+    by_block = values.by_block()
+    if "NBLOCKS" not in model.header:
+        told.tell(f"{model.file_name}: no NBLOCKS; the objective has {len(by_block)} blocks")
+    elif model.count("NBLOCKS", 0, MOST_BLOCKS) != len(by_block):
+        raise UserError(f"{path}: NBLOCKS is {quoted(model.header['NBLOCKS'])}, and the objective "
+                        f"has {len(by_block)} lines")
+    return model, by_block, uses, limits
+
+
+def _look_at_type(model: Model) -> None:
+    if "TYPE" not in model.header:
+        model.told.tell(f"{model.file_name}: no TYPE; it was read as a {model.kind}")
+    elif model.header["TYPE"].upper() != model.kind:
+        raise UserError(f"{model.path}: TYPE is {quoted(model.header['TYPE'])}, and it is given as "
+                        f"a {model.kind}")
+
+
+def _look_at_general(model: Model, without_general: bool) -> None:
+    count = model.count("NGENERAL_SIDE_CONSTRAINTS", 0, 2**31, 0)
+    if not count and not model.general:
+        return
+    if not without_general:
+        raise UserError(
+            f"{model.path}: it has {count} general side constraints, which an instance of pitc has "
+            "not: --without-general leaves them out, and makes it another problem")
+    model.told.tell(f"{model.file_name}: {count} general side constraints and their "
+                    f"{model.general} lines were left out")
+
+
+def read_upit(path: str, first: int, without_general: bool, told: Told) -> UltimatePit:
+    """A UPIT file, of blocks from `first` on. Raises UserError where it is none."""
+    model, values, _, _ = _read(path, "UPIT", first, without_general, told)
+    return UltimatePit(model.name(), values[:, 0])
+
+
+def read_problem(path: str, kind: str, first: int, order: Optional[str], without_general: bool,
+                 told: Told) -> Problem:
+    """A CPIT or a PCPSP file, of blocks from `first` on. `order` is that of a coefficient's
+    fields, one of ORDERS, or None where it is to be the one that fits.
+
+    Raises UserError where parts are lacking, out of range, or there are general side constraints.
+    """
+    model, values, uses, limits = _read(path, kind, first, without_general, told)
+    destinations = values.shape[1]
+    if destinations > MOST_DESTINATIONS:
+        raise UserError(f"{path}: {destinations} destinations, and an instance has at most "
+                        f"{MOST_DESTINATIONS}")
+    given = model.count("NDESTINATIONS", 1, MOST_DESTINATIONS, destinations)
+    if kind == "PCPSP" and given != destinations:
+        raise UserError(f"{path}: NDESTINATIONS is {given}, and blocks have {destinations} values")
+    periods = model.count("NPERIODS", 1, MOST_PERIODS)
+    resources = model.count("NRESOURCE_SIDE_CONSTRAINTS", 0, MOST_RESOURCES)
+    for section in (COEFFICIENTS, LIMITS):
+        if resources and section not in model.sections:
+            raise UserError(f"{path}: no section {section}, and there are {resources} resources")
+    rate = model.number("DISCOUNT_RATE", 0, 1)
+    if round(rate, 6) != rate:
+        told.tell(f"{model.file_name}: DISCOUNT_RATE rounded to 6 decimals")
+    return Problem(kind, model.name(), periods, resources, round(rate, 6), values,
+                   uses.uses(first, (len(values), destinations, resources), order),
+                   limits.limits(resources, periods))

@@ -1,0 +1,93 @@
+"""Where a flatter zone meets a steeper one: slopes and K are those of the lower block, so a flat
+cone goes on through steep rock."""
+from __future__ import annotations
+
+from dataclasses import dataclass, field
+from typing import Iterable, Sequence
+
+import numpy as np
+
+from pit_tools.instances.files import Blocks
+from pit_tools.plans.cones import Places, reach_along
+from pit_tools.plans.file import Zone
+
+#: The sides of a model: name, axis (0: x, 1: y) and direction, in the order of a zone's slopes.
+SIDES = (("east", 0, 1), ("west", 0, -1), ("north", 1, 1), ("south", 1, -1))
+
+
+@dataclass(frozen=True)
+class Contacts:
+    """Contacts of zones with steeper ones, all by numbers of zones.
+
+    `begins` has, of a zone below steeper rock, how many benches up that begins at the least;
+    `below`, of a zone and a steeper one above it, how many blocks of the first are fewer than K
+    benches below the second; `beside`, of such pairs, how many blocks have a cone whose edge goes,
+    on a side where the second is steeper, into the second, and not straight above."""
+
+    begins: dict[int, int] = field(default_factory=dict)
+    below: dict[tuple[int, int], int] = field(default_factory=dict)
+    beside: dict[tuple[int, int], int] = field(default_factory=dict)
+
+
+def differ(zones: Sequence[Zone]) -> bool:
+    """Whether any zone is steeper than another on a side."""
+    return len({zone.slopes for zone in zones}) > 1
+
+
+def contacts_of(blocks: Blocks, zones: Sequence[Zone], size: tuple[int, int, int],
+                places: Places) -> Contacts:
+    """The contacts of these blocks; `size` is that of a block in millimetres."""
+    found = Contacts()
+    for zone, one in enumerate(zones):
+        others = _steeper(zones, zone, range(4))
+        ids = np.flatnonzero(blocks.zone == zone)
+        if not others or not len(ids):
+            continue
+        _look_above(found, blocks, places, zone, one, ids, others)
+        # The highest bench of a cone that ends at steeper rock lies in that, and should.
+        benches = one.benches - 1 if found.begins.get(zone) == one.benches else one.benches
+        for other, taken in _beside(blocks, zones, size, places, zone, ids, benches).items():
+            found.beside[zone, other] = int(taken.sum())
+    return found
+
+
+def _steeper(zones: Sequence[Zone], zone: int, sides: Iterable[int]) -> list[int]:
+    """The zones that are steeper than one on any of these sides."""
+    own = zones[zone].slopes
+    return [other for other, one in enumerate(zones) if other != zone
+            and any(one.slopes[side].tangent > own[side].tangent for side in sides)]
+
+
+def _look_above(found: Contacts, blocks: Blocks, places: Places, zone: int, one: Zone,
+                ids: np.ndarray, others: list[int]) -> None:
+    """Counts the blocks of a zone with steeper rock straight above, up to K benches."""
+    seen = {other: np.zeros(len(ids), dtype=bool) for other in others}
+    for dz in range(1, one.benches + 1):
+        above = places.beside(ids, 0, 0, dz)
+        zones = np.where(above >= 0, blocks.zone[above], -1)
+        if zone not in found.begins and np.isin(zones, others).any():
+            found.begins[zone] = dz
+        for other in others if dz < one.benches else ():
+            seen[other] |= zones == other
+    found.below.update({(zone, other): int(taken.sum())
+                        for other, taken in seen.items() if taken.any()})
+
+
+def _beside(blocks: Blocks, zones: Sequence[Zone], size: tuple[int, int, int], places: Places,
+            zone: int, ids: np.ndarray, benches: int) -> dict[int, np.ndarray]:
+    """Of each steeper zone which of these blocks have a cone whose edge goes into it, up to so many
+    benches."""
+    seen: dict[int, np.ndarray] = {}
+    for side, (_, axis, way) in enumerate(SIDES):
+        others = _steeper(zones, zone, [side])
+        for dz in range(1, benches + 1) if others else ():
+            far = way * reach_along(size, zones[zone], dz)[side]
+            if not far or abs(far) >= places.shape[axis]:
+                continue
+            there = places.beside(ids, *((far, 0, dz) if axis == 0 else (0, far, dz)))
+            met = np.where(there >= 0, blocks.zone[there], -1)
+            for other in others:
+                is_met = met == other
+                if is_met.any():
+                    seen.setdefault(other, np.zeros(len(ids), dtype=bool))[is_met] = True
+    return seen

@@ -1,0 +1,79 @@
+"""Bounds of an instance: what no pit and no schedule is worth more than."""
+from __future__ import annotations
+
+from typing import Any, Iterator, Optional
+
+import numpy as np
+
+from pit_tools import progress
+from pit_tools.instances.files import Instance, Problem, present
+from pit_tools.pits.closure import fewer_arcs, is_compiled, ultimate_pit
+from pit_tools.schedules.certificates import Certificate, told
+from pit_tools.schedules.programs import program_of, solve
+from pit_tools.texts.spelling import multiples_of
+
+#: Blocks by periods up to which HiGHS solves the relaxation as one program.
+MOST_OF_HIGHS = 5_000
+
+
+def bounds_of(mine: Instance, seconds: Optional[float] = None) -> dict[str, Optional[float]]:
+    """The sum of values above 0, the ultimate pit's value, and the relaxations of CPIT and PCPSP,
+    in the values' unit. HiGHS finds those of some thousand blocks: None if it did not end within
+    the seconds, or limits cannot be met. Larger ones are proved bounds, by prices of the limits: if
+    the time is up they are above the relaxation's value.
+
+    Raises UserError where the UPIT or the precedences were not read.
+    """
+    found: dict[str, Optional[float]] = {**bounds_by_values(mine)}
+    precedence: Any = present(mine.precedence, "precedence file")
+    for problem in filter(None, (mine.cpit, mine.pcpsp)):
+        name = f"{problem.kind}, relaxed"
+        if len(problem.values) * problem.periods > MOST_OF_HIGHS and is_compiled():
+            one = certified(problem, precedence, seconds)
+            found[name] = float(told(one.value(problem)))
+        else:
+            answer = solve(program_of(problem, fewer_arcs(precedence), relaxed=True), seconds)
+            found[name] = answer.value if answer.status == "best" else None
+    return found
+
+
+def bounds_by_values(mine: Instance) -> dict[str, float]:
+    """The sum of values above 0, and the ultimate pit's value."""
+    values = present(mine.upit, "UPIT").values
+    worth, decimals = multiples_of(values)
+    return {"all values above 0": int(worth[worth > 0].sum()) / 10**decimals,
+            "the ultimate pit": worth_of_pit(values, mine.precedence)}
+
+
+def worth_of_pit(values: np.ndarray, precedence: Any) -> float:
+    """What the ultimate pit of these values (n,) is worth."""
+    worth, decimals = multiples_of(values)
+    return int(worth[ultimate_pit(values, precedence)].sum()) / 10**decimals
+
+
+def certified(problem: Problem, precedence: Any, seconds: Optional[float] = None,
+              sums: tuple[str, str] = ("", "")) -> Certificate:
+    """The bound of a CPIT or a PCPSP with its certificate. The search for prices takes about as
+    long as given, and the proof one step more. The sums are those of the instance's files.
+
+    Raises UserError where there is no C++ compiler, memory was refused, or numbers or blocks are
+    too many or too great.
+    """
+    # HiGHS and pandas take long to load, and a check needs neither.
+    from pit_tools.schedules import lagrangian
+
+    fewer = fewer_arcs(precedence)
+    progress.step(f"finds prices for the {problem.kind}")
+    found = lagrangian.Search(problem, fewer, seconds).run()
+    progress.step(f"proves the bound of the {problem.kind}")
+    return lagrangian.certified(problem, precedence, fewer, found.prices, sums)
+
+
+def certificates_of(mine: Instance, sums: dict[str, str],
+                    seconds: Optional[float] = None) -> Iterator[tuple[Problem, Certificate]]:
+    """The problems of an instance with their certificates, by the sums of its files, which are
+    named by their endings."""
+    precedence: Any = present(mine.precedence, "precedence file")
+    for problem in filter(None, (mine.cpit, mine.pcpsp)):
+        yield problem, certified(problem, precedence, seconds,
+                                 (sums[problem.kind.lower()], sums["prec"]))
