@@ -1,15 +1,15 @@
--- The bytes that a sink took, before and after it took more. A sink that tells no bytes tells none after either.
+-- The bytes that a sink took, before and after it took more. A sink that reports no bytes reports none later.
 use Rattle.std.specs.Prelude.{◌≡◌, List, ℕ, ◌++◌, Option, option_map}
 
--- these bytes behind those that were taken
+-- the taken bytes, followed by these
 abbrev pub added : List ℕ → Option (List ℕ) → Option (List ℕ)
 added more taken = option_map (λ bytes. bytes ++ more) taken
 
--- just these bytes, whatever was taken
+-- these bytes alone, whatever was taken
 abbrev pub holding : List ℕ → Option (List ℕ) → Option (List ℕ)
 holding text taken = option_map (λ _. text) taken
 
--- what is taken now is the front of the whole
+-- the bytes taken now are a prefix of the whole
 pub record IsFront (now whole : Option (List ℕ)) : Type 0 where
   pub rest : List ℕ
   pub joined : whole ≡ added rest now

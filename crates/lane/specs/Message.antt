@@ -6,7 +6,7 @@ use Rattle.plan_parts.specs.declared.block.Block.{Block}
 use Rattle.lane.specs.declared.message.Taken.{Taken}
 use Rattle.lane.specs.declared.message.Taken.TheVariants.{Row, End, Stop, Quit}
 
--- whether a message is of the file. Stop and Quit are of none
+-- whether a message belongs to the file. Stop and Quit belong to no file
 abbrev pub is_of : ℕ → Taken → Bool
 is_of file (Row f place block) = f == file
 is_of file (End f rows) = f == file
@@ -17,7 +17,7 @@ is_of file Quit = false
 abbrev pub of : ℕ → List Taken → List Taken
 of file ms = filter (is_of file) ms
 
--- where a message stands in its file's list: a row at its place, an end mark behind its rows
+-- the position of a message in its file's list: the place of a row; for an end mark, the number of rows before it
 abbrev pub position : Taken → ℕ
 position (Row f place block) = place
 position (End f rows) = rows
@@ -28,7 +28,7 @@ position Quit = 0
 abbrev pub is_at : ℕ → ℕ → Taken → Bool
 is_at file p m = is_of file m && (position m == p)
 
--- rows of the file with places k, k + 1, .. and its end mark with their count
+-- rows of the file with places k, k + 1, .., and then its end mark with the number of all its rows
 abbrev pub IsEndedFrom : ℕ → ℕ → List Taken → Type 0
 IsEndedFrom file k [] = ⊥
 IsEndedFrom file k (Row f place block ∷ ms) = (f ≡ file) × (place ≡ k) × IsEndedFrom file (k + 1) ms
@@ -48,7 +48,7 @@ EndsInStop (End f rows ∷ ms) = EndsInStop ms
 EndsInStop (Stop ∷ ms) = ms ≡ []
 EndsInStop (Quit ∷ ms) = ⊥
 
--- what a file of these blocks sends from place k on: its rows, and then its end mark
+-- the messages of a file with these blocks, from place k: its rows, and then its end mark
 abbrev pub sent_from : ℕ → ℕ → List Block → List Taken
 sent_from file k [] = End file k ∷ []
 sent_from file k (b ∷ bs) = Row file k b ∷ sent_from file (k + 1) bs

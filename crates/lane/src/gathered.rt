@@ -11,7 +11,7 @@ ghost use Rattle.lane.specs.inner.Kept.{IsGathered};
 use crate::rule::Seat;
 use std::marker::Model;
 
-/// What a lane handed over, whole: contracts see what each file sent and what each taker took. Only this crate makes one.
+/// The messages that passed a lane, complete. Contracts see what each file sent and what each taker took. Only this crate can make one.
 #[derive(Drop)]
 pub struct Gathered {
     pass: Seat,

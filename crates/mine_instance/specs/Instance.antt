@@ -1,4 +1,4 @@
--- What an instance is: its parts, blocks by identifier.
+-- The parts of an instance. Blocks are ordered by identifier.
 use Rattle.std.specs.Prelude.{ℕ, ℤ, List}
 use Rattle.plan_parts.specs.declared.block.Block.{Block}
 use Rattle.plan_parts.specs.declared.limit.Limit.{Limit}
@@ -12,9 +12,9 @@ pub record Instance : Type 0 where
   pub destinations : ℕ
   pub resources : ℕ
   pub blocks : List Block
-  -- of each block those that it waits for
+  -- for each block, the blocks that must be mined before it
   pub preds : List (List ℕ)
-  -- of each block those at each destination, in units of 100 cents
+  -- for each block, its value at each destination, in units of 100 cents
   pub values : List (List ℤ)
   pub coefs : List Coef
   pub limits : List Limit

@@ -1,4 +1,4 @@
--- The instance of a model: blocks by identifier, their predecessors, what they are worth, and what resources handle of them
+-- The instance of a model: its blocks by identifier, their predecessors, their values, and the tonnes of each that resources handle
 -- (the parts of a MineLib instance: Espinoza, Goycoolea, Moreno and Newman 2013).
 use Rattle.std.specs.Prelude.{ℕ, ◌*◌, ◌==◌, ◌||◌, not, List, ℤ, pos, ◌*ℤ◌, Option, Some, None, length, map, find, if◌then◌else◌}
 use Rattle.std.specs.List.{list_any, filter_map, flat_map, range_with_len, enumerate_from}
@@ -12,11 +12,11 @@ use Rattle.rows.specs.Valued.{worths_by}
 use Rattle.mine_instance.specs.declared.coefs.coef.Coef.{Coef}
 use Rattle.mine_instance.specs.Instance.{Instance}
 
--- the block of a list that has an identifier
+-- the block of a list with this identifier
 abbrev pub block_of_id : List Block → ℕ → Option Block
 block_of_id listed k = find (λ b. id listed b == k) listed
 
--- the blocks of a list by identifier
+-- the blocks of a list, ordered by identifier
 abbrev pub by_identifier : List Block → List Block
 by_identifier listed = filter_map (block_of_id listed) (range_with_len 0 (length listed))
 
@@ -24,18 +24,18 @@ by_identifier listed = filter_map (block_of_id listed) (range_with_len 0 (length
 abbrev pub in_hundreds : ℤ → ℤ
 in_hundreds cents = cents *ℤ pos 10000
 
--- what a block is worth at each destination, in units of 100 cents
+-- the value of a block at each destination, in units of 100 cents
 abbrev pub values_of : PlanParts → Block → List ℤ
 values_of plan b = map in_hundreds (worths_by (formulas_of_plan plan) b)
 
--- the coefficient of a block at a destination for a resource, both by their numbers, where the block has a tonnage and the resource covers
--- the destination: a block weighs whole kilograms, and tonnes are in millionths
+-- the coefficient of a block at a destination for a resource, if the block has a tonnage and the resource covers the destination. Blocks and
+-- resources are numbered. The mass of a block is in kilograms, the tonnes of a coefficient in millionths
 abbrev pub coef_at : ℕ × Block → ℕ → ℕ × Resource → Option Coef
 coef_at block d resource =
     if (block.1.kg == 0) || not (list_any (λ e. e == d) resource.1.covers) then None
     else Some (record { b = block.0; d = d; r = resource.0; v = pos (block.1.kg * 1000) })
 
--- those of blocks by identifier: of each block, at each destination, for each resource
+-- the coefficients of these blocks: for each block, each destination and each resource, in this order
 abbrev pub coefs : PlanParts → List Block → List Coef
 coefs plan blocks =
     flat_map

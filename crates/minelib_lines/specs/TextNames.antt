@@ -1,4 +1,4 @@
--- The texts of an instance by their names, and the endings of their files.
+-- The files of an instance by name, and their extensions.
 use Rattle.std.specs.Prelude.{ℕ, List, [], ◌∷◌, codes}
 use Rattle.minelib_lines.specs.declared.text_name.TextName.{TextName}
 use Rattle.minelib_lines.specs.declared.text_name.TextName.TheVariants as text

@@ -1,4 +1,4 @@
--- The texts of an instance by their names.
+-- The files of an instance by name.
 use Rattle.std.specs.Prelude.{ℕ, List}
 use Rattle.mine_instance.specs.cpit.OfCpit.{cpit}
 use Rattle.mine_instance.specs.Instance.{Instance}
@@ -6,7 +6,7 @@ use Rattle.minelib_writing.specs.Written.{text_blocks, text_prec, text_upit, tex
 use Rattle.minelib_lines.specs.declared.text_name.TextName.{TextName}
 use Rattle.minelib_lines.specs.declared.text_name.TextName.TheVariants as text
 
--- the text of this name; that of a CPIT is of the instance's
+-- the contents of the file with this name; the CPIT file is that of the instance's CPIT
 abbrev pub text_named : TextName → Instance → List ℕ
 text_named text.Blocks i = text_blocks i
 text_named text.Prec i = text_prec i

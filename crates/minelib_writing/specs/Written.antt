@@ -1,5 +1,5 @@
--- The MineLib texts of an instance (Espinoza, Goycoolea, Moreno and Newman 2013, in this project's profile): each line with its fields from
--- left to right. `decimal` is a whole number in digits, and `shortest` the shortest decimal of so many millionths.
+-- The MineLib files of an instance (Espinoza, Goycoolea, Moreno and Newman 2013, in this project's profile): each line with its fields from
+-- left to right. `decimal` writes an integer in digits, and `shortest` the shortest decimal of a number of millionths.
 use Rattle.std.specs.Prelude.{ℕ, ◌*◌, List, [], ◌∷◌, ◌++◌, ℤ, pos, codes, decimal, length, map}
 use Rattle.pit_units.specs.Decimal.{shortest}
 use Rattle.plan_parts.specs.declared.block.Block.{Block}
@@ -29,11 +29,11 @@ value_line b values = decimal b ∷ map shortest values
 abbrev pub one_value_line : ℕ → ℤ → List (List ℕ)
 one_value_line b value = decimal b ∷ shortest value ∷ []
 
--- `b v` with the greatest of a block's values
+-- `b v` with the largest of a block's values
 abbrev pub greatest_line : ℕ → List ℤ → List (List ℕ)
 greatest_line b values = one_value_line b (greatest values)
 
--- `b d r v`, and `b r v` of a CPIT; n, the line's number among its kind, is not written, nor is it in the line of a limit
+-- `b d r v`, and `b r v` in a CPIT. The line's number n is not written, here and in the line of a limit
 abbrev pub coef_line : ℕ → Coef → List (List ℕ)
 coef_line n c = decimal c.b ∷ decimal c.d ∷ decimal c.r ∷ shortest c.v ∷ []
 
@@ -64,7 +64,7 @@ section_lines values coefs limits =
 unfoldable pub text_blocks : Instance → List ℕ
 text_blocks i = text_of (lines_from block_line 0 i.blocks)
 
--- the precedence file, of any lists of predecessors and of an instance
+-- the precedence file, for any lists of predecessors and for an instance
 abbrev pub text_preds : List (List ℕ) → List ℕ
 text_preds lists = text_of (lines_from prec_line 0 lists)
 

@@ -1,4 +1,4 @@
--- What `compile` answers.
+-- What `compile` returns.
 use Rattle.std.specs.Prelude.{◌≡◌, ◌↔◌, ◌+◌, ◌≤◌, ℕ, Bool, List, length, map, Option, Result, Err, IfOk, IfErr}
 use Rattle.mine_instance.specs.Valid.{IsValid}
 use Rattle.plan_parts.specs.Plan.{PlanParts}
@@ -13,7 +13,7 @@ use Rattle.refusals.specs.declared.settings_fault.SettingsFault.{SettingsFault}
 use Rattle.run_threads.specs.Refusing.{HasFailed}
 use Rattle.pit_compile.specs.ZoneFiles.{AreGiven, instance_from, HasPassed, IsVerdict, IsFeedFault}
 
--- the zone files are accepted, they went through the lane, and this is their instance
+-- the rules accept the zone files, their rows passed the lane, and this is their instance
 pub record IsCompiled (plan : PlanParts) (lefts : List (Option (List ℕ))) (valuers capacity : ℕ) (c : Compiled) : Type 0 where
   pub texts : List (List ℕ)
   pub given : AreGiven lefts texts
@@ -21,7 +21,7 @@ pub record IsCompiled (plan : PlanParts) (lefts : List (Option (List ℕ))) (val
   pub passed : HasPassed plan texts valuers capacity c.gathered
   pub instance_is : c.instance ≡ instance_from plan texts
 
--- why nothing was compiled, by the bytes that the feeds had left and by which of them failed
+-- what holds after each error, for the bytes that the feeds had left and the feeds that failed
 abbrev pub IsNotCompiled : PlanParts → List (Option (List ℕ)) → (ℕ → Type 0) → Refusal → Type 0
 IsNotCompiled plan lefts Failed (Settings kind) = Unit {0}
 IsNotCompiled plan lefts Failed NoThread = Unit {0}
@@ -32,8 +32,8 @@ IsNotCompiled plan lefts Failed (Same first again) = IsVerdict plan lefts (Same 
 IsNotCompiled plan lefts Failed (SinkFailed which) = ⊥
 IsNotCompiled plan lefts Failed OutOfMemory = Unit {0}
 
--- what `compile` answers, of a plan, destinations of these formulas, settings and feeds, by what these had left, whether they were sure,
--- and how many pulls they had refused, where it may start so many threads
+-- what `compile` returns, for a plan, the formulas of its destinations, its settings, its feeds and the number of threads that it may
+-- start. `left`, `is_sure` and `failures` are the ghost members of the feeds
 pub record Compiles {F : Type 0} (left : F → Option (List ℕ)) (is_sure : F → Bool) (failures : F → ℕ) (plan : PlanParts)
     (formulas : List Formula) (chosen : Chosen) (feeds : List F) (starts : ℕ) (answer : Result Compiled Refusal) : Type 0 where
   pub settings : (kind : SettingsFault) → (answer ≡ Err (Settings kind)) ↔ IsSettingsFault plan (length feeds) formulas chosen kind

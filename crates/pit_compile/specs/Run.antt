@@ -1,4 +1,5 @@
--- What a run does, by what its feeds had left, which of them failed, and what its sinks tell before and after.
+-- What a run does: what it returns, and the states of its sinks before and after. `lefts` are the bytes that its feeds had left, and
+-- `Failed file` states that the feed of a file refused a call.
 use Rattle.std.specs.Prelude.{◌≡◌, ◌↔◌, ◌+◌, ◌≤◌, ℕ, ◌⊎◌, List, length, Option, Result, Err, IfOk, IfErr}
 use Rattle.lane.specs.Whole.{GatheredView}
 use Rattle.plan_parts.specs.Plan.{PlanParts}
@@ -14,7 +15,7 @@ use Rattle.refusals.specs.declared.refusal.Refusal.{Refusal}
 use Rattle.refusals.specs.declared.refusal.Refusal.TheVariants.{Settings, NoThread, FeedFailed, SinkFailed, OutOfMemory}
 use Rattle.refusals.specs.declared.settings_fault.SettingsFault.{SettingsFault}
 
--- the zone files are accepted, every row of every file passed the lane whole, and each sink holds its text of their instance
+-- the rules accept the zone files, every row of every file passed the lane, and each sink holds its file of their instance
 pub record IsDone (plan : PlanParts) (lefts : List (Option (List ℕ))) (valuers capacity : ℕ)
     (old new : TextName → SinkState) (g : GatheredView) : Type 0 where
   pub texts : List (List ℕ)
@@ -23,7 +24,7 @@ pub record IsDone (plan : PlanParts) (lefts : List (Option (List ℕ))) (valuers
   pub passed : HasPassed plan texts valuers capacity g
   pub written : AreWritten (instance_from plan texts) old new
 
--- the zone files are accepted, and the sinks were cut off at this one
+-- the rules accept the zone files, and writing stopped at this sink, which refused `more` calls
 pub record IsStopped (plan : PlanParts) (lefts : List (Option (List ℕ))) (which : TextName)
     (more : ℕ) (old new : TextName → SinkState) : Type 0 where
   pub texts : List (List ℕ)
@@ -31,7 +32,7 @@ pub record IsStopped (plan : PlanParts) (lefts : List (Option (List ℕ))) (whic
   pub accepted : IsAccepted plan texts
   pub cut : AreCutOffAt which more (instance_from plan texts) old new
 
--- why a run is refused, and how it leaves the sinks
+-- what holds after each error: why the run returned it, and the states of the sinks
 abbrev pub IsRefused : PlanParts → List (Option (List ℕ)) → (ℕ → Type 0)
     → (TextName → SinkState) → (TextName → SinkState) → Refusal → Type 0
 IsRefused plan lefts Failed old new (Settings kind) = new ≡ old
@@ -42,7 +43,8 @@ IsRefused plan lefts Failed old new OutOfMemory =
     (new ≡ old) ⊎ ((which : TextName) × IsStopped plan lefts which 0 old new)
 IsRefused plan lefts Failed old new verdict = IsVerdict plan lefts verdict × (new ≡ old)
 
--- what a run answers and does to its sinks, of a plan, destinations of these formulas, and settings, where it may start so many threads
+-- what a run returns and does to its sinks, for a plan, the formulas of its destinations, its settings, and the number of threads that it
+-- may start
 pub record Runs (plan : PlanParts) (formulas : List Formula) (chosen : Chosen) (lefts : List (Option (List ℕ))) (Failed : ℕ → Type 0)
     (starts : ℕ) (old new : TextName → SinkState) (answer : Result GatheredView Refusal) : Type 0 where
   pub settings : (kind : SettingsFault) → (answer ≡ Err (Settings kind)) ↔ IsSettingsFault plan (length lefts) formulas chosen kind

@@ -1,4 +1,4 @@
--- What is wrong with the settings of a run, for its plan, so many zone files and these formulas of the destinations.
+-- What is wrong with the settings of a run, for its plan, the number of its zone files, and the formulas of its destinations.
 use Rattle.std.specs.Prelude.{◌≡◌, ◌≢◌, ℕ, ◌≤◌, List, length}
 use Rattle.plan_parts.specs.PlanFormulas.{formulas_of_plan}
 use Rattle.plan_parts.specs.Plan.{PlanParts}
@@ -8,11 +8,11 @@ use Rattle.refusals.specs.declared.settings_fault.SettingsFault.{SettingsFault}
 use Rattle.refusals.specs.declared.settings_fault.SettingsFault.TheVariants.{Files, Valuers, Capacity, Destinations}
 use Rattle.plan_parts.specs.declared.ranges.TheConstants.{MAX_CAPACITY, MAX_VALUERS}
 
--- a number from 1 on, and not above the most
+-- n is from 1 to `most`
 abbrev pub IsFrom1To : ℕ → ℕ → Type 0
 IsFrom1To most n = (1 ≤ n) × (n ≤ most)
 
--- this is wrong with them, and nothing that stands before it in this list
+-- this is the first thing wrong, in the order of this list
 abbrev pub IsSettingsFault : PlanParts → ℕ → List Formula → Settings → SettingsFault → Type 0
 IsSettingsFault plan files formulas settings Files = files ≢ length plan.cones
 IsSettingsFault plan files formulas settings Valuers = (files ≡ length plan.cones) × ¬ IsFrom1To MAX_VALUERS settings.valuers

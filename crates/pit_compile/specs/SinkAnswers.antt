@@ -1,4 +1,4 @@
--- The answer of a run by the sinks that it wrote to.
+-- The result of a run, for the states of the sinks that it wrote to.
 use Rattle.mine_instance.specs.Instance.{Instance}
 use Rattle.devices.specs.sinks.SinkState.{SinkState}
 use Rattle.minelib_lines.specs.declared.text_name.TextName.{TextName}
@@ -6,7 +6,7 @@ use Rattle.refusals.specs.declared.refusal.Refusal.{Refusal}
 use Rattle.refusals.specs.declared.refusal.Refusal.TheVariants.{Settings, NoThread, FeedFailed, TooLong, Row, Same, SinkFailed, OutOfMemory}
 use Rattle.pit_compile.specs.Sinks.{AreCutOffAt}
 
--- the sinks were cut off at the one that failed, or at some one for want of memory
+-- writing stopped at the sink that failed, or at some sink because memory was refused
 abbrev pub AreCutOff : Instance → (TextName → SinkState) → (TextName → SinkState) → Refusal → Type 0
 AreCutOff i old new (SinkFailed which) = AreCutOffAt which 1 i old new
 AreCutOff i old new OutOfMemory = (which : TextName) × AreCutOffAt which 0 i old new

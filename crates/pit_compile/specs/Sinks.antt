@@ -1,4 +1,4 @@
--- What the sinks of a run tell, before and after the texts of an instance are written to them in turn.
+-- The states of the sinks of a run, before and after the files of an instance are written to them in order.
 use Rattle.std.specs.Prelude.{◌≡◌, ℕ, List, ◌∷◌, ◌++◌, All}
 use Rattle.devices.specs.sinks.SinkState.{SinkState, IsWritten, IsCutOff}
 use Rattle.minelib_lines.specs.TextNames.{all_texts}
@@ -8,7 +8,7 @@ use Rattle.minelib_lines.specs.declared.text_name.TextName.TheVariants as text
 use Rattle.mine_instance.specs.Instance.{Instance}
 use Rattle.pit_compile.specs.declared.sinks.Sinks.{Sinks}
 
--- the sink of a text
+-- the sink of a file
 abbrev pub sink_of : {S : Type 0} → Sinks S → TextName → S
 sink_of sinks text.Blocks = sinks.blocks
 sink_of sinks text.Prec = sinks.prec
@@ -16,15 +16,15 @@ sink_of sinks text.Upit = sinks.upit
 sink_of sinks text.Pcpsp = sinks.pcpsp
 sink_of sinks text.Cpit = sinks.cpit
 
--- what the sink of each text tells
+-- the state of the sink of each file
 abbrev pub all_told : {S : Type 0} → (S → SinkState) → Sinks S → TextName → SinkState
 all_told state sinks name = state (sink_of sinks name)
 
--- each sink holds its text
+-- each sink holds its file
 abbrev pub AreWritten : Instance → (TextName → SinkState) → (TextName → SinkState) → Type 0
 AreWritten i old new = (name : TextName) → IsWritten (text_named name i) (old name) (new name)
 
--- the sinks before this one hold their texts, it was cut off, and those behind it are as they were
+-- the sinks before this one hold their files, this one was cut off, and the sinks after it are unchanged
 pub record AreCutOffAt (which : TextName) (more : ℕ) (i : Instance)
     (old new : TextName → SinkState) : Type 0 where
   pub before : List TextName

@@ -9,17 +9,17 @@ use Rattle.refusals.specs.declared.refusal.Refusal.{Refusal}
 use Rattle.refusals.specs.declared.refusal.Refusal.TheVariants.{TooLong, Row, Same}
 use Rattle.refusals.specs.declared.refusal.RowAt.{RowAt}
 
--- no two blocks of the list stand at one place of the grid
+-- no two blocks of the list are in the same cell of the grid
 abbrev pub AreApart : List Block → Type 0
 AreApart blocks = (i j : ℕ) (d : Block) → i < j → j < length blocks
     → is_same_place (slice_index_or blocks i d) (slice_index_or blocks j d) ≡ false
 
--- accepted: no file has a fault, and no block stands twice
+-- accepted: no file has a fault, and no cell of the grid has two blocks
 pub record IsAccepted (plan : PlanParts) (texts : List (List ℕ)) : Type 0 where
   pub no_fault : fault_in texts plan.grid 0 ≡ None
   pub apart : AreApart (model_blocks plan texts)
 
--- the first row that repeats an earlier one, and that one
+-- `again` is the first row whose block is in the cell of an earlier row, and `first` is that row
 pub record IsFirstRepeat (rows : List (RowAt × Block)) (first again : RowAt) : Type 0 where
   pub earlier : ℕ
   pub later : ℕ
@@ -27,7 +27,7 @@ pub record IsFirstRepeat (rows : List (RowAt × Block)) (first again : RowAt) : 
   pub first_row : option_map (λ row. row.0) (slice_get rows earlier) ≡ Some first
   pub again_row : option_map (λ row. row.0) (slice_get rows later) ≡ Some again
 
--- refused: the fault of the least file that has one; or, where none has, the first repetition
+-- refused: with the fault of the first file that has one or, if no file has one, with the first repeated cell
 abbrev pub IsRefusedBy : PlanParts → List (List ℕ) → Refusal → Type 0
 IsRefusedBy plan texts (TooLong file) = fault_in texts plan.grid 0 ≡ Some (TooLong file)
 IsRefusedBy plan texts (Row file fault) = fault_in texts plan.grid 0 ≡ Some (Row file fault)

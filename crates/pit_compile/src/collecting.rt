@@ -1,4 +1,4 @@
-//! The rows of a run, collected from what its valuers hand on.
+//! Collects the rows of a run from its valuers.
 
 ghost use Rattle.std.specs.Prelude.{◌≡◌, ◌≤◌, length, map, All, IfOk};
 ghost use Rattle.std.specs.List.{flat_map};
@@ -16,8 +16,8 @@ use plan_parts::plan::Plan;
 use rows::{PackedItems, RowLists};
 use std::alloc::{AllocError, Global};
 
-// The rows of all zone files with their worths: file after file, and in each file in order of place. `items` is what each valuer hands
-// on of what it took. Fails only where memory is refused.
+// Returns the rows of all zone files with their worths, in the order of the files and of the rows in each file. `items` are the items that
+// each valuer returned. Fails only if memory is refused.
 pub(crate) fn collect(
     alloc: Global,
     _gathered: &Gathered,

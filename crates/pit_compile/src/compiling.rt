@@ -33,28 +33,28 @@ use std::thread::Threads;
 use valuers::Gate;
 use zone_csv::laws::zone_files;
 
-/// What a run makes of zone files before it writes.
+/// What a run makes from zone files before it writes.
 #[derive(Drop)]
 pub struct Compiled {
-    /// What went through the lane.
+    /// The messages that passed the lane.
     pub gathered: Gathered,
-    /// The instance of the model, whose predecessors, coefficients and values are found when they are asked for.
+    /// The instance of the model. Its predecessors, coefficients and values are computed lazily.
     pub instance: Instance<FoundPreds, FoundCoefs, FoundValues>,
 }
 
-/// Reads and values the zone files over threads, and builds the instance of the plan and these files. No more threads are
-/// started than the budget allows. The feeds are used up.
+/// Reads and values the zone files on threads, and builds the instance of the plan and these files. Starts no more threads
+/// than the budget allows. Consumes the feeds.
 ///
 /// # Errors
 ///
-/// The first that applies of
+/// Returns the first that applies:
 ///
 /// - `Settings` with the first fault of the settings, in the order of `SettingsFault`;
 /// - `OutOfMemory`: memory was refused before the first start;
 /// - `NoThread`: the start of a thread was refused;
-/// - `FeedFailed`, `TooLong`, `Row` or `OutOfMemory`: the answer of the first file whose reader did not finish;
+/// - `FeedFailed`, `TooLong`, `Row` or `OutOfMemory`: the error of the first file whose reader did not finish;
 /// - `OutOfMemory`: a valuer was refused memory;
-/// - `Same` with the first row that repeats another one, or `OutOfMemory` in collecting or numbering the rows;
+/// - `Same` with the first row in the cell of an earlier row, or `OutOfMemory` in collecting or numbering the rows;
 /// - `OutOfMemory`: memory for the instance was refused.
 pub fn compile<R: Threads + Wait + Sync, F: Feed + Send + Drop, G: Gate + Sync>(
     rt: &R,
@@ -73,9 +73,8 @@ pub fn compile<R: Threads + Wait + Sync, F: Feed + Send + Drop, G: Gate + Sync>(
     compile_with_starts(alloc, feeds, plan, destinations, settings, &mut starts)
 }
 
-/// The same as `compile`, with starts that the caller lends, and behind their gate. The starts tell what became of them: a thread is started
-/// for each valuer and each file, and joined, or else a start was refused, or none was tried. `NoThread` is answered only where a start was
-/// refused.
+/// Does what `compile` does, with thread starts and a gate that the caller lends. Afterwards `starts` shows what happened: a thread was started
+/// and joined for each valuer and each file, or a start was refused, or none was tried. Returns `NoThread` only if a start was refused.
 pub fn compile_with_starts<R: Threads + Wait + Sync, F: Feed + Send + Drop, G: Gate + Sync>(
     alloc: Global,
     feeds: Vec<F>,
@@ -104,7 +103,7 @@ pub fn compile_with_starts<R: Threads + Wait + Sync, F: Feed + Send + Drop, G: G
     compiled_of(alloc, plan, settings, handed, given)
 }
 
-// Why nothing was handed over.
+// Returns the error of a run whose threads handed nothing over.
 fn refused_start(fault: OrMemory<NoThread>) -> Refusal
     ensures { result ≡ refused_start fault }
 {
@@ -114,8 +113,8 @@ fn refused_start(fault: OrMemory<NoThread>) -> Refusal
     }
 }
 
-// What is compiled of what the threads handed over. Where the reader of a file did not finish, the first such file's answer is given, also
-// where a valuer was refused memory. Of `_settings`, and of the feeds `_given` that the readers had, only the contract speaks.
+// Builds the instance from what the threads handed over. If a reader did not finish, returns the error of the first such file, even if a
+// valuer was refused memory. Only the contract uses `_settings` and `_given`, the feeds that the readers had.
 fn compiled_of<F: Feed>(
     alloc: Global,
     plan: &Plan,
@@ -130,7 +129,7 @@ fn compiled_of<F: Feed>(
         _settings.valuers _settings.capacity) }
     ensures valid { IfOk result (λ made. IsValid made.instance) }
 
-    // Why nothing is: never for the settings or a start, and for the answer of a reader where one did not finish.
+    // An error never concerns the settings or a thread start; if a reader did not finish, it is that reader's error.
     ensures behind { IfErr result IsBehindThreads }
     ensures files { IfSome (refusal_in 0 handed.answers.items) (λ refusal. result ≡ Err refusal) }
     ensures refused { IfErr result (IsNotCompiled plan.now (map F.left _given)

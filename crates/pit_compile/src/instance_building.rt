@@ -1,4 +1,4 @@
-//! From the rows of a model to its instance.
+//! Builds the instance from the rows of a model.
 
 ghost use Rattle.std.specs.Prelude.{◌≡◌, IfErr, IfOk};
 ghost use Rattle.mine_instance.specs.OfModel.{instance};
@@ -17,12 +17,12 @@ use refusals::refusal::Refusal;
 use rows::RowLists;
 use std::alloc::Global;
 
-/// The instance of these rows, whose predecessors, coefficients and values are found when they are asked for. Of the rows only the
-/// worths are kept once they are numbered.
+/// Returns the instance of these rows. Its predecessors, coefficients and values are computed lazily. Keeps only the worths of the rows
+/// after numbering them.
 ///
 /// # Errors
 ///
-/// - `Same`: a block stands twice.
+/// - `Same`: two blocks are in the same cell.
 /// - `OutOfMemory`: memory was refused.
 pub fn instance_of_rows(
     alloc: Global,

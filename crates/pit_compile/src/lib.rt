@@ -1,4 +1,4 @@
-//! The run: many zone files, many valuers, one instance and its texts.
+//! The run: many zone files, many valuers, one instance and its files.
 #![tactic(auto)]
 
 mod collecting;

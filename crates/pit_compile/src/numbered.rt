@@ -1,4 +1,4 @@
-//! The numbering of the rows of a model.
+//! Numbers the rows of a model.
 
 ghost use Rattle.std.specs.Prelude.{◌<◌, ◌≤◌, length, All, IfErr, IfOk};
 ghost use Rattle.precedence.specs.Identifier.{blocks_of_rows};
@@ -14,11 +14,11 @@ use refusals::refusal::{Refusal, RowAt};
 use rows::RowLists;
 use std::alloc::Global;
 
-/// The blocks of the rows by identifier.
+/// Returns the blocks of the rows by identifier.
 ///
 /// # Errors
 ///
-/// - `Same`: a block stands twice. It names the first row that repeats another one, and that other.
+/// - `Same`: two blocks are in the same cell. It names the first row in the cell of an earlier row, and that earlier row.
 /// - `OutOfMemory`: memory was refused.
 pub fn numbered(alloc: Global, rows: &RowLists) -> Result<Numbering, Refusal>
     requires few { length rows.now ≤ MAX_BLOCKS }
@@ -36,7 +36,7 @@ pub fn numbered(alloc: Global, rows: &RowLists) -> Result<Numbering, Refusal>
     }
 }
 
-// The row at a position: the header is record 1, so the row at place 0 is record 2.
+// Returns the row at a position. The header is record 1, so the row at place 0 is record 2.
 fn row_at(rows: &RowLists, position: u32) -> RowAt
     requires there { position < length rows.now }
     requires placed { All HasPlace rows.now }

@@ -1,4 +1,4 @@
-//! What the readers of a run answered, as the refusal of the run.
+//! The results of a run's readers, as the error of the run.
 
 ghost use Rattle.std.specs.Prelude.{◌≡◌, ◌≤◌, None, Some, length, IfErr, OnOk};
 ghost use Rattle.pit_compile.specs.inner.ReadAnswers.{refusal_in, refusal_of};
@@ -9,7 +9,7 @@ use pit_units::OrMemory;
 use refusals::refusal::Refusal;
 use run_threads::ReadResult;
 
-/// Fails with the answer of the first file whose reader did not finish.
+/// Fails with the error of the first file whose reader did not finish.
 pub fn require_read(answers: &[ReadResult]) -> Result<(), Refusal>
     requires { length answers.now ≤ MAX_ZONES }
     ensures read { OnOk result (refusal_in 0 answers.now ≡ None) }

@@ -1,4 +1,4 @@
-//! The run: from zone files to the texts of the instance.
+//! The run: from zone files to the files of the instance.
 
 ghost use Rattle.std.specs.Prelude.{◌≡◌, ◌+◌, length, map};
 ghost use Rattle.pit_compile.specs.Run.{Runs};
@@ -26,20 +26,20 @@ use std::sync::Wait;
 use std::thread::Threads;
 use valuers::Gate;
 
-/// How many threads a run may start: one for each zone file and each valuer, where there are as many as there may be.
+/// The number of threads that a run may start: one for each zone file and each valuer, at the largest numbers of both.
 pub const MOST_STARTS: u32 = MAX_ZONES as u32 + MAX_VALUERS as u32;
 
-/// Reads and values the zone files over threads, builds the instance of the plan and these files, and writes its
-/// texts to the sinks. It begins the sinks only when all blocks are known to be different. Returns what went through
-/// the lane. The feeds are used up.
+/// Reads and values the zone files on threads, builds the instance of the plan and these files, and writes the instance to
+/// the sinks. Begins the sinks only after all blocks are known to be in different cells. Returns the messages that passed the
+/// lane. Consumes the feeds.
 ///
 /// # Errors
 ///
-/// The first that applies of
+/// Returns the first that applies:
 ///
-/// - those of `compile` with a budget of `MOST_STARTS` starts: every sink is as it was;
-/// - `SinkFailed` where a sink refused a call, or `OutOfMemory` in writing. The sinks before that one hold their texts.
-///   That one is as it was, or begun with a front of its text. Those behind it are as they were.
+/// - an error of `compile` with a budget of `MOST_STARTS` starts. Every sink is unchanged.
+/// - `SinkFailed` if a sink refused a call, or `OutOfMemory` in writing. The sinks before that sink hold their files. That
+///   sink is unchanged, or begun with a prefix of its file. The sinks after it are unchanged.
 pub fn run<R: Threads + Wait + Sync, F: Feed + Send + Drop, G: Gate + Sync, S: Sink>(
     rt: &R,
     alloc: Global,
@@ -67,7 +67,7 @@ pub fn run<R: Threads + Wait + Sync, F: Feed + Send + Drop, G: Gate + Sync, S: S
     )
 }
 
-/// The same as `run`, where at most `starts` threads are started: one more counts as refused.
+/// Does what `run` does, but starts at most `starts` threads; a further start counts as refused.
 pub fn run_limited<R: Threads + Wait + Sync, F: Feed + Send + Drop, G: Gate + Sync, S: Sink>(
     rt: &R,
     alloc: Global,
@@ -95,7 +95,7 @@ pub fn run_limited<R: Threads + Wait + Sync, F: Feed + Send + Drop, G: Gate + Sy
     )
 }
 
-/// The same as `run_limited`, with starts that the caller lends, and behind their gate. The starts tell what became of them, as of
+/// Does what `run_limited` does, with thread starts and a gate that the caller lends. Afterwards `starts` shows what happened, as after
 /// `compile_with_starts`.
 pub fn run_with_starts<R: Threads + Wait + Sync, F: Feed + Send + Drop, G: Gate + Sync, S: Sink>(
     alloc: Global,

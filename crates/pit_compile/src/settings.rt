@@ -1,4 +1,4 @@
-//! What a run may take, and whether its settings fit its plan.
+//! The settings and the thread budget of a run, and whether the settings fit the plan.
 
 ghost use Rattle.std.specs.Prelude.{◌≡◌, ◌↔◌, Err, IsTrue, IfErr, OnOk, length, map};
 ghost use Rattle.pit_compile.specs.Settings.{IsSettingsFault};
@@ -15,16 +15,16 @@ use plan_parts::ranges::{MAX_CAPACITY, MAX_VALUERS};
 pub use plan_parts::settings::Settings;
 pub use refusals::settings_fault::SettingsFault;
 
-/// What a run may take: how it is to be made, and how many threads it may start.
+/// The settings of a run, and the number of threads that it may start.
 #[derive(Clone, Copy, Debug, PartialEq, Eq)]
 pub struct Budget {
-    /// How it is to be made.
+    /// The settings of the run.
     pub settings: Settings,
-    /// The number of thread starts: one more counts as refused.
+    /// The number of thread starts; a further start counts as refused.
     pub starts: u32,
 }
 
-/// Fails with the first fault of the settings, in the order of `SettingsFault`, for so many zone files.
+/// Fails with the first fault of the settings, in the order of `SettingsFault`, for `files` zone files.
 #[tactic(auto, using(crate::proofs::SettingsFacts::told_exactly))]
 pub fn require_settings(
     files: usize,
@@ -41,7 +41,7 @@ pub fn require_settings(
     suits(files, plan, destinations, settings)
 }
 
-// The same, and why it fails.
+// Does what `require_settings` does.
 fn suits(
     files: usize,
     plan: &Plan,
@@ -67,7 +67,7 @@ fn suits(
     Ok(())
 }
 
-// Whether the destinations' formulas are the plan's, in order.
+// Returns whether the destinations have the formulas of the plan, in order.
 fn are_the_plans(destinations: &[Destination], plan: &Plan) -> bool
     ensures { IsTrue result ↔ (formulas_of destinations.now ≡ formulas_of_plan plan.now) }
 {

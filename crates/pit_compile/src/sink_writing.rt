@@ -1,4 +1,4 @@
-//! Writing the texts of an instance, one sink after the other.
+//! Writes the files of an instance, one sink after the other.
 
 ghost use Rattle.std.specs.Prelude.{◌≡◌, IfErr, OnOk};
 ghost use Rattle.mine_instance.specs.Valid.{IsValid};
@@ -19,15 +19,15 @@ use precedence::PredLists;
 use refusals::refusal::Refusal;
 use std::alloc::Global;
 
-/// Begins the sinks and writes the texts of an instance and its CPIT, one after the other.
+/// Begins the sinks and writes the files of an instance, one after the other.
 ///
 /// # Errors
 ///
 /// - `SinkFailed`: a sink refused a call.
 /// - `OutOfMemory`: memory was refused.
 ///
-/// The sinks before that one hold their texts. That one is as it was, or begun with a front of its text. Those behind
-/// it are as they were.
+/// The sinks before that sink hold their files. That sink is unchanged, or begun with a prefix of its file. The sinks after
+/// it are unchanged.
 pub fn write_texts<P: PredLists, C: CoefList, V: ValueList, S: Sink>(
     alloc: Global,
     instance: &Instance<P, C, V>,
@@ -45,7 +45,7 @@ pub fn write_texts<P: PredLists, C: CoefList, V: ValueList, S: Sink>(
     Ok(())
 }
 
-// What came of writing, as the answer of a run.
+// Returns the result of writing to a sink, as the result of a run.
 fn in_sink(which: TextName, written: Result<(), WriteFault>) -> Result<(), Refusal>
     ensures { result ≡ in_sink which written }
 {

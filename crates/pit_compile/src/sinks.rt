@@ -8,7 +8,7 @@ ghost use Rattle.pit_compile.specs.Sinks.{sink_of};
 
 use minelib_lines::text_name::TextName;
 
-/// A sink for each text of an instance, in the order of writing.
+/// A sink for each file of an instance, in the order of writing.
 #[derive(Debug, Drop)]
 pub struct Sinks<S> {
     pub blocks: S,
@@ -19,7 +19,7 @@ pub struct Sinks<S> {
 }
 
 impl<S> Sinks<S> {
-    /// What `make` gives for each text, in the order of writing, or its first fault.
+    /// Makes a sink for each file by `make`, in the order of writing. Returns the first error of `make`.
     pub fn each<E, F: Fn(TextName) -> Result<S, E>>(make: F) -> Result<Sinks<S>, E>
     where
         S: Drop,
@@ -36,7 +36,7 @@ impl<S> Sinks<S> {
         })
     }
 
-    /// The sink of this text, to be written to or replaced.
+    /// Returns a mutable reference to the sink of this file.
     pub fn of_mut(&mut self, name: TextName) -> &mut S
         ensures* writes_back { sem 𝓛 (LendsSink S.row self.entry name result) }
         ensures value { result.now ≡ sink_of self.old name }

@@ -4,11 +4,12 @@ use Rattle.std.proofs.Math.Nat.{min-le_right, suc-le-suc_iff}
 use Rattle.plan_parts.specs.declared.block.Block.{Block}
 use Rattle.plan_parts.specs.declared.ranges.TheConstants.{GRID_CELLS, MAX_GRADE, MAX_KG, MAX_ZONES}
 
--- the least of a number and the most that is in range is in range
+-- the smaller of a number and the largest in range is in range
 pub least_below : (n most : ℕ) → min n most < suc most
 least_below n most = suc-le-suc_iff.1 (min-le_right n most)
 
--- the block of these fields; of one that is out of its range, the greatest that is in it
+-- the block with these fields. A field above its range is replaced by the largest number in range, so that every argument gives a block;
+-- readers check the ranges first
 unfoldable pub block_with : (x y z kg grade zone : ℕ) → Block
 block_with x y z kg grade zone = record {
   x = min x (GRID_CELLS - 1);

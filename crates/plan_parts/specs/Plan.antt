@@ -1,4 +1,4 @@
--- What a plan is: its parts.
+-- The parts of a plan.
 use Rattle.std.specs.Prelude.{ℕ, List, ℤ}
 use Rattle.plan_parts.specs.declared.grid.Grid.{Grid}
 use Rattle.plan_parts.specs.declared.cone.Cone.{Cone}
@@ -10,7 +10,7 @@ use Rattle.plan_parts.specs.declared.limit.Limit.{Limit}
 pub record PlanParts : Type 0 where
   pub name : List ℕ
   pub grid : Grid
-  -- one a zone, in the order of the zone files
+  -- one for each zone, in the order of the zone files
   pub cones : List Cone
   -- the destinations
   pub formulas : List NamedFormula

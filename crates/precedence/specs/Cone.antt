@@ -1,4 +1,4 @@
--- The predecessors of a block: the blocks of the cone that opens above it.
+-- The predecessors of a block: the blocks in the cone that opens above it.
 use Rattle.std.specs.Prelude.{ℕ, ◌+◌, ◌-◌, ◌*◌, ◌&&◌, Bool, List, [], ◌∷◌, Option, Some, None, map, nat_lt, nat_le, slice_get, if◌then◌else◌}
 use Rattle.std.specs.Int.{abs_diff}
 use Rattle.plan_parts.specs.Plan.{PlanParts}
@@ -7,7 +7,7 @@ use Rattle.plan_parts.specs.declared.cone.Cone.{Cone}
 use Rattle.plan_parts.specs.declared.cone.Slope.{Slope}
 use Rattle.plan_parts.specs.declared.grid.Grid.{Grid}
 
--- the slope on the side where `high` lies, seen from `low`; where it lies on neither side the distance is 0 and either slope serves
+-- the slope on the side of `low` where `high` is. If `high` is on neither side, the distance is 0 and either slope gives the same result
 abbrev pub slope_along_x : Cone → Block → Block → Slope
 slope_along_x cone low high = if nat_lt low.x high.x then cone.east else cone.west
 
@@ -24,23 +24,23 @@ is_within_slopes grid slope_x slope_y dx dy dz =
     (square (dx * (grid.x.size * slope_x.p * slope_y.q)) + square (dy * (grid.y.size * slope_y.p * slope_x.q)))
     (square (dz * (grid.z.size * slope_x.q * slope_y.q)))
 
--- `high` lies 1 to k benches above `low`, inside the slopes
+-- `high` is 1 to k benches above `low`, inside the slopes
 abbrev pub is_above : Grid → Cone → Block → Block → Bool
 is_above grid cone low high =
     nat_lt low.z high.z
     && (nat_le (high.z - low.z) cone.k
     && is_within_slopes grid (slope_along_x cone low high) (slope_along_y cone low high) (abs_diff low.x high.x) (abs_diff low.y high.y) (high.z - low.z))
 
--- the numbers of the elements that pass, counted from n on
+-- the positions of the elements that pass the test, counted from n
 abbrev pub places_where : {X : Type 0} → (X → Bool) → ℕ → List X → List ℕ
 places_where test n [] = []
 places_where test n (x ∷ xs) = if test x then n ∷ places_where test (n + 1) xs else places_where test (n + 1) xs
 
--- the identifiers of the blocks of a cone above a block, in rising order: of blocks by identifier, the numbers of those that pass
+-- the identifiers of the blocks in the cone above a block, in ascending order. `blocks` is ordered by identifier
 abbrev pub above : Grid → Option Cone → List Block → Block → List ℕ
 above grid (Some cone) blocks low = places_where (is_above grid cone low) 0 blocks
 above grid None blocks low = []
 
--- the predecessors of each block by identifier, by the cone of its own zone
+-- the predecessors of each block, by the cone of the block's own zone
 abbrev pub preds : PlanParts → List Block → List (List ℕ)
 preds plan blocks = map (λ low. above plan.grid (slice_get plan.cones low.zone) blocks low) blocks

@@ -1,4 +1,5 @@
--- The identifiers of the blocks of a list: how many blocks of the whole list lie lower, or further south, or further west.
+-- The identifiers of the blocks of a list: the number of blocks of the whole list that come before, ordered by bench, then from south to
+-- north, then from west to east.
 use Rattle.std.specs.Prelude.{◌≡◌, ℕ, ◌<◌, ◌==◌, ◌&&◌, ◌||◌, Bool, true, false, List, length, map, count_by, nat_lt, slice_index_or}
 use Rattle.plan_parts.specs.declared.block.Block.{Block}
 use Rattle.rows.specs.declared.item.Valued.{Valued}
@@ -7,7 +8,7 @@ use Rattle.rows.specs.declared.item.Valued.{Valued}
 abbrev pub blocks_of_rows : List Valued → List Block
 blocks_of_rows rows = map (λ row. row.block) rows
 
--- by z, then y, then x
+-- `a` comes before `b`: by z, then y, then x
 abbrev pub comes_before : Block → Block → Bool
 comes_before a b = nat_lt a.z b.z || ((a.z == b.z) && (nat_lt a.y b.y || ((a.y == b.y) && nat_lt a.x b.x)))
 
@@ -15,11 +16,11 @@ comes_before a b = nat_lt a.z b.z || ((a.z == b.z) && (nat_lt a.y b.y || ((a.y =
 abbrev pub id : List Block → Block → ℕ
 id listed b = count_by (λ a. comes_before a b) listed
 
--- both stand at one place of the grid
+-- both are in the same cell of the grid
 abbrev pub is_same_place : Block → Block → Bool
 is_same_place a b = (a.x == b.x) && (a.y == b.y) && (a.z == b.z)
 
--- `again` is the first position whose place stood before, and it stood at `first`
+-- `again` is the first position whose cell is that of an earlier position, and `first` is that earlier position
 pub record IsFirstAgain (listed : List Block) (first again : ℕ) : Type 0 where
   pub before : first < again
   pub within : again < length listed

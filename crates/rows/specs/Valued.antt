@@ -1,4 +1,4 @@
--- What blocks are worth by the formulas of a plan, and rows with these worths.
+-- The worths of blocks by the formulas of a plan, and rows with these worths.
 use Rattle.std.specs.Prelude.{ℕ, List, ℤ, map}
 use Rattle.plan_parts.specs.formulas.Worth.{worth}
 use Rattle.plan_parts.specs.declared.block.Block.{Block}

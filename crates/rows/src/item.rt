@@ -9,7 +9,7 @@ use plan_parts::listed::Listed;
 pub struct Valued {
     /// The number of the file, from 0 in the order of the zone files.
     pub file: u8,
-    /// The place among the rows of its file, from 0.
+    /// Its place among the rows of its file, from 0.
     pub place: u32,
     pub block: Block,
     pub worths: Worths,

@@ -9,8 +9,8 @@ use std::marker::Model;
 /// The most worths of a block: one for each destination of a plan.
 pub const MAX_WORTHS: usize = MAX_DESTINATIONS as usize;
 
-/// 1 to 8 worths in cents, one for each destination, in the order of the plan. They take no memory beside the value
-/// itself. Contracts see the list of them.
+/// 1 to 8 worths in cents, one for each destination, in the order of the plan. Allocates no memory. Contracts see the list of
+/// the worths.
 #[derive(Clone, Copy, Debug, PartialEq, Eq)]
 pub struct Worths {
     // zeros after the worths

@@ -1,4 +1,4 @@
--- What the threads of a run hand over.
+-- The results of the threads of a run.
 use Rattle.std.specs.Prelude.{◌≡◌, ℕ, Bool, List, length, map, Option, IsFalse, IsTrue}
 use Rattle.lane.specs.Whole.{IsWhole}
 use Rattle.plan_parts.specs.PlanFormulas.{formulas_of_plan}
@@ -9,8 +9,8 @@ use Rattle.run_threads.specs.Full.{IsOneFull}
 use Rattle.run_threads.specs.Reading.{AreRead}
 use Rattle.run_threads.specs.declared.handing_over.HandedOver.{HandedOver}
 
--- what is handed over by so many valuers of a plan, through a lane of this capacity, from these feeds, by what they had left, whether
--- they were sure, and how many pulls they had refused; and the feeds that the readers were given
+-- the results `handed` of readers of these feeds and of this number of valuers, through a lane whose capacity is `most`. `used` are the
+-- feeds that the readers received. `left`, `is_sure` and `failures` are the ghost members of a feed
 pub record IsHandedOver {F : Type 0} (left : F → Option (List ℕ)) (is_sure : F → Bool) (failures : F → ℕ) (plan : PlanParts)
     (feeds : List F) (valuers most : ℕ) (handed : HandedOver) (used : List F) : Type 0 where
   pub whole : IsWhole handed.gathered

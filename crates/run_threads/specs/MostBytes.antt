@@ -1,7 +1,7 @@
--- How long a zone file may be.
+-- The largest length of a zone file.
 use Rattle.std.specs.Prelude.{ℕ}
 use Rattle.plan_parts.specs.declared.ranges.TheConstants.{MAX_FILE_BYTES}
 
--- the most bytes of a zone file
+-- the largest number of bytes of a zone file
 abbrev pub most_bytes : ℕ
 most_bytes = MAX_FILE_BYTES

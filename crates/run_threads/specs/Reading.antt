@@ -1,4 +1,4 @@
--- What a reader did with its zone file: what it sent into the lane, and what it answered.
+-- What a reader did with its zone file: the messages that it sent into the lane, and its result.
 use Rattle.std.specs.Prelude.{◌≡◌, ℕ, ◌+◌, ◌<◌, ◌≤◌, Bool, List, [], ◌∷◌, length, Option, Some, None, IfSome, Result, Ok, Err}
 use Rattle.lane.specs.Message.{sent_from}
 use Rattle.lane.specs.declared.message.Taken.{Taken}
@@ -12,11 +12,12 @@ use Rattle.pit_units.specs.declared.or_memory.OrMemory.TheVariants as row
 use Rattle.run_threads.specs.MostBytes.{most_bytes}
 use Rattle.run_threads.specs.Refusing.{HasRefused}
 
--- what a reader answers: why its feed gave no text, or else why the rows of the text were not read to the end, if they were not
+-- the result of a reader: an error of its feed, or else the error that stopped it in the text, if there was one
 abbrev pub ReadAnswer : Type 0
 ReadAnswer = Result (Result (Unit {0}) (OrMemory RowFault)) SlurpFault
 
--- the reader read a text, the feed's where the feed tells its bytes, up to this fault of it, and sent the blocks before the fault
+-- the reader read a text up to its first fault `fault`, and sent the blocks before the fault. If the feed reports its bytes, the text is
+-- these bytes
 pub record IsReadTo (grid : Grid) (file : ℕ) (left : Option (List ℕ)) (fault : Option RowFault) (sent : List Taken) : Type 0 where
   pub text : List ℕ
   pub given : IfSome left (λ bytes. text ≡ bytes)
@@ -24,9 +25,9 @@ pub record IsReadTo (grid : Grid) (file : ℕ) (left : Option (List ℕ)) (fault
   pub fault_is : fault_of grid file text ≡ fault
   pub sent_is : sent ≡ sent_from file 0 (blocks_of grid file text)
 
--- by what feeds had left, whether they were sure, and how many pulls they had refused
+-- `left`, `is_sure` and `failures` are the ghost members of a feed
 module _ {F : Type 0} (left : F → Option (List ℕ)) (is_sure : F → Bool) (failures : F → ℕ) where
-  -- a reader's answer, and what it sent, by its feed
+  -- the result of the reader of a feed, and the messages that it sent
   abbrev pub IsRead : Grid → ℕ → F → ReadAnswer → List Taken → Type 0
   IsRead grid file feed (Ok (Ok done)) sent = IsReadTo grid file (left feed) None sent
   IsRead grid file feed (Ok (Err (row.Fault fault))) sent = IsReadTo grid file (left feed) (Some fault) sent
@@ -35,7 +36,7 @@ module _ {F : Type 0} (left : F → Option (List ℕ)) (is_sure : F → Bool) (f
   IsRead grid file feed (Err FeedFailed) sent = HasRefused is_sure failures feed
   IsRead grid file feed (Err OutOfMemory) sent = Unit {0}
 
-  -- the same of each feed, from that of file k on
+  -- the same for each of these feeds; the first belongs to file k
   abbrev pub AreRead : Grid → ℕ → List F → List ReadAnswer → List (List Taken) → Type 0
   AreRead grid k [] [] [] = Unit {0}
   AreRead grid k (feed ∷ feeds) (answer ∷ answers) (sent ∷ sents) =

@@ -1,4 +1,4 @@
-//! A zone file's reader, which puts the file's rows into the lane.
+//! The reader of a zone file, which puts the file's rows into the lane.
 
 ghost use Rattle.std.specs.Prelude.{◌≡◌, ◌++◌, [], ◌∷◌, length};
 ghost use Rattle.run_threads.specs.Reading.{IsRead};
@@ -20,20 +20,20 @@ use valuers::Gate;
 use zone_csv::row_fault::RowFault;
 use zone_csv::zone_reader::ZoneReader;
 
-/// What a file's reader gives back.
+/// The result of a file's reader.
 #[derive(Drop)]
 pub struct FileRead {
-    /// The file's put end, behind its end mark.
+    /// The file's put end, after its end mark.
     pub ended: EndedPut,
-    /// Whether the file was read to its end.
+    /// Whether the file was read to its end, or the error.
     pub answer: ReadResult,
 }
 
-/// Reads the zone file that `feed` gives, whole, and puts a row for each of its blocks into the lane, in their order.
-/// After the last row, or after a fault, it always puts the file's end mark. It tells `gate` before the first pull.
-/// `file` is the number of the file, and of its zone in `plan`, from 0. It runs on a thread of its own.
+/// Reads all of the zone file that `feed` gives, and puts a row for each of its blocks into the lane, in order. After the last
+/// row, or after a fault, always puts the file's end mark. Calls `gate` before the first pull. `file` is the number of the file,
+/// and of its zone in `plan`, from 0. Runs on its own thread.
 ///
-/// The answer tells why the file was not read to its end. Where it is a faulty row, the blocks before that were put.
+/// If the file was not read to its end, `answer` says why. After a faulty row, the blocks before that row were put.
 pub fn read_file<R: Wait, F: Feed + Drop, G: Gate>(
     _thread: &OnThread,
     rt: &R,
@@ -57,7 +57,7 @@ pub fn read_file<R: Wait, F: Feed + Drop, G: Gate>(
     }
 }
 
-// Puts the rows of the feed's zone file, and no end mark.
+// Puts the rows of the feed's zone file, without the end mark.
 fn put_file<R: Wait, F: Feed, G: Gate>(
     rt: &R,
     alloc: Global,

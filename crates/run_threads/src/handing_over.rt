@@ -29,25 +29,25 @@ use std::thread::Threads;
 use thiserror::Error;
 use valuers::Gate;
 
-/// How many valuers a run has, and how long its lane is.
+/// The number of valuers of a run, and the capacity of its lane.
 #[derive(Clone, Copy)]
 pub struct Allowance {
     /// The number of valuers, 1 to 64.
     pub valuers: u8,
-    /// For how many messages the queue of the lane has room, 1 to 4,096.
+    /// The number of messages that the lane can hold, 1 to 4,096.
     pub capacity: usize,
 }
 
-/// What the threads of a run hand over.
+/// The results of the threads of a run.
 #[derive(Drop)]
 pub struct HandedOver {
-    /// What went through the lane.
+    /// The messages that passed the lane.
     pub gathered: Gathered,
-    /// What each valuer hands on, in their order.
+    /// The items of each valuer, in the order of the valuers.
     pub items: Vec<PackedItems>,
-    /// Whether some valuer was refused memory. It then dropped what it took from there on.
+    /// Whether a valuer was refused memory. That valuer dropped everything that it took afterwards.
     pub memory: bool,
-    /// The answer of each file's reader, in the order of the files.
+    /// The result of each file's reader, in the order of the files.
     pub answers: Vec<ReadResult>,
 }
 
@@ -64,14 +64,13 @@ impl From<GaveUp> for OrMemory<NoThread> {
     }
 }
 
-/// Reads each file in a thread of its own, into a lane from which the valuers, each in a thread of its own, take and
-/// value the rows, behind the gate of the starts. The valuers start first. No thread is cancelled: every reader runs to the
-/// end of its file or to its first fault. The feeds are used up, each by the thread that it is given to, and one of the
-/// starts for each thread.
+/// Reads each file on its own thread into a lane; the valuers, each on its own thread, take the rows and value them. The
+/// valuers start first. Every thread uses one of `starts`, and calls the gate of `starts`. No thread is cancelled: every reader
+/// runs to the end of its file or to its first fault. Each feed is consumed by the thread that receives it.
 ///
 /// # Errors
 ///
-/// - `NoThread`: a start was refused. No further thread was started, and those that were started are joined.
+/// - `NoThread`: a start was refused. No further thread was started, and every started thread was joined.
 /// - `OutOfMemory`: memory was refused before the first start.
 pub fn hand_over<R: Threads + Wait + Sync, F: Feed + Send + Drop, G: Gate + Sync>(
     alloc: Global,
@@ -87,12 +86,12 @@ pub fn hand_over<R: Threads + Wait + Sync, F: Feed + Send + Drop, G: Gate + Sync
     requires destinations { AreOfPlan destinations.now plan.now }
     requires unspent { starts.old ≡ none_spent starts.old.allowed }
 
-    // What was read, what the valuers made of it, how many threads there were, and how long the lane was.
+    // The files were read, their rows were valued, by this number of threads and through a lane of this capacity.
     ensures handed { IfOk result (λ made. IsHandedOver F.left F.is_sure F.failures plan.now feeds.items
         allowance.valuers allowance.capacity made.0 made.1) }
 
-    // What was started: a thread for each valuer and each file, or else the start of one of them was refused, or none was tried. The valuers
-    // are started first. Each is joined.
+    // A thread was started for each valuer and each file, or a start was refused, or none was tried. The valuers start first. Each thread
+    // is joined.
     ensures spends { StartsThreads allowance.valuers (length feeds.items) starts.old starts.new
         result }
 {

@@ -25,14 +25,14 @@ pub mod running;
 pub mod settling;
 pub mod starting;
 
-/// What the threads of a scope hand over, all of them joined, with the feeds that the readers were given; and what is left of the starts.
+/// The results of the threads of a scope, all of them joined, with the feeds that the readers received, and the remaining thread starts.
 #[derive(Drop)]
 pub struct Settled<F: Feed> {
     pub handed: Result<(HandedOver, GivenFeeds<F>), GaveUp>,
     pub starts: Counted,
 }
 
-/// Starts the valuers and then the readers of a run, and settles. After a refused start it ends what was started.
+/// Starts the valuers and then the readers of a run, and joins them. After a refused start, ends the threads that run.
 pub fn hand_over_in<'s, E, T: Threads, R: Wait + Sync, F: Feed + Send + Drop + 's, G: Gate + Sync>(
     mut starter: Starter<'s, E, T>,
     ready: Ready<'s, R, F, G>,
@@ -42,11 +42,11 @@ pub fn hand_over_in<'s, E, T: Threads, R: Wait + Sync, F: Feed + Send + Drop + '
         ready.entry.shared.plan.now ready.entry.feeds.items ready.entry.lane.closer.takers
         ready.entry.lane.closer.lane.2 made.0 made.1) }
 
-    // The starts: one for each valuer and each file, or one was refused; the valuers first. Each thread is joined.
+    // One thread was started for each valuer and each file, or a start was refused; the valuers first. Each thread is joined.
     ensures spends { StartsInScope ready.entry.lane.closer.takers (vec_len ready.entry.feeds)
         starter.entry result.starts result.handed }
 
-    // Where one was refused, each valuer that was started is sent a Quit into the run's lane, and is joined behind these.
+    // If a start was refused, each running valuer was sent a Quit through the run's lane, and was joined after that.
     ensures quits { IfErr result.handed
         (λ gave_up. (gave_up.quits.lane ≡ ready.entry.lane.closer.lane)
         × (gave_up.quits.quits + result.starts.readers ≡ result.starts.spent)) }

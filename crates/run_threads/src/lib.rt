@@ -1,4 +1,4 @@
-//! The threads of a run: one that reads each zone file into the lane, and valuers that take from it.
+//! The threads of a run: a reader for each zone file, which puts rows into the lane, and valuers, which take them.
 #![tactic(auto)]
 
 mod file_reading;

@@ -7,7 +7,7 @@ ghost use Rattle.plan_parts.specs.declared.ranges.TheConstants.{MAX_CAPACITY, MA
 use lane::{Closer, PutEnd, TakeEnd, open};
 use std::alloc::{AllocError, Global};
 
-/// A lane that was just opened: its closer, a put end for each file, and a take end for each valuer, which sent and took nothing.
+/// A lane that was just opened: its closer, a put end for each file and a take end for each valuer, all of them unused.
 #[derive(Drop)]
 pub struct OpenedLane {
     pub closer: Closer,
@@ -21,7 +21,7 @@ pub struct OpenedLane {
     pub ghost few_takes: { closer.takers ≤ MAX_VALUERS },
 }
 
-/// Opens a lane for so many files and valuers.
+/// Opens a lane for `files` files and `valuers` valuers.
 pub fn open_lane(
     alloc: Global,
     files: u8,

@@ -1,4 +1,4 @@
-//! What the threads of a run promise of what they give back.
+//! What the threads of a run promise about their results.
 
 use crate::file_reading::FileRead;
 use devices::feeds::feed::Feed;

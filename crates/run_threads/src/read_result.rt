@@ -1,9 +1,9 @@
-//! What a zone file's reader answers.
+//! The result of a zone file's reader.
 
 use devices::feeds::slurp::SlurpFault;
 use pit_units::OrMemory;
 use zone_csv::row_fault::RowFault;
 
-/// What a reader answers: why the feed gave no text, or of the text why its rows were not read to the end, where they were
-/// not. The blocks of the rows before a faulty one were sent.
+/// The result of a reader: an error of its feed, or else the error that stopped it in the text, if there was one. The blocks
+/// of the rows before a faulty row were sent.
 pub type ReadResult = Result<Result<(), OrMemory<RowFault>>, SlurpFault>;

@@ -9,7 +9,7 @@ use crate::result_room::ResultRoom;
 use crate::shared::Shared;
 use devices::feeds::feed::Feed;
 
-/// A run that is ready to start: all memory that it needs besides that of its threads is taken.
+/// A run that is ready to start: all memory is allocated, except the memory of its threads.
 #[derive(Drop)]
 pub struct Ready<'s, R, F: Feed, G> {
     pub shared: Shared<'s, R, G>,

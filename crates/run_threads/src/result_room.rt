@@ -1,4 +1,4 @@
-//! Memory for what the threads of a run give back, which is taken before the first start.
+//! Memory for the results of a run's threads, which is allocated before the first start.
 
 ghost use Rattle.std.specs.Prelude.{IfOk};
 ghost use Rattle.run_threads.specs.inner.Ready.{IsRoomFor};
@@ -10,7 +10,7 @@ use rows::PackedItems;
 use std::alloc::{AllocError, Global};
 use valuers::ValuerResult;
 
-/// Empty lists with room for what the readers and the valuers give back.
+/// Empty lists with capacity for the results of the readers and the valuers.
 #[derive(Drop)]
 pub struct ResultRoom {
     pub reads: Vec<FileRead>,
@@ -21,7 +21,7 @@ pub struct ResultRoom {
     pub items: Vec<PackedItems>,
 }
 
-/// Room for what so many files and valuers give back.
+/// Allocates capacity for the results of `files` readers and `valuers` valuers.
 pub fn room_for(alloc: Global, files: usize, valuers: usize) -> Result<ResultRoom, AllocError>
     ensures { IfOk result (λ room. IsRoomFor files valuers room) }
 {

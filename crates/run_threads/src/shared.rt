@@ -1,4 +1,4 @@
-//! What the threads of a run share.
+//! Data that the threads of a run share.
 
 ghost use Rattle.std.specs.Prelude.{◌≤◌, length};
 ghost use Rattle.plan_parts.specs.OfPlan.{AreOfPlan};
@@ -8,7 +8,7 @@ use plan_parts::formulas::destination::Destination;
 use plan_parts::plan::Plan;
 use std::alloc::Global;
 
-/// What the threads of a run share: what they run on, and what they work by. The destinations are the plan's.
+/// Data that the threads of a run share: the runtime, the gate, the plan and its destinations.
 #[derive(Drop)]
 pub struct Shared<'s, R, G> {
     pub rt: &'s R,

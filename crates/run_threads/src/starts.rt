@@ -1,5 +1,5 @@
-//! The starts of a run's threads, which are counted, and their joins. Of this crate this module alone starts and joins threads. It hands on
-//! the runtime that does to `hand_over`, which opens the scope of a run, and lends it to what waits in its threads.
+//! Counts the starts and joins of a run's threads. Only this module of the crate starts and joins threads. It passes the runtime to
+//! `hand_over`, which opens the scope of a run, and lends it to the code that waits in the threads.
 
 ghost use Rattle.std.specs.Prelude.{◌≡◌, ◌+◌, ◌<◌, ◌≤◌, true, false, is_some, map, IfSome, OnSome};
 ghost use Rattle.lane.specs.Ends.{Lane};
@@ -20,9 +20,9 @@ use std::snapshot::Snapshot;
 use std::thread::{Promise, PromisedHandle, Scope, Threads};
 use valuers::{OpenGate, PackedItems, ValuerResult};
 
-/// The starts of threads. They have the runtime on which threads are started and waited for, and the gate of a run, to which that is lent;
-/// and they give neither to another crate. So who is lent starts, and has no runtime of its own, can spend no others, and wait for nothing
-/// but a run behind this gate.
+/// A budget of thread starts. It holds the runtime that starts threads and waits for them, and the gate of a run, and gives neither to
+/// another crate. So a function that borrows a budget and has no other runtime can start no other threads, and can wait only for a run with
+/// this gate.
 #[derive(Drop)]
 pub struct Starts<'a, R, G = OpenGate> {
     rt: &'a R,
@@ -39,7 +39,7 @@ impl<'a, R, G> Model for Starts<'a, R, G> {
 }
 
 impl<'a, R> Starts<'a, R> {
-    /// So many starts on this runtime, of which none is spent: one more counts as refused. Their gate is open.
+    /// Allows `allowed` thread starts on `rt`; a further start counts as refused. The gate lets everything pass.
     pub fn new(rt: &'a R, allowed: u32) -> Starts<'a, R>
         ensures { result ≡ none_spent allowed }
     {
@@ -48,7 +48,7 @@ impl<'a, R> Starts<'a, R> {
 }
 
 impl<'a, R, G> Starts<'a, R, G> {
-    /// The same, with this gate.
+    /// Allows `allowed` thread starts on `rt`, with this gate.
     pub fn with_gate(rt: &'a R, allowed: u32, gate: &'a G) -> Starts<'a, R, G>
         ensures { result ≡ none_spent allowed }
     {
@@ -59,24 +59,24 @@ impl<'a, R, G> Starts<'a, R, G> {
         }
     }
 
-    /// The runtime.
+    /// Returns the runtime.
     pub(crate) fn runtime(&self) -> &'a R {
         self.rt
     }
 
-    /// The gate.
+    /// Returns the gate.
     pub(crate) fn gate(&self) -> &'a G {
         self.gate
     }
 
-    /// What is counted, to be given back: until then there is no start here.
+    /// Takes out the counts, and leaves no start here until `give_back` is called.
     pub(crate) fn lend(&mut self) -> Counted
         ensures { result ≡ self.old }
     {
         mem::replace(&mut self.counted, Counted::new(0))
     }
 
-    /// Gives back what was lent.
+    /// Puts the counts back that `lend` took out.
     pub(crate) fn give_back(&mut self, counted: Counted)
         ensures { self.new ≡ counted }
     {
@@ -84,7 +84,8 @@ impl<'a, R, G> Starts<'a, R, G> {
     }
 }
 
-/// How many threads may be started, how many were, how many of these read a file, how many were joined, and whether a start was refused.
+/// The number of threads that may be started, that were started, that were started as readers, and that were joined, and whether a start was
+/// refused.
 #[derive(Drop)]
 pub struct Counted {
     allowed: u32,
@@ -112,7 +113,7 @@ impl Model for Counted {
 }
 
 impl Counted {
-    // So many starts, of which none is spent.
+    // No thread was started yet, and `allowed` threads may be.
     fn new(allowed: u32) -> Counted
         ensures { result ≡ none_spent allowed }
     {
@@ -125,7 +126,7 @@ impl Counted {
         }
     }
 
-    // One more of the threads reads a file.
+    // Counts one more reader.
     fn count_reader(&mut self)
         requires { self.old.readers < self.old.spent }
         ensures { self.new ≡ record self.old { readers = self.old.readers + 1 } }
@@ -134,19 +135,19 @@ impl Counted {
     }
 }
 
-/// The thread that a piece of work runs on: only a thread that was started has one, and hands it to no other.
+/// Proof that work runs on a thread of its own: only a started thread has one, and it passes it to no other.
 #[derive(Drop)]
 pub struct OnThread {
     here: PhantomData<*mut u8>,
 }
 
-/// What there is of a lane once threads at its ends may be joined.
+/// The part of a lane that must exist before threads at its ends may be joined.
 pub trait OfLane {
-    /// The lane.
+    /// The lane of this part.
     ghost lane_of: { Self → Lane };
 }
 
-// It is not closed yet.
+// The lane is not closed yet.
 impl OfLane for Closer {
     ghost lane_of = { λ closer. closer.lane };
 }
@@ -155,30 +156,30 @@ impl OfLane for LaneEnded {
     ghost lane_of = { λ ended. ended };
 }
 
-/// A promise of a thread of a run.
+/// What a thread of a run promises.
 pub trait RunPromise {
-    /// What there is once the thread may be joined.
+    /// The part of the lane that must exist before the thread may be joined.
     type Behind: OfLane;
 
     /// The lane that the thread puts into, or takes from.
     ghost lane: { Self → Lane };
 }
 
-// A reader ends by itself, while valuers take: before the lane is closed.
+// A reader ends by itself while valuers take, so it is joined before the lane is closed.
 impl<F> RunPromise for ReadBy<F> {
     type Behind = Closer;
 
     ghost lane = { λ promise. promise.end.value.lane };
 }
 
-// A valuer ends by the mark that it is sent.
+// A valuer ends when it takes the mark sent to it.
 impl RunPromise for ValuedBy {
     type Behind = LaneEnded;
 
     ghost lane = { λ promise. promise.end.value.lane };
 }
 
-/// The feeds that the threads of readers were given, in the order of these threads.
+/// The feeds that the threads of readers received, in the order of these threads.
 #[derive(Drop)]
 pub struct GivenFeeds<F: Feed> {
     readers: Snapshot<Vec<ReaderHandle<F>>>,
@@ -193,7 +194,7 @@ impl<F: Feed> Model for GivenFeeds<F> {
 }
 
 impl<F: Feed> GivenFeeds<F> {
-    /// Those of these threads.
+    /// Returns the feeds of these threads.
     pub fn of(readers: &Vec<ReaderHandle<F>>) -> GivenFeeds<F>
         ensures { result ≡ map (λ handle. handle.promise.feed.value) readers.now.items }
     {
@@ -223,7 +224,7 @@ impl<'s, E, T> Model for Starter<'s, E, T> {
 }
 
 impl<'s, E, T> Starter<'s, E, T> {
-    /// With these starts.
+    /// Creates a starter with the counts in `starts`.
     pub fn new(scope: &'s Scope<'s, E>, rt: &'s T, starts: Counted) -> Starter<'s, E, T>
         requires { starts.spent ≤ starts.allowed }
         ensures { result ≡ starts }
@@ -231,7 +232,7 @@ impl<'s, E, T> Starter<'s, E, T> {
         Starter { scope, rt, starts }
     }
 
-    /// What is left of the starts.
+    /// Returns the counts.
     pub fn end(self) -> Counted
         ensures value { result ≡ self.entry }
         ensures within { result.spent ≤ result.allowed }
@@ -239,7 +240,7 @@ impl<'s, E, T> Starter<'s, E, T> {
         self.starts
     }
 
-    /// Starts a thread that does the work of a valuer, or refuses to: where no start is left, or where the system starts none.
+    /// Starts a thread that does the work of a valuer. Fails if the budget is used up or the system starts no thread.
     pub fn spawn_valuer<W: FnOnce(OnThread) -> ValuerResult<PackedItems> + Send + Drop + 's>(
         &mut self,
         promise: ValuedBy,
@@ -255,7 +256,7 @@ impl<'s, E, T> Starter<'s, E, T> {
         self.spawn(promise, work)
     }
 
-    /// Starts a thread that does the work of a reader with this feed, which no other thread has from then on; or refuses to.
+    /// Starts a thread that does the work of a reader with this feed, which no other thread receives. Fails as `spawn_valuer` does.
     pub fn spawn_reader<
         F: Feed + Send + Drop + 's,
         W: FnOnce(OnThread, F) -> FileRead + Send + Drop + 's,
@@ -290,7 +291,7 @@ impl<'s, E, T> Starter<'s, E, T> {
         Some(handle)
     }
 
-    // Starts a thread that does this work, or refuses to.
+    // Starts a thread that does this work, or fails.
     fn spawn<
         W: FnOnce(OnThread) -> A + Send + Drop + 's,
         A: Send + Drop + 's,
@@ -328,7 +329,7 @@ impl<'s, E, T> Starter<'s, E, T> {
 }
 
 impl<'s, E, T: Threads> Starter<'s, E, T> {
-    /// Joins a thread, where there is of its lane what it may be joined behind.
+    /// Joins a thread. `_behind` is the part of the lane that must exist before.
     pub fn join<A, P: Promise<A> + RunPromise>(
         &mut self,
         handle: PromisedHandle<A, P>,

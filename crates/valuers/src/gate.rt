@@ -1,25 +1,25 @@
-//! What is told of each row and each reader of a run, at the moment when it comes.
+//! The test hook of a run, which is called for each row and each reader.
 
 ghost use Rattle.std.specs.Prelude.{ℕ};
 
 use std::sync::Wait;
 
-/// What a run calls before it values a row, and before a reader pulls for the first time. It may wait.
+/// A test hook, which a run calls before it values a row, and before a reader pulls for the first time. It may wait.
 ///
-/// `passed_row` and `passed_reader` are facts that only the calls give, whatever the gate is: so a contract that has them of a gate
-/// which it does not know says that it was called. A gate may leave them as they are.
+/// Only the calls establish `passed_row` and `passed_reader`. So a contract that states them for an unknown gate guarantees that the gate
+/// was called. An implementation may keep the defaults.
 pub trait Gate {
-    /// That `row` let this valuer value the row at this place of this file.
+    /// `row` was called for this valuer and the row at this place of this file.
     ghost passed_row: { Self → ℕ → ℕ → ℕ → Type 0 } = { λ gate valuer file place. Unit {0} };
 
-    /// That `reader` let this file's reader pull.
+    /// `reader` was called for this file's reader.
     ghost passed_reader: { Self → ℕ → Type 0 } = { λ gate file. Unit {0} };
 
-    /// Called by a valuer before it values the row at this place of this file.
+    /// Is called by a valuer before it values the row at this place of this file.
     fn row<R: Wait>(&self, rt: &R, valuer: u8, file: u8, place: u32)
         ensures { passed_row self.now valuer file place };
 
-    /// Called in the thread of a file's reader before its first pull.
+    /// Is called on the thread of a file's reader before its first pull.
     fn reader<R: Wait>(&self, rt: &R, file: u8)
         ensures { passed_reader self.now file };
 }

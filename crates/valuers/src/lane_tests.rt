@@ -1,5 +1,5 @@
-//! The lane on one thread, and on as many threads as it has ends. Its tests stand here, beside those of valuers, for which this crate is
-//! proved once more in any case.
+//! Tests of the lane, on one thread and on one thread for each end. They are in this crate because it is proved again for its own tests
+//! anyway.
 
 ghost use Rattle.std.specs.Prelude.{◌≡◌, ℕ, ◌<◌, ◌≤◌, true, [], IfOk, IfSome, length, slice_index_or};
 ghost use Rattle.std.specs.List.{All};
@@ -16,7 +16,7 @@ use std::test::Fail;
 use std::thread;
 use std::thread::Threads;
 
-// A block whose grade tells its row.
+// Returns a block whose grade is the number of its row.
 fn block(row: u32) -> Block {
     Block {
         x: 0,
@@ -28,7 +28,7 @@ fn block(row: u32) -> Block {
     }
 }
 
-// The one put end of a lane.
+// Returns the only put end of a lane.
 pub fn only_put(closer: &Closer, mut puts: Vec<PutEnd>) -> Option<PutEnd>
     requires { puts.items ≡ first_puts closer.now.lane 0 1 }
     ensures { IfSome result (λ put. (put.lane ≡ closer.now.lane) × (put.file ≡ 0)
@@ -37,7 +37,7 @@ pub fn only_put(closer: &Closer, mut puts: Vec<PutEnd>) -> Option<PutEnd>
     puts.pop()
 }
 
-// The one take end of a lane.
+// Returns the only take end of a lane.
 pub fn only_take(closer: &Closer, mut takes: Vec<TakeEnd>) -> Option<TakeEnd>
     requires { takes.items ≡ first_takes closer.now.lane 0 1 }
     ensures { IfSome result (λ take. (take.lane ≡ closer.now.lane) × (take.taker ≡ 0)
@@ -114,7 +114,7 @@ fn quit_ends_each_taker(rt: HostRuntime) -> Result<(), Fail> {
     Ok(())
 }
 
-// Sends so many rows, and the end mark.
+// Sends `rows` rows, and the end mark.
 fn put_rows<R: Wait>(rt: &R, mut end: PutEnd, rows: u32) -> EndedPut
     requires unsent { end.sent ≡ [] }
     requires few { rows ≤ 1000000 }
@@ -127,7 +127,7 @@ fn put_rows<R: Wait>(rt: &R, mut end: PutEnd, rows: u32) -> EndedPut
     end.end(rt)
 }
 
-// Counts that a position of a file was taken, at `file * positions + position`.
+// Counts a taken position of a file, at `file * positions + position`.
 fn note(seen: &[AtomicU64], positions: usize, file: u8, position: u32) {
     let at = usize::from(file)
         .wrapping_mul(positions)
@@ -137,7 +137,7 @@ fn note(seen: &[AtomicU64], positions: usize, file: u8, position: u32) {
     }
 }
 
-// Looks at a message: the positions of each file have to rise, and the blocks to be those that were put.
+// Checks a message: the positions of each file must rise, and the blocks must be those that were put.
 fn look_at<R: Abort>(
     rt: &R,
     next: &mut [u32; 256],
@@ -161,7 +161,7 @@ fn look_at<R: Abort>(
     }
 }
 
-// Takes until a mark ends it, and looks at each message.
+// Takes messages until a mark ends it, and checks each of them.
 fn take_all<R: Wait + Abort>(
     rt: &R,
     mut end: TakeEnd,
@@ -183,7 +183,7 @@ fn take_all<R: Wait + Abort>(
     unreachable!()
 }
 
-// Puts so many rows of each file on a thread of its own, and takes them on a thread for each taker, up to what is gathered.
+// Puts `rows` rows of each file on a thread for each file, takes them on a thread for each taker, and gathers the lane.
 fn hand_over<R: Threads + Wait + Abort + Sync>(
     rt: &R,
     alloc: Global,
@@ -266,7 +266,7 @@ fn take_each<R: Threads + Wait + Abort + Sync>(
     thread::map_vec(rt, takes, &|take| take_all(rt, take, seen, positions))
 }
 
-// All take ends of the lane, each done.
+// Returns all take ends of the lane, each done.
 fn take_whole<R: Threads + Wait + Abort + Sync>(
     rt: &R,
     takes: Vec<TakeEnd>,
@@ -281,7 +281,7 @@ fn take_whole<R: Threads + Wait + Abort + Sync>(
     Ok(taken)
 }
 
-// Each position of each file has to be taken once.
+// Each position of each file must be taken exactly once.
 fn hand_over_once<R: Threads + Wait + Abort + Sync>(
     rt: &R,
     alloc: Global,

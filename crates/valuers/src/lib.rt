@@ -1,4 +1,4 @@
-//! The valuers of a run, which hand on each row with its worths, and the end of each file.
+//! The valuers of a run, which return each row with its worths, and the end of each file.
 #![tactic(auto)]
 
 mod gate;

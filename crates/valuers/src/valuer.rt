@@ -1,4 +1,4 @@
-//! A valuer, which takes from the lane until it is done and hands on what it took.
+//! A valuer, which takes messages from the lane until it is done and returns their items.
 
 ghost use Rattle.std.specs.Prelude.{◌≡◌, ◌≤◌, ◌++◌, true, [], ◌∷◌, length, OnOk, OnErr, IsFalse, IsTrue};
 ghost use Rattle.lane.specs.MessageKinds.{is_done};
@@ -16,22 +16,22 @@ use rows::{Items, Keeps, PackedItems};
 use std::alloc::{AllocError, Global};
 use std::sync::Wait;
 
-/// What a valuer gives back. `K` keeps its items: as they are, or without the room that a row does not use.
+/// The result of a valuer. `K` stores its items: unchanged, or packed without the space that a row does not use.
 #[derive(Drop)]
 pub struct ValuerResult<K = Items> {
     /// Its take end, which is done.
     pub taker: TakeEnd,
-    /// The rows and end marks that it took, in order. Where memory was refused, only the first of them.
+    /// The rows and end marks that it took, in order. If memory was refused, only a prefix of them.
     pub items: K,
-    /// Whether memory for an item was refused. From there on the valuer took messages and dropped them.
+    /// Whether memory for an item was refused. From then on the valuer took messages and dropped them.
     pub memory: bool,
 }
 
-/// Takes messages until the take end is done, and values each row at each of the 1 to 8 destinations, by the destinations' stored
-/// closures. It tells `gate` of each row before it values it.
+/// Takes messages until the take end is done, and values each row at each of the 1 to 8 destinations by the destinations' stored
+/// closures. Calls `gate` before it values a row.
 ///
-/// Where memory for an item is refused, it drops this item and all behind it, and goes on taking messages: so no reader
-/// waits for ever. Memory is refused only where the list has no room left for an item.
+/// If memory for an item is refused, drops this item and all later ones, and continues to take messages, so that no reader
+/// waits for ever. Memory is refused only if the list has no capacity left for an item.
 pub fn value_all<R: Wait, G: Gate>(
     rt: &R,
     alloc: Global,
@@ -60,8 +60,8 @@ pub fn value_all<R: Wait, G: Gate>(
     }
 }
 
-/// The same, but each row is kept without the room that it does not use, and contracts see how much room is left for rows of as many
-/// worths as there are destinations.
+/// Does what `value_all` does, but stores each row packed, and contracts see the capacity left for rows with one worth for each
+/// destination.
 pub fn value_packed<R: Wait, G: Gate>(
     rt: &R,
     alloc: Global,
@@ -90,8 +90,8 @@ pub fn value_packed<R: Wait, G: Gate>(
     }
 }
 
-// The same, into a list of no items, for rows of as many worths as there are destinations. Memory is refused only where the list has no
-// room left for a row.
+// Does the same into an empty list, for rows with one worth for each destination. Memory is refused only if the list has no capacity left
+// for a row.
 fn take_all<R: Wait, G: Gate, K: Keeps>(
     rt: &R,
     mut take_end: TakeEnd,
@@ -124,7 +124,7 @@ fn take_all<R: Wait, G: Gate, K: Keeps>(
     (take_end, items, memory)
 }
 
-// Appends what a message is handed on as: a Stop or Quit as nothing. For a row the gate is called, and the closures are asked.
+// Appends the item of a message; a Stop or Quit has none. For a row, calls the gate and then the closures.
 fn push_item<R: Wait, G: Gate, K: Keeps>(
     rt: &R,
     message: Taken,

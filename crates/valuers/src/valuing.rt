@@ -11,7 +11,7 @@ use plan_parts::block::Block;
 use plan_parts::formulas::destination::{Destination, Valuer};
 use rows::{MAX_WORTHS, Worths};
 
-/// What a block is worth at each of 1 to 8 destinations, in their order.
+/// Returns the worth of a block at each of 1 to 8 destinations, in their order.
 pub fn worths_of(block: Block, destinations: &[Destination]) -> Worths
     requires some { 1 ≤ length destinations.now }
     requires few { length destinations.now ≤ MAX_DESTINATIONS }

@@ -1,11 +1,12 @@
--- The bytes that a feed still gives, before and after it gave some, and what becomes of it in one pull.
+-- A feed before and after one pull: the bytes that it has left, the bytes that it gave, and the pulls that it refused.
 use Rattle.std.specs.Prelude.{◌≡◌, ℕ, ◌+◌, Bool, List, ◌++◌, Option, option_map, Result, IsTrue, IsOk, IfOk, OnOk, OnErr}
 
--- what was left before these bytes were given: they, and then what is left now. A feed that tells no bytes tells none after either
+-- the bytes left before the feed gave `given`: these bytes, and then the bytes left now. A feed that reports no bytes reports none later
 abbrev pub put_back : List ℕ → Option (List ℕ) → Option (List ℕ)
 put_back given left = option_map (λ rest. given ++ rest) left
 
--- on success the bytes of a pull are counted; on failure nothing was given, and one refusal more is counted; a sure feed never fails
+-- after success, the given bytes are counted; after an error, no byte was given, and one more refused pull is counted. A sure feed never
+-- fails
 pub record IsPulled {F E : Type 0} (left : F → Option (List ℕ)) (is_sure : F → Bool) (given failures : F → ℕ) (old new : F)
     (answer : Result ℕ E) : Type 0 where
   pub counts : IfOk answer (λ n. given new ≡ given old + n)

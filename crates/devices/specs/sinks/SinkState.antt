@@ -1,46 +1,46 @@
--- What a sink tells, before and after a text was written to it.
+-- The state of a sink, before and after a text was written to it.
 use Rattle.std.specs.Prelude.{◌≡◌, ◌+◌, ◌<◌, ◌≤◌, ◌⊎◌, ℕ, List, length, take, Option, Bool, Result, IsTrue, IfOk, OnOk, OnErr}
 use Rattle.devices.specs.Device.{added, holding, IsFront}
 
 pub record SinkState : Type 0 where
   -- whether it was begun
   pub begun : Bool
-  -- the bytes that stand before its text, and stay
+  -- the bytes before its text, which never change
   pub before : List ℕ
-  -- the bytes of its text, taken since it was begun, where it tells them
+  -- the bytes of its text that it took since it was begun, if it reports them
   pub taken : Option (List ℕ)
-  -- how many calls it refused so far
+  -- the number of calls that it refused so far
   pub failures : ℕ
 
--- the sink was begun, its text is this one, and it refused no call
+-- the sink was begun, holds this text, and refused no call
 pub record IsWritten (text : List ℕ) (old new : SinkState) : Type 0 where
   pub begun : IsTrue new.begun
   pub before : new.before ≡ old.before
   pub taken : new.taken ≡ holding text old.taken
   pub works : new.failures ≡ old.failures
 
--- its text is the one that it was, as much begun as it was
+-- its text is unchanged, and so is whether it was begun
 pub record IsUntouched (old new : SinkState) : Type 0 where
   pub begun : new.begun ≡ old.begun
   pub taken : new.taken ≡ old.taken
 
--- it was begun, and its text is the front of this one
+-- it was begun, and holds a prefix of this text
 pub record HoldsFront (text : List ℕ) (old new : SinkState) : Type 0 where
   pub begun : IsTrue new.begun
   pub taken : IsFront new.taken (holding text old.taken)
 
--- the sink refused so many calls: it is untouched, or it holds the front of the text
+-- the sink refused `more` calls. It is untouched, or it holds a prefix of the text
 pub record IsCutOff (more : ℕ) (text : List ℕ) (old new : SinkState) : Type 0 where
   pub stands : IsUntouched old new ⊎ HoldsFront text old new
   pub before : new.before ≡ old.before
   pub fails : new.failures ≡ old.failures + more
 
--- as much begun as it was, behind the same bytes
+-- the bytes before its text are unchanged, and so is whether it was begun
 pub record IsBegunAsBefore (old new : SinkState) : Type 0 where
   pub begun : new.begun ≡ old.begun
   pub before : new.before ≡ old.before
 
--- it was asked to take bytes, and answered how many it took, or failed, took none and counted one refusal more
+-- it was called to take bytes. It returned the number that it took, or it failed, took none, and counted one more refused call
 pub record IsPut {E : Type 0} (bytes : List ℕ) (old new : SinkState) (answer : Result ℕ E) : Type 0 where
   pub within : IfOk answer (λ n. n ≤ length bytes)
   pub some : IfOk answer (λ n. 0 < length bytes → 0 < n)

@@ -7,8 +7,8 @@ use pit_units::OrMemory;
 use std::io;
 use thiserror::Error;
 
-/// A device refused to take bytes, or to begin. Outside of this crate it is made of an `io::Error`, which any code can make: that a sink
-/// refused is what the `failures` of its state tell.
+/// A device refused to take bytes, or to begin. Any code outside of this crate can make one from an `io::Error`, so it does not show that a
+/// sink refused a call; the `failures` of the sink's state do.
 #[derive(Clone, Copy, Debug, Error, PartialEq, Eq)]
 #[error("the sink failed")]
 pub struct SinkFault {
@@ -16,12 +16,12 @@ pub struct SinkFault {
 }
 
 impl SinkFault {
-    /// That of a device which this error refused.
+    /// Returns the fault of a device that reported this error.
     pub fn of(_error: &io::Error) -> SinkFault {
         SinkFault::new()
     }
 
-    // That of a device of this crate.
+    // Returns the fault of a device of this crate.
     pub(crate) fn new() -> SinkFault {
         SinkFault { refused: () }
     }
@@ -37,21 +37,21 @@ impl From<SinkFault> for OrMemory<SinkFault> {
     }
 }
 
-/// A device that takes one text: a file, or bytes in memory.
+/// A destination of one text: a file, or bytes in memory.
 pub trait Sink {
-    /// What it tells of itself.
+    /// Its state, as far as it reports it.
     ghost state: { Self → SinkState };
 
-    /// Begins the text. The sink gives up the text that it held, and holds none of the new one yet.
+    /// Begins a new text. The sink drops the text that it held, and holds no byte of the new one yet.
     ///
     /// # Errors
     ///
-    /// The device failed. The sink is as it was, or it was begun and is empty.
+    /// The device failed. The sink is unchanged, or it was begun and is empty.
     fn begin(&mut self) -> Result<(), SinkFault>
         ensures begins { OnOk result (IsWritten [] (state self.old) (state self.new)) }
         ensures refused { OnErr result (IsCutOff 1 [] (state self.old) (state self.new)) };
 
-    /// Takes the first bytes of `bytes`, and answers how many: at least one where there is one.
+    /// Takes the first bytes of `bytes`, and returns their number: at least one if `bytes` is not empty.
     ///
     /// # Errors
     ///

@@ -1,4 +1,4 @@
--- What a CPIT is: its parts.
+-- The parts of a CPIT.
 use Rattle.std.specs.Prelude.{ℕ, ℤ, List}
 use Rattle.plan_parts.specs.declared.limit.Limit.{Limit}
 use Rattle.mine_instance.specs.declared.coefs.coef.Coef.{Coef}
@@ -9,7 +9,7 @@ pub record CpitParts : Type 0 where
   pub rate : ℤ
   pub periods : ℕ
   pub resources : ℕ
-  -- one a block, in units of 100 cents
+  -- one for each block, in units of 100 cents
   pub values : List ℤ
   -- at the only destination, which is 0
   pub coefs : List Coef

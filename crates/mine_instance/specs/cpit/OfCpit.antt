@@ -13,11 +13,11 @@ destination_of values block = first_greatest (slice_index_or values block [])
 abbrev pub is_chosen : List (List ℤ) → Coef → Bool
 is_chosen values c = c.d == destination_of values c.b
 
--- a coefficient as one of the only destination
+-- a coefficient, moved to the only destination
 abbrev pub at_only_destination : Coef → Coef
 at_only_destination c = record c { d = 0 }
 
--- the CPIT of an instance: each block's greatest value, and the coefficients at its destination
+-- the CPIT of an instance: each block's largest value, and the coefficients at its destination
 abbrev pub cpit : Instance → CpitParts
 cpit i = record {
   name = i.name;

@@ -7,7 +7,7 @@ use crate::rising::Ordered;
 use pit_units::Dec;
 use plan_parts::listed::Listed;
 
-/// The tonnes of a block that a resource handles where the block goes to a destination.
+/// The tonnes of a block that a resource handles if the block goes to a destination.
 #[derive(Clone, Copy, Debug, PartialEq, Eq)]
 pub struct Coef {
     /// The identifier of the block.
@@ -16,7 +16,7 @@ pub struct Coef {
     pub d: u8,
     /// The number of the resource, from 0 in the order of the plan.
     pub r: u8,
-    /// The tonnes; in a text that is read any decimal, also below 0.
+    /// The tonnes. In a file that is read, any decimal, also below 0.
     pub v: Dec,
 }
 

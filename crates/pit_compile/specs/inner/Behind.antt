@@ -1,8 +1,8 @@
--- What a run is refused for once its threads are joined.
+-- The errors of a run after its threads are joined.
 use Rattle.refusals.specs.declared.refusal.Refusal.{Refusal}
 use Rattle.refusals.specs.declared.refusal.Refusal.TheVariants.{Settings, NoThread, FeedFailed, TooLong, Row, Same, SinkFailed, OutOfMemory}
 
--- a file, a block or a sink was refused, or memory, and not the settings or a thread
+-- the error concerns a file, a block, a sink or memory, and neither the settings nor a thread start
 abbrev pub IsBehindThreads : Refusal → Type 0
 IsBehindThreads (Settings kind) = ⊥
 IsBehindThreads NoThread = ⊥

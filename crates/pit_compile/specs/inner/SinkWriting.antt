@@ -1,4 +1,4 @@
--- What comes of writing to one sink, as the answer of the run.
+-- The result of writing to one sink, as the result of the run.
 use Rattle.std.specs.Prelude.{Result, Ok, Err}
 use Rattle.minelib_lines.specs.declared.text_name.TextName.{TextName}
 use Rattle.devices.specs.declared.sinks.sink.SinkFault.{SinkFault}
@@ -7,7 +7,7 @@ use Rattle.pit_units.specs.declared.or_memory.OrMemory.TheVariants as write
 use Rattle.refusals.specs.declared.refusal.Refusal.{Refusal}
 use Rattle.refusals.specs.declared.refusal.Refusal.TheVariants.{SinkFailed, OutOfMemory}
 
--- what came of writing to a sink, as the answer of a run
+-- the result of writing to a sink, as the result of a run
 abbrev pub in_sink : TextName → Result (Unit {0}) (OrMemory SinkFault) → Result (Unit {0}) Refusal
 in_sink which (Ok done) = Ok done
 in_sink which (Err (write.Fault fault)) = Err (SinkFailed which)

@@ -1,4 +1,4 @@
--- The recovery that the bands of a heap leach give at a grade.
+-- The recovery of a heap leach at a grade.
 use Rattle.std.specs.Prelude.{ℕ, nat_le, List, filter, None}
 use Rattle.std.specs.List.{last_or}
 use Rattle.std.specs.Option.{option_map_or}

@@ -1,14 +1,14 @@
--- What is made ready before the first thread starts.
+-- What is allocated before the first thread starts.
 use Rattle.std.specs.Prelude.{◌≡◌, ℕ, ◌≤◌, [], vec_capacity}
 use Rattle.std.specs.Global.{Vec}
 use Rattle.run_threads.specs.declared.result_room.ResultRoom.{ResultRoom}
 
--- an empty list with room for so many
+-- an empty list with capacity for `count` items
 pub record HasRoom {A : Type 0} (count : ℕ) (list : Vec A) : Type 0 where
   pub empty : list.items ≡ []
   pub room : count ≤ vec_capacity list
 
--- lists with room for what the readers of so many files and so many valuers give back
+-- lists with capacity for the results of the readers and the valuers
 pub record IsRoomFor (files valuers : ℕ) (room : ResultRoom) : Type 0 where
   pub reads : HasRoom files room.reads
   pub ended : HasRoom files room.ended

@@ -6,21 +6,21 @@ use Rattle.lane.specs.Ends.{Lane}
 use Rattle.plan_parts.specs.Plan.{PlanParts}
 use Rattle.run_threads.specs.Starts.{StartsView, AreSettled, AreSpent, AreTooFew, IsInOrder}
 
--- after a start that was made, or refused
+-- after a start that succeeded, or was refused
 abbrev pub after_start : Bool → StartsView → StartsView
 after_start true starts = record starts { spent = starts.spent + 1 }
 after_start false starts = record starts { refused = true }
 
--- after that of a reader
+-- after the start of a reader that succeeded, or was refused
 abbrev pub after_reader : Bool → StartsView → StartsView
 after_reader true starts = record starts { spent = starts.spent + 1; readers = starts.readers + 1 }
 after_reader false starts = record starts { refused = true }
 
--- after so many threads more, and whether a further start was refused
+-- after `count` more starts; `refused` says whether a further start was refused
 abbrev pub after_starts : ℕ → Bool → StartsView → StartsView
 after_starts count refused starts = record starts { spent = starts.spent + count; refused = refused }
 
--- after so many readers more
+-- the same for readers
 abbrev pub after_readers : ℕ → Bool → StartsView → StartsView
 after_readers count refused starts = record starts { spent = starts.spent + count; readers = starts.readers + count; refused = refused }
 
@@ -28,11 +28,11 @@ after_readers count refused starts = record starts { spent = starts.spent + coun
 abbrev pub after_join : StartsView → StartsView
 after_join starts = record starts { joined = starts.joined + 1 }
 
--- after so many joins
+-- after `count` joins
 abbrev pub after_joins : ℕ → StartsView → StartsView
 after_joins count starts = record starts { joined = starts.joined + count }
 
--- threads that were started one after the other under one plan, each at one of the given ends, until a start was refused
+-- threads started one after the other under one plan, each with one of these ends of the lane, until a start was refused
 pub record AreStarted {H E : Type 0} (end : H → E) (lane : E → Lane) (plan : H → PlanParts) (own : PlanParts)
     (given : Vec E) (handles : Vec H) (refused : Bool) : Type 0 where
   pub ends : IsFalse refused → map end handles.items ≡ given.items
@@ -42,7 +42,7 @@ pub record AreStarted {H E : Type 0} (end : H → E) (lane : E → Lane) (plan :
   pub short : IsTrue refused → vec_len handles < vec_len given
   pub whole : IsFalse refused → vec_len handles ≡ vec_len given
 
--- what becomes of the starts within a scope, where so many valuers, and then so many files, need a thread each, by what is answered
+-- the starts before and after a scope with one thread for each valuer and for each file, for what it returns
 pub record StartsInScope {A B : Type 0} (valuers files : ℕ) (old new : StartsView) (answer : Result A B) : Type 0 where
   pub started : IfOk answer (λ _. AreSpent (valuers + files) new)
   pub refused : IfErr answer (λ _. AreTooFew (valuers + files) new)

@@ -1,5 +1,5 @@
-//! The end of a run's threads where one was refused. What each step needs is made by the step before it alone: Quits are sent behind the
-//! readers, and valuers are joined behind their Quits.
+//! The end of a run's threads after a refused start. Each step needs a value that only the step before it makes: Quits are sent after the
+//! readers are joined, and valuers are joined after their Quits are sent.
 
 ghost use Rattle.std.specs.Prelude.{◌≡◌, ◌+◌, ◌≤◌, vec_len};
 ghost use Rattle.std.specs.List.{All};
@@ -11,20 +11,20 @@ use lane::{Closer, GivenUp, LaneEnded};
 use std::sync::Wait;
 use std::thread::{Promise, PromisedHandle, Threads};
 
-/// That threads were joined. What they gave back is dropped.
+/// Proof that threads were joined. Their results are dropped.
 #[derive(Drop)]
 pub struct Joined {
     _joined: (),
 }
 
-/// The Quits that were sent behind the readers, and how many valuers were joined behind these.
+/// The Quits that were sent after the readers were joined, and the number of valuers that were joined after these.
 #[derive(Drop)]
 pub struct GaveUp {
     pub quits: GivenUp,
     pub valuers: usize,
 }
 
-/// Joins each thread, behind what it may be joined behind.
+/// Joins each thread. `behind` is the part of the lane that must exist before.
 pub fn join_each<'s, E, T: Threads, A: Drop, P: Promise<A> + RunPromise>(
     starter: &mut Starter<'s, E, T>,
     handles: Vec<PromisedHandle<A, P>>,
@@ -40,7 +40,7 @@ pub fn join_each<'s, E, T: Threads, A: Drop, P: Promise<A> + RunPromise>(
     Joined { _joined: () }
 }
 
-/// Sends a Quit for each of so many valuers.
+/// Sends a Quit for each of `valuers` valuers.
 pub fn quit_each<R: Wait>(rt: &R, closer: Closer, _readers: &Joined, valuers: usize) -> GivenUp
     requires { valuers ≤ closer.takers }
     ensures lane { result.lane ≡ closer.lane }
@@ -49,7 +49,7 @@ pub fn quit_each<R: Wait>(rt: &R, closer: Closer, _readers: &Joined, valuers: us
     closer.quit(rt, valuers as u8)
 }
 
-/// Joins the valuers, for each of which a Quit was sent into their lane.
+/// Joins the valuers, after a Quit for each of them was sent into their lane.
 pub fn join_behind<'s, E, T: Threads>(
     starter: &mut Starter<'s, E, T>,
     quits: GivenUp,

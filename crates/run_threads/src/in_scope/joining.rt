@@ -1,4 +1,4 @@
-//! Joining threads, and parting what they give back.
+//! Joins threads, and splits their results.
 
 ghost use Rattle.std.specs.Prelude.{◌≡◌, ◌+◌, ◌≤◌, map, vec_len};
 ghost use Rattle.std.specs.List.{All, AllZip, list_any};
@@ -13,7 +13,7 @@ use rows::PackedItems;
 use std::thread::{Promise, PromisedHandle, Threads};
 use valuers::ValuerResult;
 
-/// Joins each thread, behind what it may be joined behind, and gives what they gave back, in their order.
+/// Joins each thread and returns their results in order. `behind` is the part of the lane that must exist before.
 pub fn join_all<'s, E, T: Threads, A: Drop, P: Promise<A> + RunPromise>(
     starter: &mut Starter<'s, E, T>,
     handles: Vec<PromisedHandle<A, P>>,
@@ -33,7 +33,7 @@ pub fn join_all<'s, E, T: Threads, A: Drop, P: Promise<A> + RunPromise>(
     results
 }
 
-/// The ended puts of files that were read, and the readers' answers.
+/// Splits the results of readers into ended put ends and results of reading.
 pub fn split_reads(
     reads: Vec<FileRead>,
     mut ended: Vec<EndedPut>,
@@ -52,7 +52,7 @@ pub fn split_reads(
     (ended, answers)
 }
 
-/// The take ends of valuers and what they hand on, and whether memory was refused to one of them.
+/// Splits the results of valuers into take ends and items, and returns whether one of them was refused memory.
 pub fn split_values(
     values: Vec<ValuerResult<PackedItems>>,
     mut takers: Vec<TakeEnd>,

@@ -1,4 +1,4 @@
-//! A run whose threads were all started.
+//! A run whose threads have all started.
 
 ghost use Rattle.std.specs.Prelude.{◌≡◌, map, vec_len};
 ghost use Rattle.std.specs.List.{All};
@@ -12,14 +12,14 @@ use lane::Closer;
 use plan_parts::plan::Plan;
 use std::snapshot::Snapshot;
 
-/// A run whose threads were all started. They have all ends of the lane, under one plan, and there is room for what each of them gives back.
+/// A run whose threads have all started. They hold all ends of the lane, work by one plan, and there is capacity for their results.
 #[derive(Drop)]
 pub struct Running<F: Feed> {
     pub closer: Closer,
     pub readers: Vec<ReaderHandle<F>>,
     pub valuers: Vec<ValuerHandle>,
     pub room: ResultRoom,
-    /// Contracts alone see it.
+    /// The plan, for contracts alone.
     pub plan: Snapshot<Plan>,
     pub ghost ends: { map (λ h. h.promise.end.value) readers.items
         ≡ first_puts closer.lane 0 closer.files },

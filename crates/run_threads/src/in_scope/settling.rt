@@ -1,4 +1,4 @@
-//! The end of a run's threads: all joined, with what they hand over or without.
+//! The end of a run's threads: all are joined, with their results or without.
 
 ghost use Rattle.std.specs.Prelude.{◌≡◌, ◌+◌, ◌≤◌, map, vec_len};
 ghost use Rattle.std.specs.List.{All};
@@ -17,7 +17,7 @@ use lane::{Closer, LaneEnded};
 use std::sync::Wait;
 use std::thread::Threads;
 
-/// Joins the readers, stops the lane, joins the valuers, and gathers what they hand over.
+/// Joins the readers, stops the lane, joins the valuers, and gathers their results.
 pub fn settle<'s, E, T: Threads, R: Wait, F: Feed>(
     starter: &mut Starter<'s, E, T>,
     rt: &R,
@@ -26,7 +26,7 @@ pub fn settle<'s, E, T: Threads, R: Wait, F: Feed>(
     requires unjoined { starter.old.joined + (vec_len running.readers + vec_len running.valuers)
         ≤ starter.old.spent }
 
-    // What they hand over of the feeds that the readers were given, and that each of them is joined.
+    // These are the results for the feeds that the readers received, and each thread is joined.
     ensures handed { let given = map (λ h. h.promise.feed.value) running.readers.items in
         IsHandedOver F.left F.is_sure F.failures running.plan.value given
         running.closer.takers running.closer.lane.2 result given }
@@ -62,8 +62,8 @@ pub fn settle<'s, E, T: Threads, R: Wait, F: Feed>(
     }
 }
 
-/// Ends the threads that were started, of a run that was refused one: the readers first, since each of them waits for the valuers to take
-/// what it puts, and then the valuers, each of which waits for a message.
+/// Ends the threads of a run after a refused start. The readers end first, since they wait for the valuers to take their rows; then the
+/// valuers, since they wait for messages.
 pub fn give_up<'s, E, T: Threads, R: Wait, F: Feed>(
     starter: &mut Starter<'s, E, T>,
     rt: &R,

@@ -21,7 +21,7 @@ use std::snapshot::Snapshot;
 use std::sync::Wait;
 use valuers::{Gate, PackedItems, ValuerResult, value_packed};
 
-/// The threads that were started, in order, and whether a further start was refused.
+/// The started threads in order, and whether a further start was refused.
 #[derive(Drop)]
 pub struct Started<H> {
     pub handles: Vec<H>,

@@ -1,4 +1,4 @@
-//! A valuer on one thread, and one beside a reader.
+//! Tests of a valuer on one thread, and of a valuer with a reader.
 
 ghost use Rattle.std.specs.Prelude.{◌≡◌, ◌≤◌, ◌^◌, true, [], IfOk, length};
 ghost use Rattle.lane.specs.MessageKinds.{is_done};
@@ -77,7 +77,7 @@ fn put_two<R: Wait>(rt: &R, closer: Closer, mut put: PutEnd, first: Block, secon
     closer.quit(rt, 1);
 }
 
-// The take end of a lane that holds two rows, the end mark and a Quit.
+// Returns the take end of a lane that holds two rows, the end mark and a Quit.
 fn two_rows<R: Wait>(rt: &R, alloc: Global) -> Result<TakeEnd, Fail> {
     let second = Block::new(10, 0, 0, 2_700_000, 0, 0).ok_or("a block")?;
     let first = ore()?;
@@ -88,7 +88,7 @@ fn two_rows<R: Wait>(rt: &R, alloc: Global) -> Result<TakeEnd, Fail> {
     Ok(take)
 }
 
-// Whether the items of two rows and an end mark are three and the same, packed and as they are.
+// Returns whether two rows and an end mark give the same three items, packed and unpacked.
 fn packs_the_items<R: Wait>(
     rt: &R,
     alloc: Global,
@@ -106,7 +106,7 @@ fn packs_the_items<R: Wait>(
     Ok(same)
 }
 
-// The same, of rows of so many worths: one for each of so many mills.
+// Does the same for rows with `count` worths, one for each of `count` mills.
 fn packs_worths<R: Wait>(rt: &R, alloc: Global, count: u64) -> Result<bool, Fail>
     requires { count ≤ 8 }
 {
@@ -148,8 +148,8 @@ fn put_six<R: Wait>(
     stop_one(rt, alloc, closer, ended)
 }
 
-// The number of rows that are gathered, how many items the valuer holds and whether it was refused memory, over a lane of one place whose
-// reader puts six rows while the valuer takes into a list in a heap of so many bytes, packed or not.
+// Runs a reader that puts six rows through a lane of capacity 1, and a valuer whose list is in a heap of `bytes` bytes, packed or not. Returns
+// the number of gathered rows, the number of the valuer's items, and whether it was refused memory.
 fn handed_on<R: Threads + Wait + Sync>(
     rt: &R,
     alloc: Global,
@@ -186,7 +186,7 @@ fn handed_on<R: Threads + Wait + Sync>(
     Ok((gathered.rows(), count, memory))
 }
 
-// Takes all into a list in a heap of so many bytes, and gives how many items are in it and whether it was refused memory.
+// Takes all messages into a list in a heap of `bytes` bytes. Returns the number of items, and whether memory was refused.
 fn take_into_heap<R: Wait>(
     rt: &R,
     alloc: Global,
@@ -211,8 +211,8 @@ fn take_into_heap<R: Wait>(
     Ok((take, items.len(), memory))
 }
 
-// Memory is refused for the first item, or for the fifth, or for none: the reader ends, all is gathered, and the items are those before.
-// A packed list is refused memory for items or, with 112 bytes, for worths.
+// Memory is refused for the first item, for the fifth, or for none. The reader always ends, all rows are gathered, and the items before the
+// refusal are kept. A packed list is refused memory for items or, with 112 bytes, for worths.
 #[test]
 fn growth_refused(rt: HostRuntime) -> Result<(), Fail> {
     let alloc = rt.alloc();

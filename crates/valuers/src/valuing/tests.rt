@@ -1,4 +1,4 @@
-//! The worths that the stored closures answer.
+//! Tests of the worths that the stored closures return.
 
 ghost use Rattle.std.specs.Prelude.{◌≡◌, ◌≤◌, ◌^◌};
 ghost use Rattle.plan_parts.specs.formulas.Worth.{dump};
@@ -13,7 +13,7 @@ use std::sync::Arc;
 use std::sync::atomic::{AtomicU64, Ordering};
 use std::test::Fail;
 
-// A dump at so many cents a tonne, and how often its closure was asked.
+// Returns a dump at `cost` cents per tonne, and the counter of calls of its closure.
 fn counting_dump(alloc: Global, cost: u64) -> Result<(Destination, Arc<AtomicU64>), Fail>
     requires { cost ≤ 10 ^ 7 }
 {
