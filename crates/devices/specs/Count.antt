@@ -1,4 +1,4 @@
--- The number that a count stands for.
+-- The number that a count represents.
 use Rattle.std.specs.Prelude.{ℕ, ◌+◌}
 use Rattle.devices.specs.declared.count.Count.{Count, Zero, More'}
 

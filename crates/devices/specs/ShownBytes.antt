@@ -1,4 +1,4 @@
--- The bytes that contracts are shown.
+-- Bytes for contracts alone.
 use Rattle.std.specs.Prelude.{ℕ, List, [], ◌∷◌, ◌++◌}
 use Rattle.devices.specs.declared.shown_bytes.ShownBytes.{ShownBytes}
 use Rattle.devices.specs.declared.shown_bytes.ShownBytes.TheVariants.{None, More'}

@@ -1,18 +1,18 @@
-//! A count that no run brings to an end.
+//! A count without a limit, for contracts alone.
 
 ghost use Rattle.std.specs.Prelude.{◌≡◌, ◌+◌};
 ghost use Rattle.devices.specs.Count.{count_of};
 
 use std::snapshot::Snapshot;
 
-/// A whole number for contracts alone. It takes no memory, and there is always a greater one.
+/// An integer for contracts alone. It uses no memory, and there is always a larger one.
 #[derive(Drop)]
 pub enum Count {
     Zero,
     More(usize, Snapshot<Count>),
 }
 
-/// The count and `more`.
+/// Returns the count plus `more`.
 pub fn raised(count: &Count, more: usize) -> Count
     ensures { count_of result ≡ count_of count.now + more }
 {

@@ -1,4 +1,4 @@
-//! Feeds: devices that give bytes, and a feed read whole.
+//! Feeds, which give bytes, and reading a feed to its end.
 
 pub mod feed;
 pub mod file_feed;

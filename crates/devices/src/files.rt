@@ -1,4 +1,4 @@
-//! Files by their paths: which of them are opened and created, and nothing else that a system can do with them.
+//! Opens and creates files by their paths, and does nothing else with files.
 
 pub mod asked;
 pub mod file_access;

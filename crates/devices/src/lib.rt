@@ -1,5 +1,5 @@
-//! Devices that give bytes and devices that take a text, as files or bytes in memory; a feed read whole, and a text written whole in
-//! large slices.
+//! Feeds that give bytes and sinks that take a text, as files or bytes in memory. Reads a feed whole, and writes a text whole in large
+//! slices.
 #![tactic(auto)]
 
 pub mod count;

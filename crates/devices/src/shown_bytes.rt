@@ -1,18 +1,18 @@
-//! Bytes that contracts are shown.
+//! Bytes for contracts alone.
 
 ghost use Rattle.std.specs.Prelude.{◌≡◌};
 ghost use Rattle.devices.specs.ShownBytes.{bytes_of};
 
 use std::snapshot::Snapshot;
 
-/// Bytes for contracts alone, such as the path that a file was opened by. They take no memory.
+/// Bytes for contracts alone, such as the path by which a file was opened. They use no memory.
 #[derive(Drop)]
 pub enum ShownBytes {
     None,
     More(u8, Snapshot<ShownBytes>),
 }
 
-/// These bytes.
+/// Shows these bytes to contracts.
 pub fn shown(bytes: &[u8]) -> ShownBytes
     ensures { bytes_of result ≡ bytes.now }
 {

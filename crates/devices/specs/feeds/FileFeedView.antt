@@ -1,12 +1,12 @@
--- What is known of a feed of an open file.
+-- What contracts see of a feed of an open file.
 use Rattle.std.specs.Prelude.{ℕ, List, Option}
 
 pub record FileFeedView : Type 0 where
-  -- the path that it was opened by
+  -- the path by which it was opened
   pub path : List ℕ
-  -- the bytes that reads will give, where the file tells them, which a real file does not
+  -- the bytes that reads will give, if the file reports them; a file of the system does not
   pub left : Option (List ℕ)
-  -- how many bytes it gave
+  -- the number of bytes that it gave
   pub given : ℕ
-  -- how many pulls it refused
+  -- the number of pulls that it refused
   pub failures : ℕ

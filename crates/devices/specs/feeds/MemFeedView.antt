@@ -1,27 +1,27 @@
--- What a feed of bytes in memory still gives, and which of its pulls fails.
+-- What contracts see of a feed of bytes in memory: the bytes left, and the pull that fails.
 use Rattle.std.specs.Prelude.{ℕ, ◌+◌, List, length, drop, min, Bool, ◌==◌, nat_lt, nat_le, ◌&&◌, if◌then◌else◌}
 
 pub record MemFeedView : Type 0 where
-  -- the bytes that are still to be given
+  -- the bytes that are left
   pub left : List ℕ
-  -- how many bytes were given
+  -- the number of bytes that it gave
   pub given : ℕ
-  -- how many bytes a pull gives at most
+  -- the largest number of bytes that a pull gives
   pub step : ℕ
-  -- the number of the pull that fails, counted from 1; 0 where none does
+  -- the number of the pull that fails, counted from 1, or 0 if none does
   pub failing : ℕ
-  -- how many pulls there were, counted up to the one that fails
+  -- the number of pulls so far, counted up to the failing one
   pub pulls : ℕ
 
--- a supply that was not pulled yet
+-- a feed that was not pulled yet
 abbrev pub fresh : List ℕ → (step failing : ℕ) → MemFeedView
 fresh bytes step failing = record { left = bytes; given = 0; step = step; failing = failing; pulls = 0 }
 
--- how many bytes a pull gives to a buffer of this length, where it does not fail
+-- the number of bytes that a pull gives to a buffer of this length, if it does not fail
 abbrev pub pull_count : MemFeedView → ℕ → ℕ
 pull_count s room = min (min room s.step) (length s.left)
 
--- the supply after one more pull, which gave n bytes
+-- the feed after one more pull, which gave n bytes
 abbrev pub after_pull : MemFeedView → ℕ → MemFeedView
 after_pull s n =
     record { left = drop n s.left; given = s.given + n; step = s.step; failing = s.failing; pulls = min (s.pulls + 1) s.failing }
@@ -30,6 +30,6 @@ after_pull s n =
 abbrev pub never_fails : MemFeedView → Bool
 never_fails s = s.failing == 0
 
--- how many pulls failed: one, once the pulls have come to it
+-- the number of pulls that failed: one, after that pull
 abbrev pub failures_of : MemFeedView → ℕ
 failures_of s = if nat_lt 0 s.failing && nat_le s.failing s.pulls then 1 else 0

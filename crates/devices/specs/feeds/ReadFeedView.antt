@@ -1,10 +1,10 @@
--- What is known of a file, or of another input, that gives its bytes.
+-- What contracts see of a feed of an input, such as standard input.
 use Rattle.std.specs.Prelude.{ℕ, List, Option}
 
 pub record ReadFeedView : Type 0 where
-  -- the bytes that reads will give, where the input tells them, which a real file does not
+  -- the bytes that reads will give, if the input reports them; an input of the system does not
   pub left : Option (List ℕ)
-  -- how many bytes it gave
+  -- the number of bytes that it gave
   pub given : ℕ
-  -- how many pulls it refused
+  -- the number of pulls that it refused
   pub failures : ℕ

@@ -1,17 +1,16 @@
--- What becomes of a feed that is read to its end.
+-- A feed before and after it is read to its end.
 use Rattle.std.specs.Prelude.{◌≡◌, ◌≢◌, ℕ, ◌+◌, ◌-◌, ◌<◌, ◌≤◌, Bool, List, [], length, Option, Result, Err, IfErr, IfSome, IsTrue, OnOk}
 use Rattle.devices.specs.feeds.FeedSteps.{left_after}
 use Rattle.devices.specs.declared.feeds.slurp.SlurpFault.{SlurpFault}
 use Rattle.devices.specs.declared.feeds.slurp.SlurpFault.TheVariants.{FeedFailed, TooLong, OutOfMemory}
 
--- by what it had left, where it tells that, and by how many bytes it gave and how many pulls it refused, before and now: this is its text, it
--- gave no byte behind it, and refused no pull
+-- this is the text of the feed: the bytes that it had left, if it reported them. It gave these bytes and no more, and refused no pull
 pub record IsReadWhole (left : Option (List ℕ)) (given given_now failures failures_now : ℕ) (text : List ℕ) : Type 0 where
   pub whole : IfSome left (λ bytes. text ≡ bytes)
   pub counts : given_now ≡ given + length text
   pub works : failures_now ≡ failures
 
--- when each fault comes, by the same
+-- what holds after each error of reading
 pub record FailsAsFed (left : Option (List ℕ)) (limit given given_now failures failures_now : ℕ) (fault : SlurpFault) : Type 0 where
   pub failed : fault ≡ FeedFailed → failures_now ≡ failures + 1
   pub failed_first : fault ≡ FeedFailed → given_now ≤ given + limit
@@ -21,8 +20,8 @@ pub record FailsAsFed (left : Option (List ℕ)) (limit given given_now failures
   pub memory_works : fault ≡ OutOfMemory → failures_now ≡ failures
   pub memory_first : fault ≡ OutOfMemory → given_now ≤ given + limit
 
--- that it is used up where it was read, when each fault comes, and how much was read, where the call answers so: by what it had and has left,
--- whether it was sure, what it gave, and how many pulls it refused
+-- what a call that reads the whole feed does, for its result: after `Ok` no byte is left, after an error its reason holds, and the number
+-- of bytes read is bounded. `left`, `is_sure`, `given` and `failures` are the ghost members of the feed
 pub record ReadsFeed {F A : Type 0} (left : F → Option (List ℕ)) (is_sure : F → Bool) (given failures : F → ℕ) (limit : ℕ) (old new : F)
     (answer : Result A SlurpFault) : Type 0 where
   pub used_up : OnOk answer (IfSome (left new) (λ bytes. bytes ≡ []))
@@ -30,7 +29,7 @@ pub record ReadsFeed {F A : Type 0} (left : F → Option (List ℕ)) (is_sure : 
   pub works : OnOk answer (failures new ≡ failures old)
   pub refused : IfErr answer (FailsAsFed (left old) limit (given old) (given new) (failures old) (failures new))
   pub sure : IsTrue (is_sure old) → answer ≢ Err FeedFailed
-  -- whatever is answered
+  -- for every result
   pub onward : given old ≤ given new
   pub reads : given new ≤ given old + (limit + 1)
   pub stands : left new ≡ left_after (given new - given old) (left old)

@@ -1,4 +1,4 @@
--- What was asked of a system, as contracts are shown it: which files were to be opened, and which slots were made.
+-- What contracts see of the calls to a system: the files that were to be opened, and the slots that were made.
 use Rattle.std.specs.Prelude.{ℕ, List, [], ◌∷◌, ◌++◌, Option}
 use Rattle.devices.specs.ShownBytes.{bytes_of}
 use Rattle.devices.specs.files.Opening.{Opening, Opened, Unopened}
@@ -7,7 +7,7 @@ use Rattle.devices.specs.declared.files.asked.Asked.TheVariants as asked
 use Rattle.devices.specs.declared.files.asked.Made.{Made}
 use Rattle.devices.specs.declared.files.asked.Made.TheVariants as made
 
--- the openings, where files tell their bytes in this way
+-- the openings; the function gives the bytes that a file reports
 abbrev pub openings_of : {F : Type 0} → (F → Option (List ℕ)) → Asked F → List Opening
 openings_of told asked.Nothing = []
 openings_of told (asked.Opened' path file marker before) =

@@ -1,22 +1,22 @@
--- What a sink in memory took, and which of its calls fails.
+-- What contracts see of a sink in memory: the bytes that it took, and the call that fails.
 use Rattle.std.specs.Prelude.{◌≡◌, ℕ, ◌+◌, ◌≤◌, List, [], min, Bool, false}
 
 pub record MemSinkView : Type 0 where
   pub begun : Bool
-  -- the bytes taken since
+  -- the bytes taken since it was begun
   pub bytes : List ℕ
-  -- for how many bytes it has room without taking memory
+  -- the number of bytes that it can hold without allocating memory
   pub room : ℕ
-  -- the most bytes that one put takes
+  -- the largest number of bytes that one put takes
   pub step : ℕ
-  -- the number of the call that fails, counted from 1; 0 where none does
+  -- the number of the call that fails, counted from 1, or 0 if none does
   pub failing : ℕ
-  -- how many calls there were, counted up to the one that fails
+  -- the number of calls so far, counted up to the failing one
   pub calls : ℕ
-  -- how many calls failed, that one and those that were refused memory
+  -- the number of calls that failed: that one, and calls whose memory was refused
   pub failures : ℕ
 
--- a sink that was not called yet: one put takes `most` bytes at most, and the `nth` call fails
+-- a sink that was not called yet; one put takes at most `most` bytes, and the `nth` call fails
 pub record IsFresh (most nth : ℕ) (t : MemSinkView) : Type 0 where
   pub begun : t.begun ≡ false
   pub bytes : t.bytes ≡ []
@@ -25,11 +25,11 @@ pub record IsFresh (most nth : ℕ) (t : MemSinkView) : Type 0 where
   pub calls : t.calls ≡ 0
   pub failures : t.failures ≡ 0
 
--- the call after those of the tray is the one that fails
+-- the next call is the one that fails
 abbrev pub FailsNext : MemSinkView → Type 0
 FailsNext t = t.calls + 1 ≡ t.failing
 
--- the sink after one more call: whether it is begun, what it holds, and how many calls failed
+-- the sink after one more call: whether it is begun, the bytes that it holds, and the number of calls that failed
 pub record IsCalled (is_begun : Bool) (held : List ℕ) (failed : ℕ) (old new : MemSinkView) : Type 0 where
   pub begun : new.begun ≡ is_begun
   pub bytes : new.bytes ≡ held
@@ -39,6 +39,6 @@ pub record IsCalled (is_begun : Bool) (held : List ℕ) (failed : ℕ) (old new 
   pub calls : new.calls ≡ min (old.calls + 1) old.failing
   pub failures : new.failures ≡ failed
 
--- the call failed: the sink is as it was, with one failure more
+-- the call failed: the sink is unchanged, except for one more failure
 abbrev pub HasFailed : (old new : MemSinkView) → Type 0
 HasFailed old new = IsCalled old.begun old.bytes (old.failures + 1) old new

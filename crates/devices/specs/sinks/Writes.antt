@@ -1,4 +1,4 @@
--- What a writer did to a sink, by its answer.
+-- What a writer did to a sink, for each result.
 use Rattle.std.specs.Prelude.{◌<◌, ℕ, List, length, Result, MatchResult}
 use Rattle.devices.specs.sinks.SinkState.{SinkState, IsWritten, IsCutOff}
 use Rattle.devices.specs.sinks.SinkSteps.{refusals, IsAppended, IsAppendCut}
@@ -6,21 +6,21 @@ use Rattle.devices.specs.declared.sinks.slices.TheConstants.{LARGE}
 use Rattle.devices.specs.declared.sinks.sink.SinkFault.{SinkFault}
 use Rattle.pit_units.specs.declared.or_memory.OrMemory.{OrMemory}
 
--- on `Ok` the sink has the text; else it was cut off, and refused as many calls as the fault says
+-- after `Ok`, the sink holds the text. After an error, it was cut off, and refused the number of calls that the error implies
 abbrev pub Writes : List ℕ → SinkState → SinkState → Result (Unit {0}) (OrMemory SinkFault) → Type 0
 Writes text old new result =
     MatchResult result (λ _. IsWritten text old new) (λ fault. IsCutOff (refusals fault) text old new)
 
--- the buffer is not full: it holds fewer bytes than are put at once
+-- the buffer is not full: it holds fewer bytes than one put
 abbrev pub HasRoom : List ℕ → Type 0
 HasRoom buffer = length buffer < LARGE
 
--- the text was written on, behind what the buffer held, and a buffer that was not full is not full now
+-- the text was written after the bytes that the buffer held; a buffer that was not full is not full now
 pub record IsWrittenOn (text before after : List ℕ) (old new : SinkState) : Type 0 where
   pub appended : IsAppended text before after old new
   pub room : HasRoom before → HasRoom after
 
--- on `Ok` the text was written on; else it was cut short
+-- after `Ok`, the text was written; after an error, writing was cut short
 abbrev pub WritesOn : List ℕ → List ℕ → List ℕ → SinkState → SinkState → Result (Unit {0}) (OrMemory SinkFault) → Type 0
 WritesOn text before after old new result =
     MatchResult result (λ _. IsWrittenOn text before after old new)

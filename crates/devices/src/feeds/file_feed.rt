@@ -12,8 +12,8 @@ use std::io::Read;
 use std::marker::Model;
 use std::snapshot::Snapshot;
 
-/// A feed of an open file, from the byte where the file stands. It tells which bytes it will give as far as the file does, and no file
-/// of a system does; any pull may fail. It takes no memory.
+/// A feed of an open file, from the file's current position. It reports the bytes that it has left if the file does, and no file of a
+/// system does. Any pull may fail. It allocates no memory.
 #[derive(Drop)]
 pub struct FileFeed<F: Read + AtPath> {
     file: ReadFeed<F>,
@@ -39,11 +39,11 @@ impl<F: Read + AtPath> Model for FileFeed<F> {
 }
 
 impl<F: Read + AtPath + Drop> FileFeed<F> {
-    /// A feed of the file at this path, from its first byte. No other file is opened.
+    /// Opens the file at this path as a feed, from its first byte. Opens no other file.
     ///
     /// # Errors
     ///
-    /// The file cannot be opened. Where the system opens a folder as a file, each pull of it fails.
+    /// The file cannot be opened. If the system opens a folder as a file, each pull fails.
     pub fn open<A: FileAccess<File = F>>(
         files: &mut A,
         path: &str,
@@ -77,20 +77,20 @@ impl<F: Read + AtPath + Drop> Feed for FileFeed<F> {
 
     ghost is_sure = { λ _. false };
 
-    /// Gives what one read of the file gives. A read that a signal interrupts is tried again.
+    /// Gives the bytes of one read of the file. Repeats a read that a signal interrupts.
     fn pull(&mut self, buffer: &mut [u8]) -> Result<usize, FeedFault>
-        // What the file did.
+        // The effect on the file.
         ensures path { self.new.path ≡ self.old.path }
         ensures reads { ReadConsumes self.old.left self.new.left result buffer.new }
 
-        // On success its next bytes stand at the buffer's front.
+        // After success, the buffer starts with the next bytes.
         ensures within { IfOk result (λ n. n ≤ length buffer.old) }
         ensures gives { IfOk result
             (λ n. self.old.left ≡ put_back (take n buffer.new) self.new.left) }
         ensures end { IfOk result
             (λ n. n ≡ 0 → 0 < length buffer.old → IfSome self.old.left (λ bytes. bytes ≡ [])) }
 
-        // What it gave and refused is counted, and on failure nothing was given.
+        // Given bytes and refused pulls are counted. After an error, no byte was given.
         ensures pulls { IsPulled (λ f. f.left) (λ _. false) (λ f. f.given) (λ f. f.failures)
             self.old self.new result }
     {

@@ -1,4 +1,4 @@
-//! A buffer that a feed fills.
+//! Fills a buffer from a feed.
 
 ghost use Rattle.std.specs.Prelude.{◌≡◌, ◌+◌, ◌<◌, ◌≤◌, ◌^◌, [], length, max, take, vec_len, IfOk, OnOk, IfSome};
 ghost use Rattle.devices.specs.declared.feeds.filling.TheConstants.{CHUNK};
@@ -8,11 +8,11 @@ ghost use Rattle.devices.specs.feeds.Feed.{IsPulled};
 use crate::feeds::feed::{Feed, FeedFault};
 use std::alloc::AllocError;
 
-/// The most by which a buffer is made longer at a time, in bytes.
+/// The largest number of bytes by which a buffer grows at a time.
 pub const CHUNK: usize = 262_144;
 
-/// Leaves room for a byte behind the first `filled`, within the first `most`. Memory of the list doubles, so that a long feed is copied a
-/// bounded number of times, and is written no further than the next bytes go. Where memory is refused the list is as it was.
+/// Makes room for a byte after the first `filled`, within the first `most`. The capacity doubles, so that a long feed is copied a bounded
+/// number of times; bytes are initialised only as far as the next read needs. If memory is refused, the list is unchanged.
 pub fn make_room(bytes: &mut Vec<u8>, filled: usize, most: usize) -> Result<(), AllocError>
     requires filled { filled ≤ vec_len bytes.old }
     requires within { vec_len bytes.old ≤ most }
@@ -31,7 +31,7 @@ pub fn make_room(bytes: &mut Vec<u8>, filled: usize, most: usize) -> Result<(), 
     Ok(())
 }
 
-/// One pull of at most `most` bytes into a buffer, behind its first `filled`. Where the device fails no byte was given.
+/// Pulls at most `most` bytes into a buffer, after its first `filled`. If the device fails, no byte was given.
 #[tactic(auto, using(crate::proofs::Giving::gave_behind))]
 pub fn pull_behind<F: Feed>(
     feed: &mut F,
@@ -42,7 +42,7 @@ pub fn pull_behind<F: Feed>(
     requires room { filled < length buffer.old }
     requires some { 0 < most }
 
-    // On success the next bytes stand behind the filled ones, which stay.
+    // After success, the next bytes follow the filled ones, which are unchanged.
     ensures most { IfOk result (λ count. count ≤ most) }
     ensures within { IfOk result (λ count. filled + count ≤ length buffer.new) }
     ensures gave { IfOk result (λ count. GaveBehind count filled buffer.old buffer.new
@@ -51,7 +51,7 @@ pub fn pull_behind<F: Feed>(
     ensures end { IfOk result (λ count. count ≡ 0
         → IfSome (F.left feed.old) (λ bytes. bytes ≡ [])) }
 
-    // What the feed gave and refused is counted, and on failure nothing was given.
+    // Given bytes and refused pulls are counted. After an error, no byte was given.
     ensures pulls { IsPulled F.left F.is_sure F.given F.failures feed.old feed.new result }
 {
     let end = filled + most.min(buffer.len() - filled);

@@ -6,7 +6,7 @@ ghost use Rattle.devices.specs.feeds.MemFeedView.{MemFeedView, fresh, pull_count
 use crate::feeds::feed::{Feed, FeedFault};
 use std::marker::Model;
 
-/// A feed of bytes in memory. No call of it takes memory.
+/// A feed of bytes in memory. It allocates no memory.
 #[derive(Drop)]
 pub struct MemFeed {
     bytes: Vec<u8>,
@@ -34,14 +34,14 @@ impl Model for MemFeed {
 }
 
 impl MemFeed {
-    /// A feed that gives `bytes` and never fails.
+    /// Makes a feed that gives `bytes` and never fails.
     pub fn new(bytes: Vec<u8>) -> MemFeed
         ensures { result ≡ fresh bytes.items usize.MAX 0 }
     {
         MemFeed::fresh(bytes, usize::MAX, 0)
     }
 
-    /// A feed that gives `bytes`, and whose `nth` pull alone fails, counted from 1.
+    /// Makes a feed that gives `bytes`. Only its `nth` pull fails, counted from 1.
     pub fn failing(bytes: Vec<u8>, nth: u64) -> MemFeed
         requires { 1 ≤ nth }
         ensures { result ≡ fresh bytes.items usize.MAX nth }
@@ -49,7 +49,7 @@ impl MemFeed {
         MemFeed::fresh(bytes, usize::MAX, nth)
     }
 
-    /// A feed that gives `bytes`, at most `step` of them a pull, and never fails.
+    /// Makes a feed that gives `bytes`, at most `step` bytes for each pull, and never fails.
     pub fn cutting(bytes: Vec<u8>, step: usize) -> MemFeed
         requires { 1 ≤ step }
         ensures { result ≡ fresh bytes.items step 0 }
@@ -57,7 +57,7 @@ impl MemFeed {
         MemFeed::fresh(bytes, step, 0)
     }
 
-    // A feed that does both.
+    // Makes a feed with both.
     fn fresh(bytes: Vec<u8>, step: usize, failing: u64) -> MemFeed
         requires { 1 ≤ step }
         ensures { result ≡ fresh bytes.items step failing }
@@ -81,7 +81,7 @@ impl Feed for MemFeed {
 
     ghost is_sure = { never_fails };
 
-    /// Gives as many of the bytes that are left as the buffer holds, up to the feed's step, but for the one pull that fails.
+    /// Gives the bytes left, at most the buffer's length and the feed's step, except in the pull that fails.
     fn pull(&mut self, buffer: &mut [u8]) -> Result<usize, FeedFault>
         ensures fails { IsErr result ↔ (self.old.pulls + 1 ≡ self.old.failing) }
         ensures refused { OnErr result (self.new ≡ after_pull self.old 0) }

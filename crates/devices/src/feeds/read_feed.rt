@@ -11,8 +11,8 @@ use std::io::Read;
 use std::marker::Model;
 use std::snapshot::Snapshot;
 
-/// A feed of an input, from the byte where the input stands. It tells which bytes it will give as far as the input told them at first,
-/// and any pull may fail. It takes no memory.
+/// A feed of an input, from the input's current position. It reports the bytes that it has left if the input reported them at first. Any
+/// pull may fail. It allocates no memory.
 #[derive(Drop)]
 pub struct ReadFeed<R: Read> {
     input: R,
@@ -41,7 +41,7 @@ impl<R: Read> Model for ReadFeed<R> {
 }
 
 impl<R: Read> ReadFeed<R> {
-    /// A feed of this input.
+    /// Makes a feed of this input.
     pub fn new(input: R) -> ReadFeed<R>
         ensures { result ≡ record { left = R.remaining input; given = 0; failures = 0 } }
     {
@@ -64,20 +64,20 @@ impl<R: Read> Feed for ReadFeed<R> {
 
     ghost is_sure = { λ _. false };
 
-    /// Gives what one read of the input gives. A read that a signal interrupts is tried again.
+    /// Gives the bytes of one read of the input. Repeats a read that a signal interrupts.
     #[tactic(auto, using(crate::proofs::Giving::none_left))]
     fn pull(&mut self, buffer: &mut [u8]) -> Result<usize, FeedFault>
-        // What the input did.
+        // The effect on the input.
         ensures reads { ReadConsumes self.old.left self.new.left result buffer.new }
 
-        // On success its next bytes stand at the buffer's front.
+        // After success, the buffer starts with the next bytes.
         ensures within { IfOk result (λ n. n ≤ length buffer.old) }
         ensures gives { IfOk result
             (λ n. self.old.left ≡ put_back (take n buffer.new) self.new.left) }
         ensures end { IfOk result
             (λ n. n ≡ 0 → 0 < length buffer.old → IfSome self.old.left (λ bytes. bytes ≡ [])) }
 
-        // What it gave and refused is counted, and on failure nothing was given.
+        // Given bytes and refused pulls are counted. After an error, no byte was given.
         ensures pulls { IsPulled (λ f. f.left) (λ _. false) (λ f. f.given) (λ f. f.failures)
             self.old self.new result }
     {

@@ -1,10 +1,10 @@
-//! Bytes that are lent as a feed.
+//! Borrowed bytes as a feed.
 
 ghost use Rattle.std.specs.Prelude.{◌≡◌, ◌+◌, ◌<◌, ◌^◌, length, Some, true};
 
 use crate::feeds::feed::{Feed, FeedFault};
 
-/// A feed of bytes that are lent to it, which never fails. No call of it takes memory.
+/// A feed of borrowed bytes, which never fails and allocates no memory.
 #[derive(Drop)]
 pub struct SliceFeed<'a> {
     left: &'a [u8],
@@ -14,7 +14,7 @@ pub struct SliceFeed<'a> {
 }
 
 impl<'a> SliceFeed<'a> {
-    /// A feed that gives `bytes`.
+    /// Makes a feed that gives `bytes`.
     pub fn new(bytes: &'a [u8]) -> SliceFeed<'a>
         ensures left { ⟦<SliceFeed<'a> as Feed>⟧.left result ≡ Some bytes.now }
         ensures given { ⟦<SliceFeed<'a> as Feed>⟧.given result ≡ 0 }
@@ -37,7 +37,7 @@ impl<'a> Feed for SliceFeed<'a> {
 
     ghost is_sure = { λ _. true };
 
-    /// Gives the next of the bytes that are left.
+    /// Gives the next bytes.
     fn pull(&mut self, buffer: &mut [u8]) -> Result<usize, FeedFault> {
         let count = self.left.len().min(buffer.len());
         let (given, left) = self.left.split_at(count);

@@ -1,4 +1,4 @@
-//! A feed read whole.
+//! Reads a feed to its end.
 
 ghost use Rattle.std.specs.Prelude.{◌≡◌, ◌≤◌, vec_len, IfOk};
 ghost use Rattle.devices.specs.feeds.ReadWhole.{IsReadWhole, ReadsFeed};
@@ -9,19 +9,19 @@ use crate::feeds::filling::{make_room, pull_behind};
 use std::alloc::{AllocError, Global};
 use thiserror::Error;
 
-/// The greatest limit that `slurp` takes, in bytes: 64 GiB.
+/// The largest limit that `slurp` accepts, in bytes: 64 GiB.
 pub const GREATEST_LIMIT: u64 = 68_719_476_736;
 
-/// Why a feed was not read whole.
+/// Why a feed was not read to its end.
 #[derive(Debug, Drop, Error, PartialEq, Eq)]
 pub enum SlurpFault {
     /// The feed failed. The bytes that it gave before are lost.
     #[error("the feed failed")]
     FeedFailed,
-    /// The feed has more bytes than the limit. It gave one byte more than the limit, and these are lost.
+    /// The feed has more bytes than the limit. It gave one byte more than the limit, and all of these are lost.
     #[error("the feed has more bytes than the limit")]
     TooLong,
-    /// Memory ran out. The bytes that the feed gave before are lost.
+    /// Memory was refused. The bytes that the feed gave before are lost.
     #[error("OutOfMemory")]
     OutOfMemory,
 }
@@ -42,28 +42,28 @@ impl From<AllocError> for SlurpFault {
     }
 }
 
-/// All the bytes of `feed`, where they are at most `limit`. At most `limit + 1` bytes are read: the last one tells that
+/// Returns all bytes of `feed` if they are at most `limit`. Reads at most `limit + 1` bytes; the last of these shows that
 /// there are too many.
 ///
 /// # Errors
 ///
-/// The first that is met of
+/// Returns the first that occurs:
 ///
 /// - `FeedFailed`: the feed refused a pull of this call;
 /// - `TooLong`: the feed has more than `limit` bytes;
 /// - `OutOfMemory`: the list of bytes could not grow.
 ///
-/// The feed then stands behind the bytes that it gave in this call, which are lost.
+/// The bytes that the feed gave in this call are then lost.
 #[tactic(auto, using(crate::proofs::Giving::given_more))]
 pub fn slurp<F: Feed>(alloc: Global, feed: &mut F, limit: u64) -> Result<Vec<u8>, SlurpFault>
     requires { limit ≤ GREATEST_LIMIT }
 
-    // What an answer holds.
+    // The text that is returned.
     ensures read { IfOk result (λ text. IsReadWhole (F.left feed.old) (F.given feed.old)
         (F.given feed.new) (F.failures feed.old) (F.failures feed.new) text.items) }
     ensures short { IfOk result (λ text. vec_len text ≤ limit) }
 
-    // That the feed is used up then, when each fault comes, how much was read, and where the feed stands.
+    // After success no byte is left; each error has its reason; the number of bytes read is bounded.
     ensures reads { ReadsFeed F.left F.is_sure F.given F.failures limit feed.old feed.new result }
 {
     let most = limit as usize + 1;

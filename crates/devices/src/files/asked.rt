@@ -1,9 +1,9 @@
-//! What was asked of a system, for contracts alone. It takes no memory.
+//! Records of the calls to a system, for contracts alone. They use no memory.
 
 use crate::shown_bytes::ShownBytes;
 use std::snapshot::Snapshot;
 
-/// Which files were to be opened, and what became of each.
+/// The files that were to be opened, each with the result.
 #[derive(Drop)]
 pub(crate) enum Asked<F> {
     Nothing,
@@ -11,7 +11,7 @@ pub(crate) enum Asked<F> {
     Unopened(ShownBytes, Snapshot<Asked<F>>),
 }
 
-/// For which paths slots were made.
+/// The paths for which slots were made.
 #[derive(Drop)]
 pub(crate) enum Made {
     Nothing,

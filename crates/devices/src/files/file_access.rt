@@ -1,4 +1,4 @@
-//! Files that are opened, by their paths.
+//! Opens files by their paths.
 
 ghost use Rattle.std.specs.Prelude.{◌≡◌, ◌++◌, ℕ, List, [], ◌∷◌, IfOk, OnErr};
 ghost use Rattle.devices.specs.files.Opening.{Opening, Opened, Unopened};
@@ -8,26 +8,26 @@ use std::io::Read;
 
 /// A file that was opened or created.
 pub trait AtPath {
-    /// The path that it was opened or created by.
+    /// The path by which it was opened or created.
     ghost path: { Self → List ℕ };
-    /// How many bytes it gave since.
+    /// The number of bytes that it gave since.
     ghost given: { Self → ℕ };
 }
 
-/// Opens files to be read, and remembers for contracts which it was asked for. It can do nothing else with files: what has one can
-/// neither create, empty, remove nor rename them.
+/// Opens files for reading, and records the requests for contracts. It can do nothing else with files: its holder can neither create,
+/// empty, remove nor rename them.
 pub trait FileAccess {
-    /// A file that is open.
+    /// An open file.
     type File: Read + AtPath + Drop;
 
-    /// What it was asked to open so far, in order.
+    /// The requests to open so far, in order.
     ghost opened: { Self → List Opening };
 
-    /// The file at this path, from its first byte.
+    /// Opens the file at this path, from its first byte.
     ///
     /// # Errors
     ///
-    /// It cannot be opened, for whatever reason of the system's.
+    /// It cannot be opened, whatever the system's reason.
     fn open(&mut self, path: &str) -> io::Result<Self::File>
         ensures path { IfOk result (λ file. Self.File.path file ≡ path.now) }
         ensures whole { IfOk result (λ file. Self.File.given file ≡ 0) }

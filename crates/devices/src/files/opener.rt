@@ -1,4 +1,4 @@
-//! Feeds of files, opened by their paths.
+//! Opens feeds of files by their paths.
 
 ghost use Rattle.std.specs.Prelude.{◌≡◌, ◌++◌, List, [], ◌∷◌, IfOk, OnErr, OnOk};
 ghost use Rattle.devices.specs.files.Opening.{Opening, Opened as WasOpened, Unopened};
@@ -7,18 +7,18 @@ use crate::feeds::feed::{Feed, FeedFault};
 use crate::feeds::file_feed::FileFeed;
 use crate::files::file_access::{AtPath, FileAccess};
 
-/// Opens files to be read, by their paths, and remembers for contracts which it was asked for.
+/// Opens files for reading by their paths, and records the requests for contracts.
 pub trait Opener {
-    /// A file that was opened.
+    /// An open file.
     type File: AtPath;
 
-    /// A feed of one.
+    /// A feed of an open file.
     type Opened: Feed + Send + Drop;
 
-    /// What it was asked to open so far, in order.
+    /// The requests to open so far, in order.
     ghost opened: { Self → List Opening };
 
-    /// A feed of the file at this path, from its first byte.
+    /// Opens the file at this path as a feed, from its first byte.
     ///
     /// # Errors
     ///
@@ -32,7 +32,7 @@ pub trait Opener {
         ensures refused { OnErr result (opened self.new ≡ opened self.old ++ Unopened path.now ∷ []) };
 }
 
-/// What opens files opens feeds of them. Its history is that of the files themselves.
+/// Opens feeds through a `FileAccess`; its record is that of the file access.
 impl<A: FileAccess> Opener for A
 where
     A::File: Send,

@@ -1,6 +1,6 @@
-//! The files of a system that are opened.
+//! Opens files of the system.
 //!
-//! No contract can say which file of a system is at a path, or what it holds: this page is to be read.
+//! No contract can state which file of a system is at a path, or what it holds, so reviewers must read this module.
 
 ghost use Rattle.std.specs.Prelude.{◌≡◌, [], ◌∷◌, ◌++◌};
 
@@ -13,7 +13,7 @@ use std::io::{Read, Write};
 use std::rt::Files;
 use std::snapshot::Snapshot;
 
-/// The files of a system, as far as they are opened.
+/// The files of a system, for opening them.
 #[derive(Drop)]
 pub struct SystemFiles<'a, R: Files> {
     rt: &'a R,
@@ -21,7 +21,7 @@ pub struct SystemFiles<'a, R: Files> {
 }
 
 impl<'a, R: Files> SystemFiles<'a, R> {
-    /// The files that the runtime has, of which none was asked for.
+    /// Opens files through this runtime; none was requested yet.
     pub fn new(rt: &'a R) -> SystemFiles<'a, R>
         ensures { ⟦<SystemFiles<'a, R> as FileAccess>⟧.opened result ≡ [] }
     {
@@ -63,7 +63,7 @@ pub struct SystemFile<F: Read + Write> {
 }
 
 impl<F: Read + Write> SystemFile<F> {
-    // The file that was opened or created by this path.
+    // Makes the file that was opened or created by this path.
     pub(crate) fn at(file: F, path: &str) -> SystemFile<F>
         ensures path { ⟦<SystemFile<F> as AtPath>⟧.path result ≡ path.now }
         ensures remaining { ⟦<SystemFile<F> as Read>⟧.remaining result ≡ F.remaining file }

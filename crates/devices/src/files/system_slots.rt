@@ -1,6 +1,6 @@
-//! The files of a system that are created.
+//! Creates files of the system.
 //!
-//! No contract can say which file of a system is at a path, or what it holds: this page is to be read.
+//! No contract can state which file of a system is at a path, or what it holds, so reviewers must read this module.
 
 ghost use Rattle.std.specs.Prelude.{◌≡◌, [], ◌∷◌, ◌++◌, string_bytes};
 
@@ -21,7 +21,7 @@ pub struct SystemSlots<'a, R: Files> {
 }
 
 impl<'a, R: Files> SystemSlots<'a, R> {
-    /// Slots for files of the runtime, of which none was made.
+    /// Makes slots through this runtime; none was made yet.
     pub fn new(rt: &'a R) -> SystemSlots<'a, R>
         ensures { ⟦<SystemSlots<'a, R> as FileSlots>⟧.made result ≡ [] }
     {
@@ -46,7 +46,7 @@ impl<'a, R: Files> FileSlots for SystemSlots<'a, R> {
     }
 }
 
-/// The leave to create one file of the system, once.
+/// The permission to create one file of the system, once.
 #[derive(Drop)]
 pub struct SystemSlot<'a, R: Files> {
     rt: &'a R,

@@ -14,8 +14,8 @@ use std::alloc::{AllocError, Global};
 use std::marker::Model;
 use std::snapshot::Snapshot;
 
-/// A sink that writes to the file of its slot, which it creates once. It tells what the file holds as far as the file itself does, and no
-/// file of a system does. Only `new` takes memory.
+/// A sink that writes to the file of its slot, which it creates once. It reports the bytes of the file if the file does, and no file of a
+/// system does. Only `new` allocates memory.
 #[derive(Drop)]
 pub struct FileSink<P: FileSlot> {
     // its slot, until the file is to be created
@@ -47,7 +47,7 @@ impl<P: FileSlot> Model for FileSink<P> {
 }
 
 impl<P: FileSlot> FileSink<P> {
-    /// A sink for the file at this path. It is not begun: the file is left alone, and need not exist.
+    /// Makes a sink for the file at this path. It is not begun: the file is not touched, and need not exist.
     ///
     /// # Errors
     ///
@@ -65,7 +65,7 @@ impl<P: FileSlot> FileSink<P> {
         Ok(FileSink::from_slot(files.slot(path)))
     }
 
-    /// A sink for the file of this slot. It is not begun. It takes no memory, and is never refused.
+    /// Makes a sink for the file of this slot. It is not begun. Allocates no memory, and never fails.
     pub fn from_slot(slot: P) -> FileSink<P>
         ensures { result ≡ unbegun P.tells (P.path slot) }
     {
@@ -77,7 +77,7 @@ impl<P: FileSlot> FileSink<P> {
         }
     }
 
-    /// Its slot, until it was asked to begin.
+    /// Returns its slot, until `begin` was called.
     pub fn slot(&self) -> Option<&P>
         ensures has { is_some result ≡ self.now.has_slot }
         ensures path { IfSome result (λ slot. P.path slot.now ≡ self.now.path) }
@@ -85,7 +85,7 @@ impl<P: FileSlot> FileSink<P> {
         self.slot.as_ref()
     }
 
-    /// Its file, once it is begun.
+    /// Returns its file, after it was begun.
     pub fn file(&self) -> Option<&P::File>
         ensures begun { is_some result ≡ self.now.begun }
         ensures held { IfSome result (λ file. told_held P.tells (P.File.contents file.now) ≡ self.now.held) }
@@ -97,11 +97,11 @@ impl<P: FileSlot> FileSink<P> {
 impl<P: FileSlot> Sink for FileSink<P> {
     ghost state = { told };
 
-    /// Creates the file, or empties the one that is there. It is asked once: whether it could or not, the slot is used up.
+    /// Creates the file, or empties an existing one. The first call uses up the slot, even if it fails.
     ///
     /// # Errors
     ///
-    /// The file cannot be created, or the sink was asked to begin before. The sink is as it was, with one more refusal.
+    /// The file cannot be created, or `begin` was called before. The sink is unchanged, with one more refusal.
     fn begin(&mut self) -> Result<(), SinkFault>
         ensures begins { OnOk result (IsWritten [] (told self.old) (told self.new)) }
         ensures refused { OnErr result (IsCutOff 1 [] (told self.old) (told self.new)) }
@@ -130,18 +130,18 @@ impl<P: FileSlot> Sink for FileSink<P> {
         }
     }
 
-    /// Writes what one write to the file takes. A write that a signal interrupts is tried again.
+    /// Writes the bytes that one write to the file takes. Repeats a write that a signal interrupts.
     ///
     /// # Errors
     ///
     /// The sink was not begun, or the file takes no byte.
     fn put(&mut self, bytes: &[u8]) -> Result<usize, SinkFault>
-        // Its path and its slot stay, and what is not begun takes nothing.
+        // Its path and its slot are unchanged, and a sink that was not begun takes nothing.
         ensures path { self.new.path ≡ self.old.path }
         ensures slot { self.new.has_slot ≡ self.old.has_slot }
         ensures unbegun { self.old.begun ≡ false → IsErr result }
 
-        // What it takes, and that the file grows by that.
+        // The bytes that it takes are appended to the file.
         ensures puts { IsPut bytes.now (told self.old) (told self.new) result }
         ensures bytes { WriteAppends self.old.held self.new.held result bytes.now }
     {

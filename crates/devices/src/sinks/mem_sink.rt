@@ -8,7 +8,7 @@ use crate::sinks::sink::{Sink, SinkFault};
 use std::alloc::Global;
 use std::marker::Model;
 
-/// A sink that keeps the bytes in memory.
+/// A sink that stores the bytes in memory.
 #[derive(Drop)]
 pub struct MemSink {
     begun: bool,
@@ -40,15 +40,15 @@ impl Model for MemSink {
 }
 
 impl MemSink {
-    /// A sink that fails only where memory is refused. It takes no memory yet.
+    /// Makes a sink that fails only if memory is refused. Allocates no memory yet.
     pub fn new(alloc: Global) -> MemSink
         ensures { IsFresh usize.MAX 0 result }
     {
         MemSink::fresh(alloc, usize::MAX, 0)
     }
 
-    /// A sink whose call number `nth` fails. Its calls of `begin` and `put` are counted together, from 1. Any other
-    /// call fails only where memory is refused.
+    /// Makes a sink whose call number `nth` fails. Calls of `begin` and `put` are counted together, from 1. Any other
+    /// call fails only if memory is refused.
     pub fn failing(alloc: Global, nth: u64) -> MemSink
         requires { 1 ≤ nth }
         ensures { IsFresh usize.MAX nth result }
@@ -56,7 +56,7 @@ impl MemSink {
         MemSink::fresh(alloc, usize::MAX, nth)
     }
 
-    /// A sink that takes at most `step` bytes of each put, and fails only where memory is refused.
+    /// Makes a sink that takes at most `step` bytes of each put, and fails only if memory is refused.
     pub fn short(alloc: Global, step: usize) -> MemSink
         requires { 1 ≤ step }
         ensures { IsFresh step 0 result }
@@ -64,9 +64,8 @@ impl MemSink {
         MemSink::fresh(alloc, step, 0)
     }
 
-    /// A sink that takes at most `step` bytes of each put, and whose call number `failing` fails, counted as by
-    /// `MemSink::failing`. Where `failing` is 0 there is no such call. Any other call fails only where memory is
-    /// refused.
+    /// Makes a sink that takes at most `step` bytes of each put, and whose call number `failing` fails, counted as by
+    /// `MemSink::failing`; 0 means no call. Any other call fails only if memory is refused.
     pub fn fresh(alloc: Global, step: usize, failing: u64) -> MemSink
         requires { 1 ≤ step }
         ensures { IsFresh step failing result }
@@ -81,21 +80,21 @@ impl MemSink {
         }
     }
 
-    /// Whether the sink was begun.
+    /// Returns whether the sink was begun.
     pub fn begun(&self) -> bool
         ensures { result ≡ self.now.begun }
     {
         self.begun
     }
 
-    /// The bytes that it took since it was begun.
+    /// Returns the bytes that it took since it was begun.
     pub fn bytes(&self) -> &[u8]
         ensures { result.now ≡ self.now.bytes }
     {
         self.bytes.as_slice()
     }
 
-    // Counts a call, and answers whether it is the one that fails.
+    // Counts a call, and returns whether it is the one that fails.
     fn fails(&mut self) -> bool
         ensures answer { IsTrue result ↔ FailsNext self.old }
         ensures called { IsCalled self.old.begun self.old.bytes self.old.failures self.old
@@ -124,11 +123,11 @@ impl Sink for MemSink {
       failures = s.failures;
     } };
 
-    /// Gives up the bytes. Takes no memory.
+    /// Drops the bytes. Allocates no memory.
     ///
     /// # Errors
     ///
-    /// This is the call that fails. The bytes are as they were, and the sink is begun if it was.
+    /// This is the call that fails. The sink is unchanged.
     fn begin(&mut self) -> Result<(), SinkFault>
         ensures fails { IsErr result ↔ FailsNext self.old }
         ensures begins { OnOk result (IsCalled true [] self.old.failures self.old self.new) }
@@ -142,26 +141,26 @@ impl Sink for MemSink {
         Ok(())
     }
 
-    /// Takes all the bytes, or as many as one put of this sink takes.
+    /// Takes all the bytes, up to the largest number of one put.
     ///
     /// # Errors
     ///
     /// This is the call that fails, or memory for the bytes was refused. No byte was taken.
     fn put(&mut self, bytes: &[u8]) -> Result<usize, SinkFault>
-        // When it fails.
+        // The call that is to fail does.
         ensures fails { FailsNext self.old → IsErr result }
         ensures fails_only { OnErr result
             (FailsNext self.old ⊎ (self.old.room
             < length self.old.bytes + min (length bytes.now) self.old.step)) }
 
-        // On success the first of the bytes are held, as many as one put takes.
+        // After success, it holds the first bytes, up to the largest number of one put.
         ensures count { IfOk result (λ n. n ≡ min (length bytes.now) self.old.step) }
         ensures some { IfOk result (λ n. 0 < length bytes.now → 0 < n) }
         ensures takes { IfOk result
             (λ n. IsCalled self.old.begun (self.old.bytes ++ take n bytes.now) self.old.failures
             self.old self.new) }
 
-        // On failure no byte is taken, and one refusal more is counted.
+        // After an error, no byte was taken, and one more refusal is counted.
         ensures refused { OnErr result (HasFailed self.old self.new) }
     {
         if self.fails() {

@@ -8,8 +8,8 @@ use crate::sinks::sink::{Sink, SinkFault};
 use std::alloc::AllocError;
 use std::marker::Model;
 
-/// A sink that writes texts one after the other into a vector, each under a line of its own. What stands before a text
-/// stays. It fails only where memory is refused.
+/// A sink that writes texts one after the other into a vector, each under its own line. The bytes before a text never
+/// change. It fails only if memory is refused.
 #[derive(Drop)]
 pub struct SectionSink {
     bytes: Vec<u8>,
@@ -37,7 +37,7 @@ impl Model for SectionSink {
 }
 
 impl SectionSink {
-    /// A sink behind these bytes. It is not begun.
+    /// Makes a sink that appends to these bytes. It is not begun.
     pub fn new(bytes: Vec<u8>) -> SectionSink
         ensures { told result ≡ record
             { begun = false; before = bytes.items; taken = Some []; failures = 0 } }
@@ -51,12 +51,12 @@ impl SectionSink {
         }
     }
 
-    /// Ends the text: from now on it stays, with this line behind it, which is given with its LF. The sink is then not
+    /// Ends the text and appends this line, which includes its LF. Both never change from now on, and the sink is not
     /// begun.
     ///
     /// # Errors
     ///
-    /// Memory was refused. The sink is as it was.
+    /// Memory was refused. The sink is unchanged.
     pub fn section(&mut self, line: &[u8]) -> Result<(), AllocError>
         ensures kept { OnOk result (told self.new ≡ record {
           begun = false;
@@ -74,7 +74,7 @@ impl SectionSink {
         Ok(())
     }
 
-    /// The bytes that stand before the text, and the text.
+    /// Returns the bytes before the text, and the text.
     pub fn into_vec(self) -> Vec<u8>
         ensures { result.items ≡ self.before ++ self.taken }
     {
@@ -85,7 +85,7 @@ impl SectionSink {
 impl Sink for SectionSink {
     ghost state = { told };
 
-    /// Gives up the text. Never fails.
+    /// Drops the text. Never fails.
     fn begin(&mut self) -> Result<(), SinkFault>
         ensures begins { IsOk result }
         ensures empties { told self.new ≡ record (told self.old) { begun = true; taken = Some [] } }

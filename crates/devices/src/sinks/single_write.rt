@@ -1,4 +1,4 @@
-//! One write to a file or to another output.
+//! One write to a file or another output.
 
 ghost use Rattle.std.specs.Io.KnownBytes.{WriteAppends};
 ghost use Rattle.std.specs.Prelude.{◌<◌, ◌≤◌, length, IfOk};
@@ -6,12 +6,12 @@ ghost use Rattle.std.specs.Prelude.{◌<◌, ◌≤◌, length, IfOk};
 use crate::sinks::sink::SinkFault;
 use std::io::{ErrorKind, Write};
 
-/// Gives `output` the first of these bytes by one write, and returns how many it took: at least one where there is one. A write that
-/// a signal interrupts is tried again.
+/// Writes the first of these bytes to `output` by one write, and returns the number that it took: at least one if there is one. Repeats a
+/// write that a signal interrupts.
 ///
 /// # Errors
 ///
-/// The write failed, whatever the system's reason, or took no byte where there is one: the output is full. No byte was taken.
+/// The write failed, whatever the system's reason, or took no byte although there is one: the output is full. No byte was taken.
 #[tactic(auto, using(crate::proofs::WriteFacts::appends_after, crate::proofs::WriteFacts::keeps_after_none, crate::proofs::WriteFacts::keeps_self, crate::proofs::WriteFacts::keeps_after))]
 pub fn write_some<W: Write>(output: &mut W, bytes: &[u8]) -> Result<usize, SinkFault>
     ensures within { IfOk result (λ count. count ≤ length bytes.now) }

@@ -1,4 +1,4 @@
-//! A whole text to a sink.
+//! Writes a whole text to a sink.
 
 ghost use Rattle.std.specs.Prelude.{ℕ, List, OnOk};
 ghost use Rattle.devices.specs.sinks.Writes.{Writes, WritesOn};
@@ -8,15 +8,15 @@ use crate::sinks::slices::{LARGE, flush};
 use crate::sinks::write_fault::WriteFault;
 use std::alloc::Global;
 
-/// A text by its parts.
+/// A text that is written in parts.
 pub trait Text {
     /// The whole text.
     ghost text: { Self → List ℕ };
 
-    /// What the types of its parts keep of them, as is known once it is written.
+    /// The facts that the types of its parts guarantee, known after it is written.
     ghost kept: { Self → Type 0 };
 
-    /// Writes the text behind what the buffer holds.
+    /// Writes the text after the bytes that the buffer holds.
     fn write<S: Sink>(
         &self,
         alloc: Global,
@@ -32,7 +32,7 @@ pub trait Text {
 ///
 /// # Errors
 ///
-/// The sink is as it was, or it was begun and holds a front of the text.
+/// The sink is unchanged, or it was begun and holds a prefix of the text.
 ///
 /// - `SinkFault`: it refused a call.
 /// - `OutOfMemory`: memory was refused.

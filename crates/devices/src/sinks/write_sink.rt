@@ -12,8 +12,8 @@ use std::io::Write;
 use std::marker::Model;
 use std::snapshot::Snapshot;
 
-/// A sink over an output that goes on, as standard output: it is begun, and cannot be begun anew. It tells what the output holds as far
-/// as the output told it at first. It takes no memory.
+/// A sink over a continuous output, such as standard output: it is begun, and cannot be begun again. It reports the bytes of the output if
+/// the output reported them at first. It allocates no memory.
 #[derive(Drop)]
 pub struct WriteSink<W: Write> {
     output: W,
@@ -37,7 +37,7 @@ impl<W: Write> Model for WriteSink<W> {
 }
 
 impl<W: Write> WriteSink<W> {
-    /// A sink over this output.
+    /// Makes a sink over this output.
     pub fn new(output: W) -> WriteSink<W>
         ensures { result ≡ record { held = W.contents output; failures = 0 } }
     {
@@ -49,7 +49,7 @@ impl<W: Write> WriteSink<W> {
         }
     }
 
-    /// The output.
+    /// Returns the output.
     pub fn output(&self) -> &W
         ensures { self.now.held ≡ told_as self.now.held (W.contents result.now) }
     {
@@ -60,7 +60,7 @@ impl<W: Write> WriteSink<W> {
 impl<W: Write> Sink for WriteSink<W> {
     ghost state = { told };
 
-    /// Refused: what the output took cannot be given up.
+    /// Always fails: the output cannot drop the bytes that it took.
     fn begin(&mut self) -> Result<(), SinkFault>
         ensures refused { OnErr result (IsCutOff 1 [] (told self.old) (told self.new)) }
         ensures never { IsErr result }
@@ -69,9 +69,9 @@ impl<W: Write> Sink for WriteSink<W> {
         Err(SinkFault::new())
     }
 
-    /// Writes what one write to the output takes. A write that a signal interrupts is tried again.
+    /// Writes the bytes that one write to the output takes. Repeats a write that a signal interrupts.
     fn put(&mut self, bytes: &[u8]) -> Result<usize, SinkFault>
-        // What it takes, and that the output grows by that.
+        // The bytes that it takes are appended to the output.
         ensures puts { IsPut bytes.now (told self.old) (told self.new) result }
         ensures bytes { WriteAppends self.old.held self.new.held result bytes.now }
     {
