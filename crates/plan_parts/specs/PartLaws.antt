@@ -1,4 +1,4 @@
--- Other words for NAMEs, bands, worths and limits, which laws compare with their definitions.
+-- Other descriptions of NAMEs, bands, worths and limits, which laws compare with the definitions.
 use Rattle.std.specs.Prelude.{ℕ, ◌+◌, ◌*◌, ◌≤◌, List, All, ℤ, pos, ◌+ℤ◌, ◌*ℤ◌, ◌≤ℤ◌, codes}
 use Rattle.std.specs.List.{Contains}
 use Rattle.plan_parts.specs.formulas.Bands.{recovery_at}
@@ -15,14 +15,14 @@ use Rattle.plan_parts.specs.declared.ranges.TheConstants.{MAX_PERIODS}
 abbrev pub name_bytes : List ℕ
 name_bytes = codes "ABCDEFGHIJKLMNOPQRSTUVWXYZabcdefghijklmnopqrstuvwxyz0123456789_-."
 
--- the band of a grade: of those that begin at or below it, it begins highest
+-- the band of a grade: the last band that begins at or below the grade
 pub record IsBandOf (bands : List Band) (grade : ℕ) (b : Band) : Type 0 where
   pub one : Contains bands b
   pub begun : b.start ≤ grade
   pub highest : All (λ c. c.start ≤ grade → c.start ≤ b.start) bands
 
--- of a formula: what is recovered at a grade, per mille, which on a dump is nothing; what the metal sells for, in cents a kilogram; and
--- what the block costs, in cents a tonne
+-- the recovery of a formula at a grade, per mille, which is 0 at a dump; its price of the metal, in cents per kilogram; and its cost, in
+-- cents per tonne
 abbrev pub recovered : Formula → ℕ → ℕ
 recovered (formula.Mill recovery price cost) grade = recovery
 recovered (formula.Leach bands price cost) grade = recovery_at bands grade
@@ -38,7 +38,7 @@ cost_of (formula.Mill recovery price cost) = cost
 cost_of (formula.Leach bands price cost) = cost
 cost_of (formula.Dump cost) = cost
 
--- the kilograms of a tonne and the grams of a kilogram; the parts of a gram in which grades count; the parts in which recoveries count
+-- the kilograms of a tonne, and the grams of a kilogram; the fractions of a gram that grades count; the fractions that recoveries count
 abbrev pub kilo : ℕ
 kilo = 1000
 
@@ -48,18 +48,18 @@ million = 1000000
 abbrev pub mille : ℕ
 mille = 1000
 
--- the recovered metal of a block pays what the block costs, and so many cents more
+-- the recovered metal of a block sells for the cost of the block and at least this number of cents more
 abbrev pub Earns : Formula → Block → ℤ → Type 0
 Earns f b cents =
     ((cents *ℤ pos (kilo * million * kilo * mille)) +ℤ pos (b.kg * cost_of f * (million * kilo * mille)))
     ≤ℤ pos (b.kg * b.grade * recovered f b.grade * price_of f)
 
--- so many tonnes keep a bound
+-- this number of tonnes is within a bound
 abbrev pub KeepsBound : Bound → ℤ → Type 0
 KeepsBound (AtMost v) tonnes = tonnes ≤ℤ v
 KeepsBound (AtLeast v) tonnes = v ≤ℤ tonnes
 KeepsBound (Between v w) tonnes = (v ≤ℤ tonnes) × (tonnes ≤ℤ w)
 
--- the place of a limit in a table of all periods of the first resource, then of the second, and so on
+-- the position of a limit in a table that lists all periods of the first resource, then all of the second, and so on
 abbrev pub place_of : Limit → ℕ
 place_of l = l.resource * MAX_PERIODS + l.period

@@ -1,4 +1,4 @@
--- What every plan keeps: the ranges of its parts, and their order.
+-- The invariant of every plan: the ranges and the order of its parts.
 use Rattle.std.specs.Prelude.{◌≡◌, ℕ, ◌<◌, ◌≤◌, List, [], ◌∷◌, length, ℤ, pos, ◌≤ℤ◌, All, Bool, false, ◌==◌, ◌&&◌, ◌||◌, nat_lt, AllPairs, IsTrue, int_le, not}
 use Rattle.std.specs.List.{list_any}
 use Rattle.plan_parts.specs.formulas.Formula.{IsRuled}
@@ -14,7 +14,7 @@ use Rattle.plan_parts.specs.declared.limit.Limit.{Limit}
 use Rattle.plan_parts.specs.declared.ranges.TheConstants.{MAX_BENCHES, MAX_DESTINATIONS, MAX_ORIGIN, MAX_PERIODS, MAX_RATE, MAX_RESOURCES, MAX_SIZE, MAX_SLOPE, MAX_TONNES, MAX_ZONES, MIN_ORIGIN}
 use Rattle.plan_parts.specs.Plan.{PlanParts}
 
--- a plan by its parts
+-- the plan with these parts
 abbrev pub plan_of : List ℕ → Grid → List Cone → List NamedFormula → ℕ → ℤ → List Resource → List Limit → PlanParts
 plan_of name grid cones formulas periods rate resources limits = record {
   name = name;
@@ -31,7 +31,7 @@ plan_of name grid cones formulas periods rate resources limits = record {
 abbrev pub IsAxis : Axis → Type 0
 IsAxis a = ((MIN_ORIGIN ≤ℤ a.origin) × (a.origin ≤ℤ MAX_ORIGIN)) × ((1 ≤ a.size) × (a.size ≤ MAX_SIZE))
 
--- and so are those of a grid
+-- all axes of a grid are in range
 abbrev pub IsGrid : Grid → Type 0
 IsGrid g = IsAxis g.x × IsAxis g.y × IsAxis g.z
 
@@ -39,7 +39,7 @@ IsGrid g = IsAxis g.x × IsAxis g.y × IsAxis g.z
 abbrev pub IsSlope : Slope → Type 0
 IsSlope s = ((1 ≤ s.p) × (s.p ≤ MAX_SLOPE)) × ((1 ≤ s.q) × (s.q ≤ MAX_SLOPE))
 
--- a cone looks at 1 to 20 benches
+-- the slopes of a cone are in range, and it has 1 to 20 benches
 abbrev pub IsCone : Cone → Type 0
 IsCone c = (IsSlope c.east × IsSlope c.west × IsSlope c.north × IsSlope c.south) × ((1 ≤ c.k) × (c.k ≤ MAX_BENCHES))
 
@@ -53,18 +53,18 @@ AreTonnes (AtMost v) = IsTonnes v
 AreTonnes (AtLeast v) = IsTonnes v
 AreTonnes (Between v w) = IsTonnes v × IsTonnes w
 
--- an interval's ends are the wrong way round
+-- the lower end of an interval is above its upper end
 abbrev pub is_turned : Bound → Bool
 is_turned (Between v w) = not (int_le v w)
 is_turned (AtMost v) = false
 is_turned (AtLeast v) = false
 
--- a bound is of tonnes, the right way round
+-- the numbers of a bound are tonnes, and its lower end is not above its upper end
 pub record IsBound (b : Bound) : Type 0 where
   pub tonnes : AreTonnes b
   pub straight : is_turned b ≡ false
 
--- a limit stands before another, by resource and then by period
+-- a limit comes before another, by resource and then by period
 abbrev pub stands_before : Limit → Limit → Bool
 stands_before l m = nat_lt l.resource m.resource || ((l.resource == m.resource) && nat_lt l.period m.period)
 
@@ -72,7 +72,7 @@ stands_before l m = nat_lt l.resource m.resource || ((l.resource == m.resource) 
 abbrev pub RiseStrictly : List Limit → Type 0
 RiseStrictly = AllPairs (λ l m. IsTrue (stands_before l m))
 
--- a number stands twice
+-- a number occurs twice
 abbrev pub has_repeat : List ℕ → Bool
 has_repeat [] = false
 has_repeat (n ∷ ns) = list_any (λ m. m == n) ns || has_repeat ns
@@ -81,7 +81,7 @@ has_repeat (n ∷ ns) = list_any (λ m. m == n) ns || has_repeat ns
 abbrev pub AreCovers : List ℕ → Type 0
 AreCovers covers = (1 ≤ length covers) × (has_repeat covers ≡ false)
 
--- what every plan keeps
+-- the invariant of every plan
 pub record IsPlan (p : PlanParts) : Type 0 where
   pub grid : IsGrid p.grid
   pub zones : (1 ≤ length p.cones) × (length p.cones ≤ MAX_ZONES)

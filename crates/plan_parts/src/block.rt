@@ -5,8 +5,8 @@ ghost use Rattle.plan_parts.specs.declared.ranges.TheConstants.{GRID_CELLS, MAX_
 
 use crate::ranges::{GRID_CELLS, MAX_GRADE, MAX_KG, MAX_ZONES};
 
-/// A block of the model: its place in the grid, its tonnage and grade, and the zone file that it stands in. Every value keeps
-/// the ranges of its fields.
+/// A block of the model: its cell in the grid, its tonnage and grade, and the zone file that contains it. The fields of every
+/// value are in range.
 #[derive(Clone, Copy, Debug, PartialEq, Eq)]
 pub struct Block {
     /// The tonnage in kilograms, 0 to 10^9.
@@ -32,7 +32,7 @@ pub struct Block {
 impl Block {
     ghost use Rattle.plan_parts.specs.BlockParts.{AreInRange, HasParts};
 
-    /// The block of these fields, or `None` where one is out of its range.
+    /// Returns the block with these fields, or `None` if a field is out of range.
     pub fn new(x: u16, y: u16, z: u16, kg: u64, grade: u64, zone: u8) -> Option<Block>
         ensures in_range { IsSome result ↔ AreInRange x y z kg grade zone }
         ensures parts { IfSome result (HasParts x y z kg grade zone) }

@@ -1,6 +1,6 @@
-//! The slope cone of a zone: which blocks above have to be extracted no later than a block.
+//! The slope cone of a zone: the blocks above a block that must be extracted no later than the block.
 
-/// A slope: rise over run, its tangent being `p / q`.
+/// A slope as rise over run; its tangent is `p / q`.
 #[derive(Clone, Copy, Debug, PartialEq, Eq)]
 pub struct Slope {
     /// The rise, 1 to 1000.
@@ -9,7 +9,7 @@ pub struct Slope {
     pub q: u16,
 }
 
-/// The slopes on the four sides of a zone's blocks, and how many benches above are looked at.
+/// The slopes on the four sides of a zone's blocks, and the number of benches above that count.
 #[derive(Clone, Copy, Debug, PartialEq, Eq)]
 pub struct Cone {
     /// Toward +x.

@@ -1,4 +1,4 @@
-//! How a destination values a block, and what the block is worth.
+//! The formulas of destinations, and the worths of blocks.
 
 pub mod band;
 pub mod destination;

@@ -1,4 +1,4 @@
-//! Laws of the definitions that contracts cite: each function here does nothing, and its contract states one.
+//! Laws of the definitions that contracts use. Each function here does nothing; its contract states a law.
 
 ghost use Rattle.std.specs.Prelude.{◌≡◌, ◌↔◌, IsTrue, false, ℕ, ℤ, ◌<◌, ◌≤ℤ◌, List, All, Contains};
 ghost use Rattle.plan_parts.specs.formulas.Bands.{recovery_at};
@@ -18,14 +18,14 @@ ghost use Rattle.plan_parts.specs.declared.ranges.TheConstants.{MAX_PERIODS};
 
 use crate::formulas::formula::Formula;
 
-/// The floor of a division is the whole number `q` with `q * n <= a < q * n + n`, and there is no other.
+/// The floor of a division is the only integer `q` with `q * n <= a < q * n + n`.
 #[tactic(auto, using(crate::proofs::WorthFacts::floor_is, crate::proofs::WorthFacts::floor_alone))]
 pub fn floors_go_down()
     ensures floor { (a : ℤ) (n : ℕ) → 0 < n → IsFloor (floor a n) a n }
     ensures alone { (q a : ℤ) (n : ℕ) → 0 < n → IsFloor q a n → q ≡ floor a n }
 {}
 
-/// A leach recovers at a grade what the band of the grade recovers, and nothing where all bands begin above it.
+/// A leach recovers at a grade what the band of the grade recovers, and nothing if all bands begin above the grade.
 #[tactic(auto, using(crate::proofs::BandFacts::recovers_nothing))]
 pub fn a_leach_recovers_by_the_band_of_the_grade()
     ensures band { (bands : List Band) (grade : ℕ) (b : Band) → AreBands bands → IsBandOf bands grade b
@@ -33,39 +33,39 @@ pub fn a_leach_recovers_by_the_band_of_the_grade()
     ensures below { (bands : List Band) (grade : ℕ) → All (λ b. grade < b.start) bands → recovery_at bands grade ≡ 0 }
 {}
 
-/// A block is worth the greatest whole number of cents that its recovered metal pays beside what the block costs.
+/// The worth of a block is the largest integer number of cents by which the price of its recovered metal exceeds its cost.
 #[tactic(auto, using(crate::proofs::WorthFacts::worth_earned, crate::proofs::WorthFacts::worth_greatest))]
 pub fn a_worth_is_the_most_that_is_earned()
     ensures earned { (f : AFormula) (b : Block) → Earns f b (worth f b) }
     ensures most { (f : AFormula) (b : Block) (cents : ℤ) → Earns f b cents → cents ≤ℤ worth f b }
 {}
 
-/// By a formula in range each block is worth at most 10^17 cents above or below zero.
+/// By a formula in range, the worth of each block is within 10^17 cents of zero.
 #[tactic(auto, using(crate::proofs::WorthFacts::worth_bound))]
 pub fn worths_are_in_range()
     ensures { (f : AFormula) (b : Block) → IsRuled f → IsWorth (worth f b) }
 {}
 
-/// The bytes of a NAME are these 65, so a NAME is one cell and one field, and no path.
+/// The bytes of a NAME are among these 65, so a NAME is one cell and one field, and never a path.
 #[tactic(auto, using(crate::proofs::Names::among, crate::proofs::Names::from_among))]
 pub fn names_have_few_bytes()
     ensures { (b : ℕ) → IsTrue (is_name_byte b) ↔ Contains name_bytes b }
 {}
 
-/// The ends of a bound are the right way round exactly where some number of tonnes keeps it.
+/// The lower end of a bound is not above its upper end exactly if some number of tonnes is within the bound.
 #[tactic(auto, using(crate::proofs::LimitFacts::kept_by, crate::proofs::LimitFacts::straight))]
 pub fn straight_bounds_can_be_kept()
     ensures { (b : Bound) → (is_turned b ≡ false) ↔ ((tonnes : ℤ) × KeepsBound b tonnes) }
 {}
 
-/// Limits stand in the order of a table that has all periods of the first resource, then those of the second, and so on.
+/// Limits are in the order of a table that lists all periods of the first resource, then all of the second, and so on.
 #[tactic(auto, using(crate::proofs::LimitFacts::by_place))]
 pub fn limits_stand_by_place()
     ensures { (l m : Limit) → l.period < MAX_PERIODS → m.period < MAX_PERIODS
         → IsTrue (stands_before l m) ↔ (place_of l < place_of m) }
 {}
 
-/// `==` of formulas tells whether they are the same.
+/// `==` of formulas returns whether they are the same.
 #[tactic(auto, using(crate::specs::inner::Equality::bands_told))]
 pub fn equal_formulas_are_the_same()
     ensures { (f g : AFormula) → IsTrue (⟦<Formula as PartialEq>⟧.eq f g) ↔ (f ≡ g) }

@@ -1,4 +1,4 @@
-//! Blocks, the parts of a plan, what blocks are worth by its formulas, and the settings of a run.
+//! Blocks, the parts of a plan, the worths of blocks by its formulas, and the settings of a run.
 #![tactic(auto)]
 
 pub mod block;

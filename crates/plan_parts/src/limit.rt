@@ -5,20 +5,20 @@ ghost use Rattle.plan_parts.specs.PlanKept.{is_turned, stands_before};
 
 use pit_units::Dec;
 
-/// What a limit asks of the tonnes that a resource handles in a period. In a plan each number of tonnes is 0 to 10^12, in a MineLib text any
+/// The bound of a limit on the tonnes that a resource handles in a period. In a plan each number of tonnes is 0 to 10^12, in a MineLib file any
 /// decimal.
 #[derive(Clone, Copy, Debug, PartialEq, Eq)]
 pub enum Bound {
-    /// No more than so many tonnes.
+    /// At most this number of tonnes.
     AtMost(Dec),
-    /// No fewer than so many tonnes.
+    /// At least this number of tonnes.
     AtLeast(Dec),
-    /// From the first number of tonnes to the second, which is no smaller.
+    /// From the first number of tonnes to the second, which is not smaller.
     Between(Dec, Dec),
 }
 
 impl Bound {
-    /// Whether the ends of an interval are the wrong way round.
+    /// Returns whether the lower end of an interval is above its upper end.
     pub fn is_turned(&self) -> bool
         ensures { result ≡ is_turned self.now }
     {
@@ -37,12 +37,12 @@ pub struct Limit {
     pub resource: u8,
     /// The number of the period, from 0.
     pub period: u8,
-    /// The tonnes that the resource may or must handle then.
+    /// The tonnes that the resource may or must handle in the period.
     pub bound: Bound,
 }
 
 impl Limit {
-    /// Whether the limit stands before another: by resource, then period.
+    /// Returns whether the limit comes before another: by resource, then by period.
     pub fn stands_before(&self, other: &Limit) -> bool
         ensures { result ≡ stands_before self.now other.now }
     {

@@ -4,7 +4,7 @@ use std::marker::Model;
 
 pub mod past;
 
-/// Items in their order. Contracts see the list of them.
+/// Items in order. Contracts see the list of the items.
 #[derive(Debug, Drop)]
 pub struct Listed<T> {
     items: Vec<T>,
@@ -21,14 +21,14 @@ impl<T> Model for Listed<T> {
 impl<T> Listed<T> {
     ghost use Rattle.std.specs.Prelude.{◌≡◌};
 
-    /// These items, in their order. It takes no memory.
+    /// Makes a list of these items. Allocates no memory.
     pub fn new(items: Vec<T>) -> Listed<T>
         ensures { result ≡ items.items }
     {
         Listed { items }
     }
 
-    /// The items, in their order.
+    /// Returns the items in order.
     pub fn as_slice(&self) -> &[T]
         ensures { result.now ≡ self.now }
     {

@@ -1,4 +1,4 @@
-//! A NAME: what a plan calls itself, a destination or a resource.
+//! A NAME, of a plan, a destination or a resource.
 
 ghost use Rattle.std.specs.Prelude.{◌≡◌, IfOk, MatchOption, true, false};
 ghost use Rattle.std.specs.List.{list_all};
@@ -10,7 +10,7 @@ use std::alloc::{AllocError, Global};
 use std::marker::Model;
 use std::str;
 
-/// 1 to 64 bytes, each an ASCII letter, a digit, `_`, `-` or `.`. Contracts see it as the list of its bytes.
+/// 1 to 64 bytes, each an ASCII letter, a digit, `_`, `-` or `.`. Contracts see the list of the bytes.
 #[derive(Debug, Drop)]
 pub struct Name {
     text: String,
@@ -28,7 +28,7 @@ impl Model for Name {
 }
 
 impl Name {
-    /// The NAME that `bytes` spell, or `None` where they spell none. Fails only where memory is refused.
+    /// Reads the NAME in `bytes`. Returns `None` if they are no NAME. Fails only if memory is refused.
     pub fn read(alloc: Global, bytes: &[u8]) -> Result<Option<Name>, AllocError>
         ensures { IfOk result (λ name. MatchOption name (is_name bytes.now ≡ false)
             (λ n. n ≡ bytes.now)) }
@@ -44,7 +44,7 @@ impl Name {
         }))
     }
 
-    /// A copy of the NAME. Fails only where memory is refused.
+    /// Copies the NAME. Fails only if memory is refused.
     pub fn copy(&self, alloc: Global) -> Result<Name, AllocError>
         ensures { IfOk result (λ name. name ≡ self.now) }
     {
@@ -53,14 +53,14 @@ impl Name {
         })
     }
 
-    /// Whether these bytes spell this NAME.
+    /// Returns whether these bytes are this NAME.
     pub fn is(&self, bytes: &[u8]) -> bool
         ensures { result ≡ bytes_eq self.now bytes.now }
     {
         self.text.as_bytes() == bytes
     }
 
-    /// The NAME as text.
+    /// Returns the NAME as text.
     pub fn as_str(&self) -> &str
         ensures value { result.now ≡ self.now }
         ensures kept { is_name self.now ≡ true }
@@ -69,7 +69,7 @@ impl Name {
     }
 }
 
-/// Whether `bytes` spell a NAME.
+/// Returns whether `bytes` are a NAME.
 pub fn is_name(bytes: &[u8]) -> bool
     ensures { result ≡ is_name bytes.now }
 {

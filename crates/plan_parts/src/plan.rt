@@ -12,7 +12,7 @@ use crate::resource::Resource;
 use pit_units::Dec;
 use std::marker::Model;
 
-/// How many periods a plan has, and its discount rate, the same for each period.
+/// The number of periods of a plan, and its discount rate, which is the same for each period.
 #[derive(Clone, Copy)]
 pub struct Horizon {
     /// The number of periods.
@@ -21,8 +21,8 @@ pub struct Horizon {
     pub rate: Dec,
 }
 
-/// The plan of a mine, which `pit_model::read_plan` answers of a text. Contracts see it as the record of its parts, and every value keeps their ranges,
-/// their order, and that each part names only parts that are there.
+/// The plan of a mine, as `pit_model::read_plan` reads it from a text. Contracts see it as the record of its parts. In every value the parts are
+/// in range and in order, and refer only to parts that exist.
 #[derive(Debug, Drop)]
 pub struct Plan {
     name: Name,
@@ -48,7 +48,7 @@ impl Model for Plan {
 }
 
 impl Plan {
-    /// A plan of these parts.
+    /// Makes a plan with these parts.
     pub fn new(
         name: Name,
         grid: Grid,
@@ -75,7 +75,7 @@ impl Plan {
         }
     }
 
-    /// The plan's own NAME.
+    /// Returns the plan's own NAME.
     pub fn name(&self) -> &Name
         ensures value { result.now ≡ self.now.name }
         ensures kept { IsPlan self.now }
@@ -83,7 +83,7 @@ impl Plan {
         &self.name
     }
 
-    /// The grid of the block model.
+    /// Returns the grid of the block model.
     pub fn grid(&self) -> Grid
         ensures value { result ≡ self.now.grid }
         ensures kept { IsPlan self.now }
@@ -91,7 +91,7 @@ impl Plan {
         self.grid
     }
 
-    /// The slope cone of each zone, in the order of the zone files: 1 to 64.
+    /// Returns the slope cone of each zone, in the order of the zone files: 1 to 64.
     pub fn cones(&self) -> &[Cone]
         ensures value { result.now ≡ self.now.cones }
         ensures kept { IsPlan self.now }
@@ -99,7 +99,7 @@ impl Plan {
         self.cones.as_slice()
     }
 
-    /// The destinations, in the order of the plan: 1 to 8.
+    /// Returns the destinations, in the order of the plan: 1 to 8.
     pub fn formulas(&self) -> &[NamedFormula]
         ensures value { result.now ≡ self.now.formulas }
         ensures kept { IsPlan self.now }
@@ -107,7 +107,7 @@ impl Plan {
         self.formulas.as_slice()
     }
 
-    /// The number of periods, 1 to 100.
+    /// Returns the number of periods, 1 to 100.
     pub fn periods(&self) -> u8
         ensures value { result ≡ self.now.periods }
         ensures kept { IsPlan self.now }
@@ -115,7 +115,7 @@ impl Plan {
         self.periods
     }
 
-    /// The discount rate, 0 to 1.
+    /// Returns the discount rate, 0 to 1.
     pub fn rate(&self) -> Dec
         ensures value { result ≡ self.now.rate }
         ensures kept { IsPlan self.now }
@@ -123,7 +123,7 @@ impl Plan {
         self.rate
     }
 
-    /// The resources, in the order of the plan: at most 8.
+    /// Returns the resources, in the order of the plan: at most 8.
     pub fn resources(&self) -> &[Resource]
         ensures value { result.now ≡ self.now.resources }
         ensures kept { IsPlan self.now }
@@ -131,7 +131,7 @@ impl Plan {
         self.resources.as_slice()
     }
 
-    /// The limits, in strictly rising order of resource and period.
+    /// Returns the limits, in strictly ascending order of resource and period.
     pub fn limits(&self) -> &[Limit]
         ensures value { result.now ≡ self.now.limits }
         ensures kept { IsPlan self.now }

@@ -1,10 +1,10 @@
-//! How a run is to be made.
+//! The settings of a run.
 
-/// How a run is to be made.
+/// The settings of a run.
 #[derive(Clone, Copy, Debug, PartialEq, Eq)]
 pub struct Settings {
     /// The number of threads that value rows, 1 to 64.
     pub valuers: usize,
-    /// How many messages the lane holds at most, 1 to 4096.
+    /// The number of messages that the lane can hold, 1 to 4096.
     pub capacity: usize,
 }

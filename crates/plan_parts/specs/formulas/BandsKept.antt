@@ -1,4 +1,4 @@
--- What the bands of every leach keep, and when two lists of bands are the same.
+-- The invariant of the bands of a leach, and the equality of two lists of bands.
 use Rattle.std.specs.Prelude.{◌≡◌, ◌≤◌, Bool, true, ◌&&◌, ◌==◌, nat_lt, List, [], ◌∷◌, length, All}
 use Rattle.std.specs.Cmp.Lexicographic.{pointwise}
 use Rattle.plan_parts.specs.declared.formulas.band.Band.{Band}
@@ -14,7 +14,7 @@ starts_rise [] = true
 starts_rise (b ∷ []) = true
 starts_rise (b ∷ (c ∷ bands)) = nat_lt b.start c.start && starts_rise (c ∷ bands)
 
--- 1 to 16 bands in range, in strictly rising order of their starts
+-- 1 to 16 bands in range, in strictly ascending order of their starts
 pub record AreBands (bands : List Band) : Type 0 where
   pub count : (1 ≤ length bands) × (length bands ≤ MAX_BANDS)
   pub in_range : All IsBand bands

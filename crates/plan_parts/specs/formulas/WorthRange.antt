@@ -1,8 +1,8 @@
--- How worths are rounded, and how great they are.
+-- The rounding of worths, and their range.
 use Rattle.std.specs.Prelude.{ℕ, ◌*◌, ◌^◌, ◌≤◌, ℤ, pos, ◌+ℤ◌, ◌*ℤ◌, ◌≤ℤ◌, ◌<ℤ◌, unsigned_abs}
 use Rattle.plan_parts.specs.declared.formulas.formula.Formula.TheVariants as formula
 
--- q is the whole number that a by n is rounded down to
+-- q is the integer to which a divided by n is rounded down
 abbrev pub IsFloor : ℤ → ℤ → ℕ → Type 0
 IsFloor q a n = ((q *ℤ pos n) ≤ℤ a) × (a <ℤ ((q *ℤ pos n) +ℤ pos n))
 

@@ -1,4 +1,4 @@
--- A test tells whether two things are equal; so does `==` of bands.
+-- Tests that decide equality, such as `==` of bands.
 use Rattle.std.proofs.Common.{◌≡◌, ◌∙◌, ◌&&◌, ◌==◌, List, Bool, true, refl, sym, ap, subst, eq-eqb}
 use Rattle.std.proofs.lemmas.Bool.{and_parts, eqb-true}
 use Rattle.std.specs.Bool.{Decides, one_answer}
@@ -7,7 +7,7 @@ use Rattle.std.specs.Cmp.Lexicographic.{pointwise_decides}
 use Rattle.plan_parts.specs.formulas.BandsKept.{band_eq, bands_eq}
 use Rattle.plan_parts.specs.declared.formulas.band.Band.{Band}
 
--- a test that tells equality is an equivalence
+-- a test that decides equality is an equivalence
 pub equivalence : {K : Type 0} {E : K → K → Bool} → ((x y : K) → Decides (E x y) (x ≡ y)) → IsEquivalence E
 equivalence {K} {E} told = record {
   refl = λ x. (told x x).1 refl;
@@ -15,7 +15,7 @@ equivalence {K} {E} told = record {
   congr = λ x y z h. ap (λ w. E w z) ((told x y).0 h);
 }
 
--- it is enough that it holds of a thing and itself
+-- a test decides equality if it implies equality and holds for equal things
 pub decides : {K : Type 0} (E : K → K → Bool) → ((x y : K) → E x y ≡ true → x ≡ y) → ((x : K) → E x x ≡ true) → (x y : K) → Decides (E x y) (x ≡ y)
 decides E same own x y = (same x y, λ e. subst (λ w. E x w ≡ true) e (own x))
 

@@ -1,4 +1,4 @@
--- How a plan's fields are seen as its parts.
+-- The parts of a plan, from its fields.
 use Rattle.plan_parts.specs.declared.plan.Plan.TheInside.{Inside}
 use Rattle.plan_parts.specs.Plan.{PlanParts}
 use Rattle.plan_parts.specs.PlanKept.{IsPlan}

@@ -1,4 +1,4 @@
--- There is one proof at most that a formula's numbers are in range, which a destination keeps.
+-- There is at most one proof that the numbers of a formula are in range. A destination stores it.
 use Rattle.std.specs.Prelude.{List}
 use Rattle.std.specs.Coded.{Coded-set, coded_bool, le_prop}
 use Rattle.plan_parts.specs.formulas.BandsKept.{AreBands}

@@ -1,4 +1,4 @@
-//! The bands of a heap leach: how much of the metal is recovered at which grade.
+//! The bands of a heap leach: the recovery of metal at each grade.
 
 ghost use Rattle.std.specs.Prelude.{◌≡◌, ◌≤◌, ◌↔◌, IsTrue, IsSome, IfSome, IfOk, All, true, length, take, nat_le, filter};
 ghost use Rattle.plan_parts.specs.formulas.Bands.{recovery_at};
@@ -9,16 +9,16 @@ use crate::ranges::{MAX_BANDS, MAX_GRADE, MAX_RECOVERY};
 use std::alloc::{AllocError, Global};
 use std::marker::Model;
 
-/// A band of grades that a heap leach recovers alike. It ends where the next one begins.
+/// A band of grades with the same recovery at a heap leach. It ends where the next band begins.
 #[derive(Clone, Copy, Debug, PartialEq, Eq)]
 pub struct Band {
-    /// The least grade of the band, in millionths of a gram per tonne, 0 to 10^12.
+    /// The smallest grade of the band, in millionths of a gram per tonne, 0 to 10^12.
     pub start: u64,
-    /// The part of the metal that is recovered, per mille, 0 to 1000.
+    /// The recovery of the metal, per mille, 0 to 1000.
     pub recovery: u16,
 }
 
-/// 1 to 16 bands, each in range and beginning above the one before it. Contracts see them as a list.
+/// 1 to 16 bands, each in range and beginning above the band before it. Contracts see the list of the bands.
 #[derive(Debug, Drop)]
 pub struct Bands {
     bands: Vec<Band>,
@@ -38,7 +38,8 @@ impl Model for Bands {
 }
 
 impl Bands {
-    /// These bands, or `None` where they are not 1 to 16, one is out of range, or one does not begin above the one before it.
+    /// Makes bands from this list. Returns `None` if there are not 1 to 16, a band is out of range, or a band does not begin above the band
+    /// before it.
     pub fn new(bands: Vec<Band>) -> Option<Bands>
         ensures ruled { IsSome result ↔ AreBands bands.items }
         ensures value { IfSome result (λ b. b ≡ bands.items) }
@@ -55,8 +56,8 @@ impl Bands {
         }
     }
 
-    /// The recovery at a grade in millionths of a gram per tonne, per mille: that of the last band that begins at or below it, or 0 where
-    /// the first band begins above it. It searches by halves.
+    /// Returns the recovery per mille at a grade in millionths of a gram per tonne: the recovery of the last band that begins at or below the
+    /// grade, or 0 if the first band begins above it. Uses binary search.
     pub fn recovery(&self, grade: u64) -> u16
         ensures value { result ≡ recovery_at self.now grade }
         ensures in_range { result ≤ MAX_RECOVERY }
@@ -68,7 +69,7 @@ impl Bands {
         }
     }
 
-    /// The bands, in rising order of their starts.
+    /// Returns the bands, in ascending order of their starts.
     pub fn as_slice(&self) -> &[Band]
         ensures value { result.now ≡ self.now }
         ensures kept { AreBands self.now }
@@ -76,7 +77,7 @@ impl Bands {
         &self.bands
     }
 
-    /// The same bands in memory of their own. Fails only where memory is refused.
+    /// Copies the bands. Fails only if memory is refused.
     pub fn copy(&self, alloc: Global) -> Result<Bands, AllocError>
         ensures { IfOk result (λ b. b ≡ self.now) }
     {
@@ -86,7 +87,7 @@ impl Bands {
     }
 }
 
-/// Whether each band begins above the one before it.
+/// Returns whether each band begins above the band before it.
 pub fn starts_rise(bands: &[Band]) -> bool
     ensures { result ≡ starts_rise bands.now }
 {
@@ -117,7 +118,7 @@ impl Eq for Bands {
     ghost laws = { bands_equivalence };
 }
 
-// How many bands begin at or below a grade: as they rise, the first ones.
+// Returns the number of bands that begin at or below a grade. Since starts rise, these are the first bands.
 fn count_begun(bands: &[Band], grade: u64) -> usize
     requires { starts_rise bands.now ≡ true }
     ensures within { result ≤ length bands.now }

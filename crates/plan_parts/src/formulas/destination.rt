@@ -10,11 +10,11 @@ ghost use Rattle.plan_parts.specs.declared.block.Block.{Block as ABlock};
 use crate::block::Block;
 use crate::formulas::formula::Formula;
 
-/// What values a block: a closure on the heap, which may go to another thread and be called from several at once.
+/// A closure on the heap that values blocks. It can move to another thread and be called by several threads at once.
 pub type Valuer = Box<dyn Fn(Block) -> i128 + Send + Sync>;
 
-/// A destination: its formula, and a closure that may be called on every block and answers the formula's worth. Beside
-/// the two it keeps the fact that this is so.
+/// A destination: its formula, and a closure that can be called for every block and returns the formula's worth. With both it
+/// stores the fact that this is so.
 #[derive(Drop)]
 pub struct Destination {
     formula: Formula,
@@ -28,8 +28,8 @@ impl Destination {
     ghost use Rattle.plan_parts.specs.Destinations.{formula_of};
     ghost use Rattle.plan_parts.specs.OfPlan.{valuer_of};
 
-    /// A destination with this formula and this closure, which may be called on every block and answers the formula's
-    /// worth. It takes no memory.
+    /// Makes a destination with this formula and this closure, which must accept every block and return the formula's
+    /// worth. Allocates no memory.
     pub fn new(formula: Formula, valuer: Valuer) -> Destination
         requires ruled { IsRuled formula }
         requires callable { Valuer.IsAlwaysCallable valuer }
@@ -39,7 +39,7 @@ impl Destination {
         Destination { formula, valuer }
     }
 
-    /// What a block is worth here, in cents: the answer of the closure.
+    /// Returns the worth of a block here in cents, by calling the closure.
     #[tactic(auto, using(crate::proofs::WorthFacts::worth_bound))]
     pub fn value(&self, block: Block) -> i128
         ensures asked { Valuer.post (valuer_of self.now) block result }
@@ -49,7 +49,7 @@ impl Destination {
         ask(&self.valuer, block)
     }
 
-    /// The formula.
+    /// Returns the formula.
     pub fn formula(&self) -> &Formula
         ensures value { result.now ≡ formula_of self.now }
         ensures ruled { IsRuled result.now }
@@ -58,7 +58,7 @@ impl Destination {
     }
 }
 
-// The closure's answer, whatever the closure is.
+// Returns the result of the closure, for any closure.
 fn ask(valuer: &Valuer, block: Block) -> i128
     requires { Valuer.pre valuer.now block }
     ensures { Valuer.post valuer.now block result }

@@ -13,19 +13,19 @@ use crate::name::Name;
 use std::alloc::{AllocError, Global};
 
 /// How a destination values a block. The numbers of a plan's formulas are in range; functions that use a formula
-/// require it.
+/// require this.
 ///
-/// `==` tells whether two formulas are of one kind and have the same numbers.
+/// `==` returns whether two formulas are of the same kind and have the same numbers.
 #[derive(Debug, Drop, PartialEq, Eq)]
 pub enum Formula {
-    /// A mill: it recovers `recovery` per mille of the metal, 0 to 1000, which sells for `price` cents per kilogram, 0 to 10^8, and it costs
-    /// `cost` cents per tonne of the block, 0 to 10^7.
+    /// A mill. It recovers `recovery` per mille of the metal, 0 to 1000. The metal sells for `price` cents per kilogram, 0 to 10^8. A tonne of
+    /// the block costs `cost` cents, 0 to 10^7.
     Mill {
         recovery: u16,
         price: u64,
         cost: u64,
     },
-    /// A heap leach: the same, with the recovery of the band of the block's grade.
+    /// A heap leach: like a mill, with the recovery of the band that holds the block's grade.
     Leach {
         bands: Bands,
         price: u64,
@@ -38,7 +38,7 @@ pub enum Formula {
 }
 
 impl Formula {
-    /// The same formula in memory of its own. Fails only where memory is refused, which only a leach asks for.
+    /// Copies the formula. Only a leach allocates memory; fails only if memory is refused.
     pub fn copy(&self, alloc: Global) -> Result<Formula, AllocError>
         ensures value { IfOk result (λ f. f ≡ self.now) }
         ensures memory { OnErr result (HasBands self.now) }
@@ -62,7 +62,7 @@ impl Formula {
         })
     }
 
-    /// What a block is worth by this formula, in cents.
+    /// Returns the worth of a block by this formula, in cents.
     pub fn worth(&self, block: Block) -> i128
         requires { IsRuled self.now }
         ensures value { result ≡ worth self.now block }

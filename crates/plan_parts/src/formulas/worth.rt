@@ -1,4 +1,4 @@
-//! What a block is worth, in cents.
+//! The worth of a block in cents.
 
 ghost use Rattle.std.specs.Prelude.{◌≡◌, ◌≤◌, ◌*◌, ◌^◌};
 ghost use Rattle.plan_parts.specs.formulas.Worth.{mill, leach, dump, floor};
@@ -8,8 +8,8 @@ ghost use Rattle.plan_parts.specs.declared.ranges.TheConstants.{MAX_COST, MAX_PR
 use crate::block::Block;
 use crate::formulas::band::Bands;
 
-/// The worth of a block at a mill that recovers `recovery` per mille of the metal, which sells for `price` cents per kilogram, at a cost of
-/// `cost` cents per tonne: in cents, rounded down, also below zero.
+/// Returns the worth in cents of a block at a mill, rounded down, also below zero. The mill recovers `recovery` per mille of the metal, which
+/// sells for `price` cents per kilogram, and a tonne of the block costs `cost` cents.
 pub fn mill_worth(block: Block, recovery: u16, price: u64, cost: u64) -> i128
     requires recovery { recovery ≤ MAX_RECOVERY }
     requires price { price ≤ MAX_PRICE }
@@ -22,8 +22,8 @@ pub fn mill_worth(block: Block, recovery: u16, price: u64, cost: u64) -> i128
     in_cents(earned as i128 - spent as i128)
 }
 
-/// The worth of a block on a heap leach: that of a mill with the recovery of the last band that begins at or below the block's grade, or 0
-/// where the first band begins above it.
+/// Returns the worth of a block on a heap leach: the worth at a mill with the recovery of the last band that begins at or below the block's
+/// grade, or with recovery 0 if the first band begins above it.
 pub fn leach_worth(block: Block, bands: &Bands, price: u64, cost: u64) -> i128
     requires price { price ≤ MAX_PRICE }
     requires cost { cost ≤ MAX_COST }
@@ -33,7 +33,7 @@ pub fn leach_worth(block: Block, bands: &Bands, price: u64, cost: u64) -> i128
     mill_worth(block, bands.recovery(block.grade), price, cost)
 }
 
-/// The worth of a block on a dump that costs `cost` cents per tonne: in cents, rounded down, so never above zero.
+/// Returns the worth in cents of a block on a dump that costs `cost` cents per tonne, rounded down. It is never above zero.
 pub fn dump_worth(block: Block, cost: u64) -> i128
     requires { cost ≤ MAX_COST }
     ensures value { result ≡ dump block cost }
@@ -43,8 +43,7 @@ pub fn dump_worth(block: Block, cost: u64) -> i128
     i128::from((-spent).div_euclid(1000))
 }
 
-// How many cents so many parts make, of which 10^15 make a cent, rounded down. Where their number has 64 bits once it is taken by 2^15, it is
-// divided as such.
+// Converts 10^-15 cents to cents, rounded down. If the number divided by 2^15 fits into 64 bits, divides in 64 bits.
 #[tactic(auto, using(crate::proofs::WorthFacts::floor_twice))]
 fn in_cents(parts: i128) -> i128
     ensures { result ≡ floor parts (10 ^ 15) }
@@ -56,7 +55,7 @@ fn in_cents(parts: i128) -> i128
     }
 }
 
-// What the recovered metal of a block sells for, in parts of which 10^15 make a cent.
+// Returns the price of a block's recovered metal, in 10^-15 cents.
 #[tactic(auto, using(crate::proofs::WorthFacts::metal_bound))]
 fn metal_value(block: Block, recovery: u16, price: u64) -> u128
     requires recovery { recovery ≤ MAX_RECOVERY }
@@ -67,7 +66,7 @@ fn metal_value(block: Block, recovery: u16, price: u64) -> u128
     block.kg as u128 * block.grade as u128 * recovery as u128 * price as u128
 }
 
-// What it costs to process a block, in the same parts.
+// Returns the cost of processing a block, in 10^-15 cents.
 fn processing_cost(block: Block, cost: u64) -> u128
     requires { cost ≤ MAX_COST }
     ensures value { result ≡ block.kg * cost * 10 ^ 12 }

@@ -1,4 +1,4 @@
-//! Items of which contracts alone see which they were.
+//! A list of items for contracts alone.
 
 ghost use Rattle.std.specs.Prelude.{◌≡◌, ◌++◌, [], ◌∷◌};
 ghost use Rattle.plan_parts.specs.inner.Past.{items_in};
@@ -6,14 +6,14 @@ ghost use Rattle.plan_parts.specs.inner.Past.{items_in};
 use std::marker::Model;
 use std::snapshot::Snapshot;
 
-/// Items in the order in which they came. It takes one byte, however many there are, since none is kept. Contracts see the list of
-/// them.
+/// Items in the order of their arrival. Uses one byte for any number of items, since none is stored. Contracts see the list of the
+/// items.
 #[derive(Drop)]
 pub struct Past<T> {
     links: Links<T>,
 }
 
-// None, or one item after others.
+// No item, or one item after others.
 #[derive(Drop)]
 enum Links<T> {
     Start,
@@ -30,7 +30,7 @@ impl<T> Model for Past<T> {
 }
 
 impl<T> Past<T> {
-    /// No items.
+    /// Makes the empty list.
     pub fn new() -> Past<T>
         ensures { result ≡ [] }
     {
@@ -39,7 +39,7 @@ impl<T> Past<T> {
         }
     }
 
-    /// These items and one more.
+    /// Returns these items and one more.
     pub fn with(&self, item: &T) -> Past<T>
         ensures { result ≡ self.now ++ item.now ∷ [] }
     {
@@ -50,7 +50,7 @@ impl<T> Past<T> {
 }
 
 impl<T> Links<T> {
-    // These items and one more.
+    // Returns these items and one more.
     fn with(&self, item: &T) -> Links<T>
         ensures { items_in result ≡ items_in self.now ++ item.now ∷ [] }
     {
