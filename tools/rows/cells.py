@@ -1,5 +1,4 @@
-"""What cells and fields may hold: the spellings of a number at both ends of its range and past
-them, and each byte in a name."""
+"""What cells and fields may hold: the formats of a number at both ends of its range and outside it, and each byte in a name."""
 import itertools
 from typing import NamedTuple, Optional
 
@@ -14,8 +13,7 @@ EVERY_BYTE = [bytes([byte]) for byte in range(256)]
 
 
 class Cell(NamedTuple):
-    """A cell or a field of a record or a line: one that is good, and the decimals, the least and
-    the greatest number that it may hold.
+    """A cell or a field of a record or a line: a valid one, and the decimals, the smallest and the largest number that it may hold.
 
     The two ends count the last of these decimals. A cell without them holds a name, or a word that
     stays as it is.
@@ -28,7 +26,7 @@ class Cell(NamedTuple):
     stays: bool = False
 
     def faults(self):
-        """Texts that are refused, and their kinds: what is looked for first, and what last."""
+        """Returns texts that are refused, and their kinds: what is checked first, and what last."""
         if self.stays:
             return []
         if self.decimals is None:
@@ -36,8 +34,7 @@ class Cell(NamedTuple):
         return [("x", "Number"), (spelled(self.greatest + 1, self.decimals), "Range")]
 
     def spellings(self):
-        """Spellings of numbers but the good one, each once, with its number, or with None and the
-        kind of its fault."""
+        """Returns other formats of numbers, each once, with its number, or with None and the kind of its fault."""
         seen = {self.good}
         for text, number, kind in self.all_spellings() if self.decimals is not None else []:
             if text not in seen:
@@ -45,8 +42,8 @@ class Cell(NamedTuple):
                 yield text, number, kind
 
     def past(self):
-        """Numbers past either end that a count of so many bits would take for one of the range,
-        whether it counts the last decimals or millionths."""
+        """Returns numbers outside the range that a counter with this number of bits would read as one of the range, whether it counts
+        the last decimals or millionths."""
         for bits, unit in itertools.product((8, 16, 32, 64, 128), (0, 6 - self.decimals)):
             step = 2 ** (bits - unit)
             if self.least + step > self.greatest:
@@ -74,7 +71,7 @@ class Cell(NamedTuple):
             yield str(greatest // 10**decimals) + ".", greatest // 10**decimals * 10**decimals, None
         for number in [least - 1, greatest + 1, -(10**40), 10**40, *self.past()]:
             yield spelled(number, decimals), None, "Range"
-        # just past the ends in other spellings
+        # just outside the range in other formats
         for number in (least - 1, greatest + 1):
             yield spelled(number, decimals, "0") + point + "00", None, "Range"
         if greatest > 0 and -greatest < least:
@@ -82,7 +79,7 @@ class Cell(NamedTuple):
         for number in sorted({least - 1, least, max(0, least), greatest, greatest + 1}):
             yield spelled(number, decimals) + point + "1", None, "TooFine"
         yield spelled(greatest, decimals) + point + "0000001", None, "TooFine"
-        # also where zeros stand behind the digit that is too fine
+        # also if zeros follow the digit that is too fine
         yield spelled(least, decimals) + point + "10", None, "TooFine"
         yield spelled(greatest, decimals) + point + "0" * 40 + "500", None, "TooFine"
         yield spelled(least, decimals) + point + "0" * 120 + "1", None, "TooFine"
@@ -92,24 +89,24 @@ class Cell(NamedTuple):
 
 
 def spelled(number, decimals, front=""):
-    """A number that counts the last of so many decimals, with all of them, and these in front."""
+    """Returns a number in units of the last of these decimals, with all of them, after this prefix."""
     digits = f"{abs(number):0{decimals + 1}d}"
     whole, fraction = (digits[:-decimals], "." + digits[-decimals:]) if decimals else (digits, "")
     return ("-" if number < 0 else "") + front + whole + fraction
 
 
 def shortest(number, decimals):
-    """The shortest text of a number that counts the last of so many decimals."""
+    """Returns the shortest text of a number in units of the last of these decimals."""
     text = spelled(number, decimals)
     return text.rstrip("0").rstrip(".") if decimals else text
 
 
-# Numbers of 3 and of 6 decimals of which floating point takes one less, where it cuts.
+# Numbers of 3 and of 6 decimals that floating point makes one less when it truncates.
 CUT = {3: (1_001, 2_002, 1_023), 6: (249, 1_000_249, 983)}
 
 
 def unusual(number, decimals):
-    """Spellings, but the shortest, of a number from 0 on that counts the last of so many decimals.
+    """Yields formats, except the shortest, of a number from 0 on in units of the last of these decimals.
     """
     whole = shortest(number, decimals)
     point = "" if "." in whole else "."
@@ -123,7 +120,7 @@ def unusual(number, decimals):
 
 
 def with_cell(cells, at, text):
-    """The good cells, but for one."""
+    """Returns the valid cells, except one."""
     return [text if place == at else cell.good for place, cell in enumerate(cells)]
 
 
@@ -133,8 +130,7 @@ def record_of(texts):
 
 
 def pairs_of_faults(cells):
-    """Cells of which two are refused, and the kind of the one on the left, where the two kinds tell
-    which it was."""
+    """Yields cells of which two are refused, and the kind of the left one, if the two kinds show which it was."""
     for left, right in itertools.combinations(range(len(cells)), 2):
         pairs = itertools.product(cells[left].faults(), cells[right].faults())
         for (text, kind), (other, other_kind) in pairs:
@@ -158,8 +154,7 @@ def faulty_text(cell, kind):
 
 
 def two_kinds_of_faults(cells):
-    """Cells of which two numbers are refused, each two of them with the next two kinds, and the kind of the one on
-    the left."""
+    """Yields cells of which two numbers are refused, each two of them with the next two kinds, and the kind of the left one."""
     numbers = [place for place, cell in enumerate(cells) if cell.decimals is not None]
     for (left, right), (kind, other) in zip(itertools.combinations(numbers, 2), itertools.cycle(WITH_TOO_FINE)):
         both = with_cell(cells, left, faulty_text(cells[left], kind))
@@ -168,7 +163,7 @@ def two_kinds_of_faults(cells):
 
 
 def bytes_about_a_name():
-    """Names with each byte within, before and behind, and whether the name is one."""
+    """Yields names with each byte within, before and after, and whether the name is valid."""
     for byte in EVERY_BYTE:
         yield b"a" + byte + b"b", byte in NAME_BYTES
         yield byte + b"c", byte in NAME_BYTES + BLANKS

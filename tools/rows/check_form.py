@@ -1,4 +1,4 @@
-"""What `check` counts of the files of an instance, and which of them it tells that cannot be read.
+"""What `check` counts of the files of an instance, and which files it reports as unreadable.
 
 The table texts has the faults of their lines.
 """
@@ -14,7 +14,7 @@ from shared import CHECKED
 
 
 def spoiled(parts):
-    """The texts of the one ore block, but for parts that are lacking, folders, or of one line."""
+    """Returns the texts of the one ore block, except for parts that are missing, folders, or of one line."""
     texts = dict(ONE_ORE_BLOCK)
     for ending, how in (part.split("=") for part in parts.split()):
         texts[ending] = Folder() if how == "folder" else lines(how + "|")
@@ -28,14 +28,14 @@ PIECE = 262144
 
 
 def across(bytes_before, text, ending="blocks"):
-    """The texts of the one ore block, one of which has this text at the end of the first piece."""
+    """Returns the texts of the one ore block, one of which has this text at the end of the first chunk."""
     comment = b"%" + b"x" * (PIECE - bytes_before - 2) + b"\n"
     return {**ONE_ORE_BLOCK, ending: comment + text}
 
 
 ONE_LINE = b" 0 0 0 0 1000 5000 0"
 
-# What stands across the end of a piece, by how many bytes of it stand before.
+# What crosses the end of a chunk, by how many of its bytes come before.
 ACROSS = [
     (f"{name}, of which the first piece has {before}", across(before, text, ending))
     for name, ending, text, places in [
@@ -76,8 +76,7 @@ COUNTED = [
     ),
 ]
 
-# What is spoiled, and what `check` tells of it. Files are opened and read in this order, before any
-# text is.
+# What is spoiled, and what `check` reports. Files are opened and read in this order, before any text is.
 SPOILED = [
     ("blocks=lacking prec=lacking pcpsp=lacking", "blocks: FeedFailed"),
     ("blocks=folder prec=lacking pcpsp=lacking", "blocks: FeedFailed"),
@@ -96,7 +95,7 @@ SPOILED = [
     ("upit=folder cpit=folder", "cpit: FeedFailed"),
     ("blocks=x upit=folder", "blocks line 1: Fields"),
     ("cpit=", "cpit line 2: Missing"),
-    # what is wrong with a model file is told behind a folder in the place of the CPIT
+    # what is wrong with a model file is reported after a folder in place of the CPIT
     ("pcpsp=x cpit=folder", "cpit: FeedFailed"),
     ("pcpsp= cpit=folder", "cpit: FeedFailed"),
     ("prec=x cpit=folder", "cpit: FeedFailed"),
@@ -104,7 +103,7 @@ SPOILED = [
 ]
 
 
-# Texts with a fault at the end of the first piece, and what is told of it.
+# Texts with a fault at the end of the first chunk, and the report.
 FAULTY = [
     ("a mark at the end of a piece", across(1, MARK + ONE_LINE[1:]), "blocks line 2: Number"),
     ("a fault behind a piece", across(0, b"x\n\n0"), "blocks line 2: Fields"),
@@ -113,7 +112,7 @@ FAULTY = [
 ]
 
 
-# A base that is near to one that is there, and what is told of it.
+# A base that resembles an existing one, and the report.
 NEAR = [
     "BASE", "Base", "bas", "base.", "base.blocks", "base.prec", "base.pcpsp", "base.cpit", "base ",
     "base.blocks.", "./basement", "base/", "*", "bas?", "base.blocks/base",
@@ -124,7 +123,7 @@ CAPITALS = [{ending: how(ending) for ending in CHECKED} for how in (str.upper, s
 
 
 def near_bases():
-    """Files that are near to those that are asked for, and are not there."""
+    """Files that resemble the requested ones, which do not exist."""
     good = at("base", ONE_ORE_BLOCK)
     for base in NEAR:
         words, line = ["check", base], "blocks: FeedFailed"
@@ -146,11 +145,11 @@ def near_bases():
     for words in NEAR_WORDS:
         errors = Front(b"error: ")
         yield Trial(f"near_bases: the words {words}", 2, words=words, files=good, errors=errors)
-    # each file has its ending behind a base that has one
+    # each file has its ending after a base that has one
     yield counted("near_bases: a base with an ending", *COUNTED[0][1:], base="base.blocks")
 
 
-# Words that are near to those of a check.
+# Arguments that resemble those of a check.
 NEAR_WORDS = [
     *([word, "base"] for word in [
         "CHECK", "Check", "chec", "c", "checks", "--check", "-check", "check ", " check"]),
@@ -160,9 +159,8 @@ NEAR_WORDS = [
 
 
 def at_its_ends(index, tonnes, zone, value, counts, rate, name):
-    """The texts of two blocks that wait for each other, where each number is at one end: one index
-    along each axis, one number as tonnes and grade, one as value. The counts are those of periods,
-    destinations and resources."""
+    """The texts of two blocks that wait for each other, in which each number is at one end: one index along each axis, one number as
+    tonnes and grade, one as value. The counts are those of periods, destinations and resources."""
     periods, destinations, resources = counts
     where = f"{resources - 1} {periods - 1}"
     blocks = "".join(f"{own} {index} {index} {index} {tonnes} {tonnes} {zone}|" for own in (0, 1))
@@ -189,7 +187,7 @@ ENDS = [
     ("a millionth", at_its_ends(".0", "0.001", "-0", "-.000001", (1, 1, 1), ".000001", "0" * 64)),
 ]
 
-# Other spellings of a number, and of its sign and digits.
+# Other formats of a number, and of its sign and digits.
 RESPELLED = {
     "a plus": lambda sign, digits: (sign or "+") + digits,
     "two noughts in front": lambda sign, digits: f"{sign}00{digits}",
@@ -204,14 +202,14 @@ RESPELLED = {
 
 
 def respelled(text, how):
-    """A text each of whose numbers is spelled so."""
+    """A text in which each number has this format."""
     def spelled_so(found):
         return RESPELLED[how](found[1], found[2])
     return re.sub(r"(?<![^ \n])(-?)(\d+(?:\.\d+)?)(?![^ \n])", spelled_so, text.decode()).encode()
 
 
 def of_spellings():
-    """Each number of an instance in another spelling, and names of all kinds."""
+    """Each number of an instance in another format, and names of all kinds."""
     limits = b"RESOURCE_CONSTRAINT_LIMITS:\n"
     noughts = at_its_ends("0", "0", "0", "0", (1, 1, 1), "0", "a")
     greatest = at_its_ends("9999", "999999.875", "63", "-12345.678901", (100, 8, 8), "0.125", "a")
@@ -231,7 +229,7 @@ def of_spellings():
         yield counted(f"an instance by the name {name}", texts, "blocks 2 arcs 2 coefficients 1 limits 1 cpit 1")
 
 
-# How many predecessors a block has, and how far apart the two are that are one.
+# How many predecessors a block has, and how far apart the two equal ones are.
 ABOVE, APART = 70, (1, 2, 3, 4, 5, 8, 9, 16, 17, 32, 33, 64, 69)
 
 

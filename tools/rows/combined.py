@@ -1,7 +1,7 @@
-"""Rows by combination: a dozen factors differ from row to row at once, and each two values of two factors meet in some row.
+"""Rows by combination: a dozen factors vary at once from row to row, and every two values of two factors meet in some row.
 
-Most factors, such as ends of lines, quotes and blanks, change no answer. So a row expects what the plain computation makes of the same model
-without them, or what is counted of the same lines, or the one fault that was put in, at the place where it was put.
+Most factors, such as ends of lines, quotes and blanks, do not change the result. So a row expects what the plain computation makes of the
+same model without them, or what is counted of the same lines, or the one fault that was injected, at the place where it was injected.
 """
 import functools
 import itertools
@@ -16,7 +16,7 @@ from shared import CHECKED, compile_words
 
 
 def covering(factors: Dict[str, Sequence]) -> Iterator[Dict]:
-    """Choices of a value of each factor, of which each two values of two factors stand in one."""
+    """Returns choices of a value for each factor, so that every two values of two factors are in one."""
     chance, names = random.Random(len(factors)), list(factors)
     pairs = list(itertools.combinations(names, 2))
     lacking = {(a, b, p, q): None for a, b in pairs for p in range(len(factors[a])) for q in range(len(factors[b]))}
@@ -30,7 +30,7 @@ def covering(factors: Dict[str, Sequence]) -> Iterator[Dict]:
         yield {name: factors[name][place] for name, place in tries[most].items()}
 
 
-# How a text is spelled: how its lines end, what stands about each cell or field, and how each number is spelled.
+# The format of a text: how its lines end, what surrounds each cell or field, and how each number is written.
 ENDS = {"LF": "\n", "CR LF": "\r\n", "CR": "\r", "CR CR LF": "\r\r\n", "none at the end": "\n"}
 ABOUT = {"nothing": ("", ""), "blanks": (" ", "  "), "tabs": ("\t", "\t\t"), "a blank and a tab": (" \t", " \t"), "a tab and a blank": ("\t ", "\t ")}
 SPELLED = {
@@ -54,10 +54,10 @@ def marked(texts: Sequence[bytes], mark: str) -> List[bytes]:
     return [MARK * (others if place else first) + text for place, text in enumerate(texts)]
 
 
-# Models: the cells of their records, and how these are dressed
+# Models: the cells of their records, and their formats
 
-# The cones of every other zone: they differ from those of the rest in one of nine numbers, or have the same ones in another order or as a sum,
-# so that a zone is taken for another where one of them is overlooked.
+# The cones of every other zone: they differ from the others in one of nine numbers, or have the same ones in another order or as a sum, so
+# that a zone is confused with another if one of them is overlooked.
 CONE = [2, 3, 2, 3, 2, 3, 2, 3, 3]
 SIDES = {"none": CONE, **{f"cell {place + 1}": [*CONE[:place], 5 if place == 8 else 2 * CONE[place], *CONE[place + 1 :]] for place in range(9)},
          "turned": [3, 2, 2, 3, 2, 3, 2, 3, 3], "one more and one less": [2, 3, 2, 3, 3, 3, 1, 3, 3]}
@@ -105,7 +105,7 @@ class Model(NamedTuple):
 
 
 def model_of(choice: Dict) -> Model:
-    """The model of a choice, as it is without its dress."""
+    """Returns the model of a choice, without its formats."""
     count, (origin, size) = choice["files"], GRIDS[choice["grid"]]
     cones = [",".join(map(str, SIDES[choice["side"]] if zone % 2 else CONE)) for zone in range(count)]
     destinations, limits = DESTINATIONS[choice["destinations"]], LIMITS[choice["limits"]]
@@ -119,7 +119,7 @@ def model_of(choice: Dict) -> Model:
 
 
 def cells_of(record: str, choice: Dict) -> List[str]:
-    """The cells of a record, each number in its spelling and between blanks."""
+    """Returns the cells of a record, each number in its format and between blanks."""
     before, behind = ABOUT[choice["about"]]
     spell = SPELLED[choice["spelled"]]
     return [before + (spell(cell) if is_number(cell) else cell) + behind for cell in record.split(",")]
@@ -134,14 +134,15 @@ def dressed_plan(model: Model, choice: Dict) -> bytes:
     spell, dressed = KEYS[choice["keys"]], []
     for record in model.plan:
         key, *cells = record.split(",")
-        # names that are numbers would be other names in another spelling
+        # names that are numbers would be other names in another format
         cells = [",".join(cells)] if key == "name" else cells
         dressed += [record_of(cells_of(",".join([spell(key), *cells]), choice), choice["quotes"]) + padding, *between]
     return ended(dressed, choice["end"])
 
 
 def dressed_zone(rows: Sequence[str], choice: Dict, odd: int = -1, more: int = 0) -> bytes:
-    """A zone file of these rows, whose columns stand as chosen; the odd one has an empty cell more at its end, or its last cell less."""
+    """Returns a zone file of these rows, with its columns in the chosen order; the odd one has an extra empty cell at its end, or lacks
+    its last cell."""
     header, names = COLUMNS[choice["columns"]].split(","), "x,y,z,tonnes,grade".split(",")
     dressed = [record_of(header, choice["quotes"])]
     for place, row in enumerate(rows):
@@ -154,7 +155,7 @@ def dressed_zone(rows: Sequence[str], choice: Dict, odd: int = -1, more: int = 0
 
 
 def run_of(name: str, choice: Dict, texts: Sequence[bytes], wanted) -> Trial:
-    """A run of these texts by the form of a choice: refused by this line, or with the texts of this model."""
+    """Returns a run of these texts by the form of a choice: refused by this line, or with the texts of this model."""
     files = {"plan": texts[0], **{f"zone{zone}": text for zone, text in enumerate(texts[1:])}}
     words = compile_words("plan", "b", list(files)[1:])
     given = {"words": words[choice["form"] == FORMS[2] :], "files": files}
@@ -173,13 +174,13 @@ def run_of(name: str, choice: Dict, texts: Sequence[bytes], wanted) -> Trial:
 
 
 def accepted(choice: Dict, name: str) -> Trial:
-    """A model that is taken."""
+    """Returns a model that is accepted."""
     model = model_of(choice)
     texts = [dressed_plan(model, choice), *(dressed_zone(rows, choice) for rows in model.zones)]
     return run_of(name, choice, marked(texts, choice["mark"]), model)
 
 
-# Faults of a cell: the column, the kind, and the text, or where its place is: below the grid, within it, or beyond it.
+# Faults of a cell: the column, the kind, and the text, or where its position is: below the grid, within it, or beyond it.
 CELLS = {
     **{f"{column} {kind} {text}": (column, kind, text) for kind, text, columns in [
         ("Number", "?", "x z tonnes"), ("Number", "", "y grade"), ("TooFine", "0.0001", "x tonnes"), ("TooFine", "0.0000001", "z grade"),
@@ -197,7 +198,7 @@ FAULTY = {**MODELS, "side": ["none"], "masses": list(MASSES)[:2], "box": ["a row
 
 
 def odd_cell(choice: Dict, column: str, text) -> str:
-    """The text of a faulty cell, or of a place that is below the grid, on no block of it, or beyond it and on none."""
+    """Returns the text of an invalid cell, or of a position that is below the grid, on no block of it, or beyond it and on none."""
     if isinstance(text, str):
         return text
     origin, size = (thin.millimetres([float(cells.split(",")["xyz".index(column)])])[0] for cells in GRIDS[choice["grid"]])
@@ -205,7 +206,7 @@ def odd_cell(choice: Dict, column: str, text) -> str:
 
 
 def faulty(choice: Dict, name: str) -> Trial:
-    """A model with one fault that is told, and others behind it."""
+    """Returns a model with one fault that is reported, and others after it."""
     model, fault, count = model_of(choice), choice["fault"], choice["files"]
     file = 0 if choice["file"] == "first" else count - 1
     rows, odd, more = [list(zone) for zone in model.zones], -1, 0
@@ -239,7 +240,7 @@ def faulty(choice: Dict, name: str) -> Trial:
     return trial._replace(words=[*trial.words, *missing])
 
 
-# Texts of an instance, of which each line is dressed
+# Texts of an instance, with a format for each line
 
 LINE_ENDS = {"LF": "\n", "CR LF": "\r\n", "none at the end": "\n", "CR at the end": "\n"}
 BETWEEN = {"a blank": " ", "blanks": "   ", "a tab": "\t", "tabs": "\t\t", "a blank and a tab": " \t"}
@@ -267,7 +268,7 @@ TEXTS = {
 
 
 def lines_of(choice: Dict) -> Dict[str, List[str]]:
-    """The lines of the texts of a choice, as they are without their dress."""
+    """Returns the lines of the texts of a choice, without their formats."""
     count, values = choice["blocks"], VALUES[choice["values"]]
     numbers = {name: choice[name] for name in ("destinations", "resources", "periods")}
     preds = [PREDS[choice["preds"]](own, count) for own in range(count)]
@@ -293,7 +294,7 @@ def dressed_line(line: str, choice: Dict) -> str:
 
 
 def dressed_text(lines: Sequence[str], choice: Dict, told: str = ""):
-    """A text of these lines, and the number of the last one that is this, counted from 1, or of the line behind them."""
+    """Returns a text of these lines, and the number of the last one equal to this, counted from 1, or of the line after them."""
     dressed, number = list(FIRST[choice["first"]]), 0
     keys = (lines + ["OBJECTIVE_FUNCTION:"]).index("OBJECTIVE_FUNCTION:") if ":" in lines[0] else 0
     for place, line in enumerate([*HEADS[choice["head"]](lines[:keys]), *lines[keys:]]):
@@ -306,12 +307,12 @@ def dressed_text(lines: Sequence[str], choice: Dict, told: str = ""):
 
 
 def checked(choice: Dict, name: str) -> Trial:
-    """The texts of an instance, and what is counted of them."""
+    """Returns the texts of an instance, and what is counted of them."""
     lines = lines_of(choice)
     texts = marked([dressed_text(text, choice)[0] for text in lines.values()], choice["mark"])
 
     def below(ending, number):
-        """How many lines stand below a section."""
+        """Returns how many lines follow a section's line."""
         places = [place for place, line in enumerate([*lines[ending], ":"]) if line.endswith(":")]
         return places[number + 1] - places[number] - 1
 
@@ -321,7 +322,7 @@ def checked(choice: Dict, name: str) -> Trial:
     return Trial(name, words=["check", "b"], files=at("b", dict(zip(lines, texts))), out=out.encode() + b"\n")
 
 
-# Faults of a text: which text, the section whose last line is faulty, the field, what stands there and the kind.
+# Faults of a text: which text, the section whose last line is invalid, the field, its content and the kind.
 FIELDS = [
     ("blocks", "", 0, "{before}", "Order"), ("blocks", "", 1, "10000", "Range"), ("blocks", "", 4, "0.0001", "TooFine"), ("blocks", "", 6, "64", "Range"),
     ("prec", "", 0, "{before}", "Order"), ("prec", "", 0, "{blocks}", "Range"), ("prec", "", 1, "{blocks}", "Range"), ("prec", "", 1, "x", "Number"),
@@ -337,14 +338,14 @@ FAULTY_TEXTS = {**TEXTS, "blocks": [12, 300], "cpit": ["there"], "fault": [*FIEL
 
 
 def spoiled(lines: Dict[str, List[str]], choice: Dict):
-    """Puts a fault in one text: which one, the line that is told, or that behind the last, and the kind."""
+    """Puts a fault in one text. Returns which one, the line that is reported, or the one after the last, and the kind."""
     file, *where, kind = choice["fault"]
     text, count = lines[file], choice["blocks"]
     if where:
         section, field, other = where
         place = text.index(section) - 1 if section in text else len(text) - 1
         fields = text[place].split(" ")
-        # a number that is a power of two less, where there are so many
+        # a number that is a power of two less, if there are enough
         less = next(power for power in (65_536, 256, 1) if count > power)
         fields[field] = other.format(before=count - 1 - less, **choice)
         text[place] = " ".join(fields)
@@ -368,7 +369,7 @@ def spoiled(lines: Dict[str, List[str]], choice: Dict):
 
 
 def refused_texts(choice: Dict, name: str) -> Trial:
-    """The texts of an instance of which one is faulty, and perhaps those behind it too."""
+    """Returns the texts of an instance of which one is invalid, and perhaps those after it too."""
     lines = lines_of(choice)
     file, told, kind = spoiled(lines, choice)
     texts, number = {}, 0

@@ -1,4 +1,4 @@
-"""Which files `compile` writes and which it leaves, and what it tells of plans and zone files."""
+"""Which files `compile` writes and which it leaves, and what it reports for plans and zone files."""
 import os
 
 from rows import fullest
@@ -9,20 +9,20 @@ from rows.instance import (
 from rows.trial import MARK, Folder, Front, Link, Trial, refused, zone_file
 from shared import ENDINGS
 
-# Files that are longer than what is written in their place.
+# Files that are longer than what replaces them.
 OLDER = at("base", dict.fromkeys(ENDINGS, b"a line of an older file\n" * 100))
 
-# A path of 300 bytes and more, which leads to where it begins; and a longer one, which with a name
-# stays below the 4,096 bytes that a path may have.
+# A path of 300 bytes and more, which returns to its start; and a longer one, which with a name stays below the 4,096 bytes that a path may
+# have.
 LONG_PATH = "./" * 150
 LONGER_PATH = "./" * 2_000
 
-# As many bytes as a plan may have.
+# The largest number of bytes of a plan.
 MOST = 1_048_576
 
 
 def zones(count):
-    """The plan of one ore block with so many zones."""
+    """Returns the plan of one ore block with this number of zones."""
     return plan_of(cones=["1,1,1"] * count)
 
 
@@ -36,18 +36,17 @@ def wide_rows():
 # A plan of many periods without a resource.
 HUNDRED = plan_of(rest="periods,100|rate,0.1|")
 
-# One cent, and no more, which less than a nanogram of metal brings.
+# One cent, and no more, which less than a nanogram of metal earns.
 CENT = plan_of("leach,heap,3,0,0,1|mill,m,1,3,0|"), zone_file("0,0,0,1.873,177967.609895")
 
 LATE = [f"{n % 30 * 10},{n // 30 * 10},0,1,0" for n in range(898)]
 
-# Blocks that lie a power of two from one another along each axis, from the last to the first, each
-# of other tonnes.
+# Blocks at distances of a power of two from one another along each axis, from the last to the first, each with other tonnes.
 FAR = [(0, 0, 0), *(tuple(2**bits * (axis == at) for at in range(3))
                     for axis in range(3) for bits in range(14))]
 FAR_ROWS = [f"{x}0,{y}0,{z}0,{number}.5,0.{number:06d}" for number, (x, y, z) in enumerate(FAR)]
 
-# A zone file of many columns, and how many cells rows have too many.
+# A zone file of many columns, and how many extra cells its rows have.
 WIDE = 1_100
 PLACES = {70: "tonnes", 300: "x", 600: "grade", 1_000: "z", 1_099: "y"}
 VALUES = {"x": "0", "y": "0", "z": "0", "tonnes": "1000", "grade": "5000"}
@@ -55,7 +54,7 @@ MORE = [1, 16, 32, 40, 64, 100, 250, 255, 256, 500, 1_000, 65_536]
 
 MANY = zones(64), *(zone_file(f"{file * 10},0,0,1,{file}") for file in range(64))
 
-# The plans and zone files that the words of runs name.
+# The plans and zone files that the arguments of runs name.
 FILES = {
     "one": PLAN,
     "two": zones(2),
@@ -76,7 +75,7 @@ FILES = {
     "late_periods": LIMITED[0].replace(b"periods,2\n", b"") + b"periods,2\n",
     **dict.fromkeys(["ore", "--ore", "an ore"], ORE),
     "none": zone_file(),
-    # the one ore block under a mark, in other columns, with line breaks in cells, on blank lines
+    # the one ore block after a byte order mark, in other columns, with line breaks in cells, on blank lines
     "marked": MARK + ORE,
     "marked_plan": MARK + PLAN,
     "marked_two": MARK + zones(2),
@@ -114,7 +113,7 @@ FILES = {
     **{f"many{file}": text for file, text in enumerate(MANY[1:])},
 }
 
-# The plan and the other words of a run, and its texts.
+# The plan and the other arguments of a run, and its texts.
 WRITTEN = [
     ("one_ore_block", "one --valuers 2 --capacity 1 ore", ONE_ORE_BLOCK),
     ("header_alone", "one none", NO_BLOCK),
@@ -142,7 +141,7 @@ WRITTEN = [
     ),
 ]
 
-# The plan and the other words of runs on the one ore block, and what goes through standard input.
+# The plan and the other arguments of runs on the one ore block, and what goes through standard input.
 ACCEPTED = [
     ("a good instance", "one ore", b""),
     ("the longest plan", "longest ore", b""),
@@ -156,7 +155,7 @@ ACCEPTED = [
     ("a pipe with a mark", "marked_plan /dev/stdin", OTHER_ORE),
 ]
 
-# What runs tell that are refused, their plan and their other words.
+# The report of runs that are refused, their plan and their other arguments.
 REFUSED = [
     ("no plan", "plan: FeedFailed", "no/such/plan ore"),
     ("a hyphen as a plan", "plan: FeedFailed", "- ore"),
@@ -237,7 +236,7 @@ REFUSED = [
     ),
 ]
 
-# Words that are near to that of the command, and to options; behind them the words of a good run.
+# Arguments that resemble the command and options, followed by the arguments of a good run.
 NEAR_WORDS = [
     *([word] for word in [
         "COMPILE", "Compile", "comp", "compiles", "--compile", "-compile", "compile ", " compile"]),
@@ -247,7 +246,7 @@ NEAR_WORDS = [
     *(["compile", word] for word in ["--val=4", "--capacity=0", "--capacity=4097"]),
 ]
 
-# Rows of one faulty cell, and its column and fault.
+# Rows of one invalid cell, and its column and fault.
 FAULTY_ROWS = [
     ("a,0,0,1,0", "x: Number"),
     ("0,5,0,1,0", "y: OffGrid"),
@@ -260,7 +259,7 @@ FAULTY_ROWS = [
 
 
 def compile_words(words, base="base"):
-    """The words of a run, and the files that they name beside the older ones."""
+    """The arguments of a run, and the files that they name besides the older ones."""
     words = words.split() if isinstance(words, str) else words
     files = {name: text for name, text in FILES.items() if name in words}
     return {"words": ["compile", "--out", base, "--plan", *words], "files": {**OLDER, **files}}
@@ -299,7 +298,7 @@ def files_that_are_written():
 
 
 def sinks_that_fail():
-    """A folder in the place of a file, and a device that is full; then bases in no folder."""
+    """A folder in place of a file, and a device that is full; then bases in no folder."""
     for name, put in (("put_folder", Folder()), ("put_full", Link("/dev/full"))):
         for place, failing in enumerate(ENDINGS):
             run = compile_words("one ore")

@@ -1,7 +1,7 @@
 """Identifiers and cones: precedence files of worked examples and of random models.
 
-Those of random models are by the test of all pairs; of a million blocks the arcs are counted. The
-others are counted by hand, or by a formula of their own.
+The expected values of random models come from the test of all pairs; of a million blocks the arcs are counted. The others are counted
+manually, or by a separate formula.
 """
 import functools
 import itertools
@@ -15,7 +15,7 @@ ONE = plan_of()
 
 
 def row(place, sizes):
-    """The row of a block at these indices, where blocks have these sizes in millimetres."""
+    """Returns the row of a block at these indices, for these block sizes in millimetres."""
     metres = (shown(index * size) for index, size in zip(place, sizes))
     return ",".join([*metres, "1,0|"])
 
@@ -25,12 +25,12 @@ def shown(millimetres):
 
 
 def rows_of(places, sizes):
-    """The zone file of blocks at these places."""
+    """Returns the zone file of blocks at these positions."""
     return HEADER + lines("".join(row(place, sizes) for place in places))
 
 
 def under_a_box(low, wide, deep, benches, sizes=(10_000, 10_000, 10_000)):
-    """The zone file of a block of the lowest bench, and of a box of benches above it."""
+    """Returns the zone file of a block of the lowest bench, and of a box of benches above it."""
     box = ((x, y, z + 1) for z in range(benches) for y in range(deep) for x in range(wide))
     return rows_of([(*low, 0), *box], sizes)
 
@@ -66,7 +66,7 @@ LISTS = [
         under_a_box((7, 9), 40, 40, 1),
         " ".join(map(str, ["0 1600", *range(1, 1601)])) + "|" + unlisted(1, 1601),
     ),
-    # blocks without tonnage are predecessors, and have them
+    # blocks without tonnage are predecessors, and have predecessors
     (
         "no_tonnage",
         plan_of(cones=["1,1,2"]),
@@ -76,8 +76,8 @@ LISTS = [
     ("four_slopes: equal", ONE, FIFTEEN_ABOVE, "0 5 3 7 8 9 13|" + unlisted(1, 16)),
 ]
 
-# Sizes of blocks, a cone, and distances in blocks along x, y and z: of those that are inside, some
-# of them exactly on the boundary, and of those that are outside by as little as there can be.
+# Sizes of blocks, a cone, and distances in blocks along x, y and z: of those that are inside, some of them exactly on the boundary, and of
+# those that are outside by the smallest possible amount.
 CUBES, WIDE, METRES = (10_000,) * 3, (100_000,) * 3, (1_000,) * 3
 BOUNDARIES = [
     (CUBES, "1,1,20", "3 4 5, 4 3 5, 5 0 5, 0 5 5, 0 0 5, 6 8 10, 12 16 20, 20 0 20, 14 14 20",
@@ -86,10 +86,10 @@ BOUNDARIES = [
      "1 1 1, 2 0 1, 0 10 9, 1 9 9, 7 6 9, 8 5 9, 1 10 10, 8 7 10, 0 12 11, 0 21 20"),
     (CUBES, "3,5,9", "5 0 3, 3 4 3, 15 0 9, 9 12 9", "6 0 3, 4 4 3, 3 5 3, 16 0 9, 15 1 9, 9 13 9"),
     (CUBES, "5,3,20", "3 0 5, 0 3 5, 6 0 10, 12 0 20", "4 0 6, 3 1 5, 1 1 2, 7 0 11, 12 1 20"),
-    # quotients that floating point takes for greater than they are
+    # quotients that floating point makes too large
     (CUBES, "3,17,6", "17 0 3, 0 17 3, 34 0 6, 0 34 6", "18 0 3, 17 1 3, 35 0 6, 1 34 6"),
     (CUBES, "3,59,6", "59 0 3, 0 59 3, 118 0 6", "60 0 3, 59 1 3, 119 0 6"),
-    # a millimetre more or less of one size
+    # one size changed by a millimetre
     ((10_001, 10_000, 10_000), "1,1,9", "0 1 1, 0 9 9, 8 3 9", "1 0 1, 9 0 9, 3 4 5"),
     ((10_000, 10_001, 10_000), "1,1,9", "1 0 1, 9 0 9, 3 8 9", "0 1 1, 0 9 9, 3 4 5"),
     ((10_000, 10_000, 9_999), "1,1,9", "0 0 1, 8 0 9, 6 6 9", "1 0 1, 0 1 1, 9 0 9, 3 4 5"),
@@ -97,14 +97,14 @@ BOUNDARIES = [
     ((9_999, 9_999, 10_000), "1,1,9", "1 0 1, 3 4 5, 0 9 9", "1 1 1, 4 4 5, 10 0 9"),
     ((1, 1, 1), "1,1,9", "1 0 1, 3 4 5, 0 9 9", "1 1 1, 4 4 5, 10 0 9"),
     ((1, 2, 3), "1,1,9", "3 0 1, 0 1 1, 27 0 9, 0 13 9", "4 0 1, 0 2 1, 3 1 1, 28 0 9, 0 14 9"),
-    # reaches that are no whole number of millimetres or blocks: their squares count
+    # reaches that are no integer number of millimetres or blocks: their squares count
     ((1, 1, 1), "2,3,1", "0 0 1, 1 0 1, 0 1 1, 1 1 1", "2 0 1, 0 2 1, 2 1 1"),
     (CUBES, "2,3,1", "1 1 1, 1 0 1", "2 0 1, 2 1 1, 0 2 1"),
     (CUBES, "7,10,5", "1 1 1, 2 2 2, 3 3 3, 4 4 4, 5 5 5, 7 1 5, 4 1 3",
      "2 1 1, 2 2 1, 7 2 5, 6 4 5, 4 2 3"),
     ((3, 5, 7), "5,7,4", "3 0 1, 2 1 1, 6 1 2, 4 3 2, 10 5 4, 13 0 4",
      "3 1 1, 0 2 1, 4 4 2, 13 1 4, 11 5 4"),
-    # squares of lengths that 32 bits take for less: 65,536 squared is none of them
+    # squares of lengths that 32 bits make too small: 65,536 squared is none of them
     ((1, 1_000, 65_536), "1,1,2", "5 0 1, 0 65 1, 5 65 1, 9999 0 1, 5 131 2",
      "0 66 1, 5 66 1, 5 132 2"),
     ((1_000, 1, 65_536), "1,1,2", "0 5 1, 65 0 1, 65 5 1, 131 5 2", "66 0 1, 66 5 1, 132 5 2"),
@@ -112,7 +112,7 @@ BOUNDARIES = [
     ((65_536, 32_768, 65_536), "1,1,9", "1 0 1, 0 2 1, 3 8 5, 4 6 5", "1 1 1, 0 3 1, 3 9 5, 5 2 5"),
     ((46_341, 46_341, 46_341), "1,1,9", "1 0 1, 3 4 5", "1 1 1, 4 4 5"),
     ((92_682, 92_681, 92_682), "1,1,9", "1 0 1, 0 1 1, 3 4 5", "1 1 1, 4 4 5"),
-    # one more or less of a rise or a run
+    # a rise or a run changed by 1
     (CUBES, "1000,1000,5", "1 0 1, 3 4 5", "2 0 1, 4 4 5"),
     (CUBES, "1000,999,5", "0 0 1, 4 0 5", "1 0 1, 0 1 1, 3 4 5"),
     (CUBES, "999,1000,5", "1 0 1, 3 4 5", "2 0 1, 4 4 5"),
@@ -129,14 +129,13 @@ BOUNDARIES = [
     # outside by a part in 4 * 10^18, which floating point does not see
     ((100_000, 1, 100_000), "1,1,1,1,1,1000,1,1000,20", "20 0 20, 19 9 20", "20 1 20, 20 -1 20"),
     ((1, 100_000, 100_000), "1,1000,1,1000,1,1,1,1,20", "0 20 20, 9 19 20", "1 20 20, -1 20 20"),
-    # a slope of its own on each side, those east and north three times as flat
+    # a different slope on each side, those east and north three times as flat
     (METRES, "1,3,1,1,1,3,1,1,3",
      "3 0 1, 0 3 1, 9 0 3, 0 9 3, -1 0 1, 0 -1 1, -3 0 3, 6 6 3, 6 -2 3",
      "4 0 1, 0 4 1, -2 0 1, 0 -2 1, 10 0 3, -4 0 3, 7 6 3, 6 -3 3, -3 3 3, -3 -1 3"),
 ]
 
-# Sizes, and p and q of the sides where blocks lie; blocks that lie so far along x are inside up to
-# some number along y.
+# Sizes, and p and q of the sides on which blocks are; blocks that are so far along x are inside up to some number along y.
 REACHES = [
     ((99_999, 100_000, 99_998), (1, 1000), (1, 1000), 14),
     ((100_000, 99_991, 99_989), (1, 999), (1, 1000), 13),
@@ -145,7 +144,7 @@ REACHES = [
     ((313, 50_021, 99_999), (998, 999), (3, 1000), 19),
 ]
 
-# Four blocks out of order, each of other tonnes, and the lines of the block file.
+# Four blocks out of order, each with other tonnes, and the lines of the block file.
 OUT_OF_ORDER = HEADER + b"0,0,10,1,0\n10,0,0,2,0\n0,10,0,3,0\n0,0,0,4,0\n"
 
 IN_ORDER = "0 0 0 0 4 0 0|1 1 0 0 2 0 0|2 0 1 0 3 0 0|3 0 0 1 1 0 0|"
@@ -160,8 +159,7 @@ MODELS = [
     ((1_000, 1_000, 100_000), ["20,1,3", "45,1,2", "1,1000,20"]),
 ]
 
-# Where a box begins, and its sizes: at either edge of the grid, and rows and columns one block
-# wide.
+# The start of a box, and its sizes: at either edge of the grid, and rows and columns one block wide.
 SHAPES = [
     ((0, 0, 0), (11, 9, 8)),
     ((9989, 9991, 9992), (11, 9, 8)),
@@ -173,7 +171,7 @@ FIRST_SEED = 20_130_701
 
 
 def blocks_of(seed, begin, sizes):
-    """About three of four places of a box, each with a zone by chance, in order of identifier."""
+    """Returns about three of four positions of a box, each with a random zone, in order of identifier."""
     state = seed
     for z, y, x in itertools.product(*map(range, reversed(sizes))):
         state = (state * 6_364_136_223_846_793_005 + 1_442_695_040_888_963_407) % 2**64
@@ -191,7 +189,7 @@ def by_all_pairs(name, sizes, cones, blocks):
 
 
 def by_hand(name, sizes, cones, low, above):
-    """A block, and others so far from it, of which it is told which are its predecessors."""
+    """A block, and others at these distances, with which of them are its predecessors."""
     there = {tuple(a + b for a, b in zip(low, far)): inside for far, inside in above.items()}
     places = sorted(there, key=lambda place: place[::-1])
     ids = [str(number) for number, place in enumerate(places, 1) if there[place]]
@@ -202,8 +200,8 @@ def by_hand(name, sizes, cones, low, above):
 
 
 def boundaries():
-    """Blocks about the boundary of a cone: to the north-east of a block, and where all of its sides
-    are alike in the other three directions too; at either edge of the grid."""
+    """Blocks around the boundary of a cone: north-east of a block, and in the other three directions too if all of its sides are equal;
+    at either edge of the grid."""
     for sizes, cone, inside, outside in BOUNDARIES:
         far = {tuple(map(int, place.split())): is_inside
                for is_inside, places in ((True, inside), (False, outside))
@@ -241,8 +239,8 @@ def reaches():
 
 
 def sides():
-    """Nine blocks above one, whose sides are flat or steep: those towards flat sides are inside,
-    and a corner between two of them only where they are very flat."""
+    """Nine blocks above one, whose sides are flat or steep: those towards flat sides are inside, and a corner between two of them only
+    if they are very flat."""
     flats = itertools.product((True, False), repeat=4)
     for slope, flat in itertools.product(("1,2", "1,1"), flats):
         east, west, north, south = flat
@@ -256,8 +254,8 @@ def sides():
 
 
 def columns():
-    """A column of 30 blocks, each below as many as its K, also where some have no tonnage; then 64
-    columns, each of a zone with a K of its own."""
+    """A column of 30 blocks, each below its K others, also with some that have no tonnage; then 64 columns, each of a zone with another
+    K."""
     for benches in range(1, 21):
         rows = "".join(f"0,0,{z}0,{z % 2},0|" for z in range(30))
         prec = "".join(upwards(z, 1, min(benches, 29 - z)) for z in range(30))
@@ -275,13 +273,13 @@ def columns():
 
 
 def upwards(block, step, count):
-    """The line of a block below so many others, each of which comes so much later."""
+    """Returns the line of a block below this number of others, with this distance between each two."""
     above = (block + step * up for up in range(1, count + 1))
     return " ".join(map(str, [block, count, *above])) + "|"
 
 
-# By hand, each block of a file of its own: cubes of a millimetre, a rise of 2 over a run of 3, and
-# the corner of the bench above; and blocks of 0.001, 1 and 65.536 m, 5 blocks along x.
+# Worked out manually, each block in another file: cubes of a millimetre, a rise of 2 over a run of 3, and the corner of the bench above;
+# and blocks of 0.001, 1 and 65.536 m, 5 blocks along x.
 MILLIMETRES = "0.001,0.001,0.001"
 CORNERS = [
     ("the corner of a bench", MILLIMETRES, "2,3,1", "0,0,0", MILLIMETRES, "0 1 1|1 0|"),

@@ -1,4 +1,4 @@
-"""Runs a built pitc on a row, in a folder of its own."""
+"""Runs a built pitc on a row, in a folder made for it."""
 import os
 import subprocess
 import sys
@@ -13,8 +13,7 @@ SECONDS = 120
 # How many bytes the name of a row may have.
 LONGEST_NAME = 200
 
-# Files that no row names, beside its files and above its folder: no run reads them in the place of
-# one that is not there, and they stay as they are.
+# Files that no row names, next to its files and above its folder: no run reads them in place of a missing one, and they stay unchanged.
 AROUND = {"backup": b"a file beside\n", "../above": b"a file above\n"}
 
 
@@ -44,7 +43,7 @@ def put_all(folder, files):
 
 
 def found(path):
-    """What stands at a path."""
+    """Returns the contents of a path."""
     if os.path.islink(path):
         return Link(os.readlink(path))
     if os.path.isdir(path):
@@ -54,7 +53,7 @@ def found(path):
 
 
 def all_found(folder, front=""):
-    """What stands in a folder and in those within, by names that begin so."""
+    """Returns the contents of a folder and of those within, by names with this prefix."""
     for name in os.listdir(folder):
         path = os.path.join(folder, name)
         content = found(path)
@@ -64,7 +63,7 @@ def all_found(folder, front=""):
 
 
 def run(program, words, trial, folder, **how):
-    """One run in the folder of a row, with its standard input; `how` is given to it beside them."""
+    """Makes one run in the folder of a row, with its standard input; `how` is passed on."""
     how = {"cwd": folder, "capture_output": True, "timeout": SECONDS, **how}
     if not trial.source:
         return subprocess.run([program, *words], input=trial.given, **how)
@@ -76,7 +75,7 @@ def run(program, words, trial, folder, **how):
 
 
 def answer(program, trial, **how):
-    """What a row's run answers and leaves, behind the runs before it."""
+    """Returns the result and the files of a row's run, after the runs before it."""
     with tempfile.TemporaryDirectory() as top:
         folder = os.path.join(top, "row")
         os.mkdir(folder)
@@ -91,7 +90,7 @@ def answer(program, trial, **how):
 
 
 def in_time(differ: Callable[[], Iterable[str]]) -> List[str]:
-    """What is wrong of a run: that it took too long, or what is told of its answer."""
+    """Returns what is wrong with a run: that it took too long, or what is reported on its result."""
     try:
         return list(differ())
     except subprocess.TimeoutExpired as slow:
@@ -99,20 +98,19 @@ def in_time(differ: Callable[[], Iterable[str]]) -> List[str]:
 
 
 def differences(program, trial, **how):
-    """What a row's run answered or left that it should not have."""
+    """Returns which results or files of a row's run are wrong."""
     trial = trial._replace(files={**AROUND, **trial.files})
     return in_time(lambda: trial.differences(*answer(program, trial, **how)))
 
 
 class Register:
-    """The rows that were taken, of which no two of a table have one name, and no two one input."""
+    """The rows so far, of which no two of a table have one name, and no two one input."""
 
     def __init__(self):
         self.places = {}
 
     def each_once(self, table, trials):
-        """The rows of a table; it ends the program where one has the name or input of another, or a
-        name that is too long."""
+        """Returns the rows of a table; it ends the program if one has the name or input of another, or a name that is too long."""
         for trial in (trial.made() for trial in trials):
             place = f"{table}: {trial.name}"
             if len(trial.name.encode()) > LONGEST_NAME:
@@ -125,7 +123,7 @@ class Register:
 
 
 def compared(told_by, rows):
-    """Tells of each row that differs, by its name and differences; how many do, and do not."""
+    """Prints each row that differs, with its name and differences; returns how many do, and do not."""
     wrong = right = 0
     for name, differ in rows:
         if differ:

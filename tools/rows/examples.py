@@ -1,8 +1,7 @@
 """The examples: the pipe form on pit.txt and waste.txt, `check` on one, `compile` on march, and
 all on a deposit.
 
-The texts of the deposit, whose files `pit-tools deposit` makes, were made without pitc in half a minute. So
-their sums stand here:
+The texts of the deposit, whose files `pit-tools deposit` makes, were made without pitc in half a minute. So their sums are here:
 
     tools/plain.py deposit deposit.plan deposit-oxide.csv deposit-west.csv deposit-east.csv
 """

@@ -1,7 +1,7 @@
-"""A plan that holds as much as it may, and two zone files of tonnes and grades about many ends.
+"""A plan that holds as much as it may, and two zone files of tonnes and grades around many ends.
 
-Names of all kinds, eight destinations of which some are worth the same, sixteen bands, eight resources
-with a limit in each of a hundred periods. The texts are by the plain computation.
+Names of all kinds, eight destinations of which some are worth the same, sixteen bands, eight resources with a limit in each of a hundred
+periods. The expected texts come from the plain computation.
 """
 import itertools
 
@@ -34,7 +34,7 @@ def covered(number):
 
 
 def limits():
-    """A limit of each resource in each period, from the last one on."""
+    """Returns a limit of each resource in each period, from the last one on."""
     for number, period in reversed(list(itertools.product(range(8), range(100)))):
         letter = "LGI"[(number + period) % 3]
         ends = [f"{period}.{number + 1:06d}"] + [f"{period + number}.000009"] * (letter == "I")
@@ -57,7 +57,7 @@ def records():
 
 
 def rows(zone):
-    """The rows of a zone: every other block of three benches, from the last one on."""
+    """Returns the rows of a zone: every other block of three benches, from the last one on."""
     for block in reversed(range(zone, 156, 2)):
         x, y, z = block % 12, block // 12 % 4, block // 48
         places = -10**12 + 2_500 * x, 10**12 + 100_000 * y, -1 + 99_999 * z
@@ -70,8 +70,8 @@ ZONES = [zone_file(*rows(zone)) for zone in (0, 1)]
 
 
 def dressed(turns, nought):
-    """The plan with letters of its keys in capitals, those at every other place or all, with noughts spelled so,
-    blanks about its cells, and hundreds of empty ones behind them."""
+    """Returns the plan with letters of its keys in capitals, at every other position or all, with zeros in this format, blanks around
+    its cells, and hundreds of empty ones after them."""
     for record in PLAN.decode().splitlines():
         key, *cells = record.split(",")
         names = {"mill": 1, "leach": 1, "dump": 1, "limit": 3, "rate": 0}.get(key, len(cells))
@@ -86,7 +86,7 @@ TEXTS = plain_texts(PLAN, *ZONES)
 
 
 def count(ending, first, last=None):
-    """How many lines a text has between two of its sections, or to its end."""
+    """Returns how many lines a text has between two of its sections, or to its end."""
     found = TEXTS[ending].decode().splitlines()
     return (found.index(last) if last else len(found)) - found.index(first) - 1
 

@@ -5,12 +5,12 @@ from shared import ENDINGS, compile_words, header, model
 
 
 def input_of(path):
-    """The plan and the zone files of an input of the pipe form in this repository."""
+    """Returns the plan and the zone files of an input of the pipe form in this repository."""
     plan, zones = model(path)
     return plan.encode(), *(zone.encode() for zone in zones)
 
 
-# One ore block under a mill, and its zone file in another spelling.
+# One ore block under a mill, and its zone file in another format.
 PLAN, ORE = input_of("crates/pitc/stdin")
 OTHER_ORE = MARK + b'"grade",Z,rock,y,X,tonnes\r\n" 5000 ",0,"ox, hard",0,0,1000.000\r\n'
 
@@ -20,7 +20,7 @@ ONE_PERIOD = "periods,1|rate,0.1|"
 
 
 def plan_of(destinations=MILL, cones=("1,1,1",), name="one", grid=CUBES, rest=ONE_PERIOD):
-    """A plan of these records, with a zone for each cone; what is not given is as in `PLAN`."""
+    """Returns a plan of these records, with a zone for each cone; defaults are those of `PLAN`."""
     zones = "".join(f"zone,{cone}|" for cone in cones)
     return lines(f"name,{name}|grid,{grid}|{zones}{destinations}{rest}")
 
@@ -30,14 +30,14 @@ WASTE = plan_of("dump,dump,200|", name="waste")
 
 
 def heading(kind, **values):
-    """The header of a model file, whose lines end in bars."""
+    """Returns the header of a model file, whose lines end in bars."""
     return "".join(line + "|" for line in header(kind, **values))
 
 
 def instance(blocks, prec, worths, name="one"):
-    """The texts by their endings of an instance with one destination, one period and no resource.
+    """Returns the texts by their endings of an instance with one destination, one period and no resource.
 
-    The lines of its block file and of its precedence file end in bars; each block is worth so much.
+    The lines of its block file and of its precedence file end in bars; each block has this value.
     """
     values = "".join(f"{block} {worth}|" for block, worth in enumerate(worths))
     objective = "OBJECTIVE_FUNCTION:|" + values
@@ -54,7 +54,7 @@ ONE_ORE_BLOCK = instance("0 0 0 0 1000 5000 0|", "0 0|", [12000])
 
 
 def plain_texts(plan, *zones):
-    """The texts by their endings that the plain computation makes of a plan and its zone files."""
+    """Returns the texts by their endings that the plain computation makes of a plan and its zone files."""
     texts = plain.compiled(plan.decode(), [zone.decode() for zone in zones])
     return {ending: text.encode() for ending, text in texts.items()}
 
@@ -75,7 +75,7 @@ def unlisted(first, behind):
 
 
 def arcs_of(name, counts, plan, *zones):
-    """What `check` counts of the files that `compile` writes of a plan and its zone files."""
+    """Returns what `check` counts of the files that `compile` writes for a plan and its zone files."""
     files = {f"zone{number}": text for number, text in enumerate(zones)}
     return Trial(
         name,
@@ -89,7 +89,7 @@ def arcs_of(name, counts, plan, *zones):
 
 LIMITED = input_of("tools/models/limits_and_coefficients.txt")
 
-# As many destinations and resources as there may be, each of which covers all.
+# As many destinations and resources as allowed, each of which covers all.
 NINE = input_of("tools/models/nine_blocks_of_many_numbers.txt")
 
 SAME = input_of("tools/models/same_block_in_two_files.txt")

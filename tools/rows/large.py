@@ -1,9 +1,8 @@
-"""A model of 5,400,001 blocks, and its texts by a plain computation of its own.
+"""A model of 5,400,001 blocks, and its texts by a separate plain computation.
 
-Six benches of 900 rows of 1,000 blocks, each a zone file, whose rows come from the last to the
-first. Below the middle stands a block of a flat zone, under some five thousand others; its file has
-some hundred columns. A block is a cubic metre, so that metres are indices. Its tonnes and grade
-follow from its column: t tonnes of g grams are worth (10 g - 5) t at the mill, and -t on the dump.
+Six benches of 900 rows of 1,000 blocks, each a zone file, whose rows come from the last to the first. Below the middle is a block of a flat
+zone, under about five thousand others; its file has about a hundred columns. A block is a cubic metre, so that metres are indices. Its
+tonnes and grade follow from its column: t tonnes of g grams are worth (10 g - 5) t at the mill, and -t on the dump.
 """
 from rows.instance import heading, plan_of
 from rows.trial import Pieces, lines
@@ -21,11 +20,11 @@ GRADES = [x % 3 for x in COLUMNS]
 AT_MILL = [(10 * grade - 5) * tonnes for tonnes, grade in zip(TONNES, GRADES)]
 ON_DUMP = [-tonnes for tonnes in TONNES]
 BEST = list(map(max, AT_MILL, ON_DUMP))
-# Whose place is best: that of the mill where both are.
+# The destination with the best worth: the mill if both are equal.
 CHOSEN = [int(dump > mill) for mill, dump in zip(AT_MILL, ON_DUMP)]
 HEAVY = [x for x in COLUMNS if TONNES[x]]
 
-# Of each resource and period its limit in tonnes.
+# The limit of each resource and period in tonnes.
 LIMITS = {(resource, period): 1000 * resource + period
           for resource in (0, 1) for period in range(PERIODS)}
 
@@ -67,8 +66,8 @@ def zones():
 
 
 def by_row(first, columns, ends):
-    """The lines of the low block; then those of each row of blocks, with these ends behind the
-    numbers of the blocks in these columns."""
+    """Yields the lines of the low block; then those of each row of blocks, with these ends after the numbers of the blocks in these
+    columns."""
     yield first.encode()
     form = "".join(f"%d{end}" for end in ends)
     for start in range(1, COUNT, WIDE):
@@ -110,8 +109,7 @@ def prec_line(number, y):
 
 
 def model_file(kind, values, coefficients):
-    """A model file: what stands of the low block and behind the number of each other in its two
-    sections."""
+    """Returns a model file: the text of the low block, and the text after the number of each other block in its two sections."""
     head = heading(kind, blocks=COUNT, periods=PERIODS, destinations=2, resources=2)
     yield lines(head + "OBJECTIVE_FUNCTION:|")
     yield from by_row(*values)

@@ -1,4 +1,4 @@
-"""Inputs, texts and outputs that are long, whose runs take little memory beside them: tools/effects measures it."""
+"""Inputs, texts and outputs that are long, whose runs use little memory besides them: tools/effects measures it."""
 from typing import Iterator, NamedTuple
 
 from rows.instance import ONE_ORE_BLOCK, ORE, PLAN, at, instance, plan_of, sections, unlisted
@@ -11,7 +11,7 @@ MEGABYTE = 1_000_000
 
 
 class Long(NamedTuple):
-    """A run of pitc, or of pitc_thin, and the megabytes that it takes for what it reads and prints, by docs/formats.md."""
+    """A run of pitc, or of pitc_thin, and the megabytes that it uses for what it reads and prints, by docs/formats.md."""
 
     trial: Trial
     megabytes: int = 0
@@ -31,7 +31,7 @@ def thinned(trial: Trial, out: bytes = b"", prec: bytes = b"") -> Trial:
     return trial._replace(words=words, out=out, left={"thin": prec} if prec else {})
 
 
-# A zone file of many blocks side by side, of which none waits for another, beside that of one block; and their texts.
+# A zone file of many adjacent blocks, of which none waits for another, and one of one block; and their texts.
 SIDE_BY_SIDE = zone_file(*(f"{x}0,0,0,1,0" for x in range(1, 3000)))
 WASTE = "".join(f"{x} {x} 0 0 1 0 0|" for x in range(1, 3000))
 TEXTS = instance("0 0 0 0 1000 5000 1|" + WASTE, unlisted(0, 3000), [12000, *[-15] * 2999])
@@ -58,12 +58,12 @@ REMARK = b"%" + b"x" * 998 + b"\n"
 
 
 def remarks(megabytes: int) -> bytes:
-    """So many megabytes of lines that say nothing."""
+    """Returns this number of megabytes of lines that state nothing."""
     return REMARK * (megabytes * MEGABYTE // len(REMARK))
 
 
 def texts_that_go_by() -> Iterator[Long]:
-    """What is read behind the first faulty line, and told of nowhere: the rest of its text, and the texts behind it."""
+    """What is read after the first invalid line, and never reported: the remainder of its text, and the later texts."""
     for faulty, text, ending in [("prec", b"?\n" + remarks(128), "prec"), ("blocks", remarks(128), "prec")]:
         files = at("base", {**ONE_ORE_BLOCK, faulty: b"?\n", ending: text})
         name = f"128 MB of base.{ending} behind a faulty line of base.{faulty}"
@@ -71,7 +71,7 @@ def texts_that_go_by() -> Iterator[Long]:
 
 
 def long_texts() -> Iterator[Long]:
-    """Each text of `check` behind many remarks."""
+    """Each text of `check` after many remarks."""
     for ending in CHECKED:
         files = at("base", {**ONE_ORE_BLOCK, ending: remarks(128) + ONE_ORE_BLOCK[ending]})
         name = f"a check of 128 MB of base.{ending}"
@@ -88,19 +88,19 @@ def long_outputs() -> Iterator[Long]:
     but_one = {name: text for name, text in left.items() if name != "base.prec"}
     run = compiles("a precedence file of 120 MB", FLAT, below, out=out, left=but_one)
     yield Long(run._replace(files={**run.files, "base.prec": Link("/dev/null")}), 2)
-    # A text has room that doubles, and the old one stands beside the new one meanwhile.
+    # A text's capacity doubles, and the old buffer coexists with the new one meanwhile.
     yield Long(Trial("120 MB by the pipe form", given=piped(FLAT, below), out=ANY), 4 * 120)
     plan = plan_of(cones=["1,1000,20"], grid="0,0,0,1,1,1")
     far, out = rows_of([(0, 0, 0), (0, 9999, 20)]), b"rows 2\n"
     yield Long(compiles("a cone over all rows", plan, far, out=out, left=left), 13)
 
 
-# How many bytes a zone file has for which a list of bytes, whose room doubles, has little more.
+# How many bytes a zone file has for which a list of bytes, whose capacity doubles, has little more.
 WHOLE = 130_000_000
 
 
 def long_files() -> Iterator[Long]:
-    """A zone file that is long, and has one row: it stands whole in memory once."""
+    """A zone file that is long, and has one row: it is in memory once as a whole."""
     run = compiles("a compile of a zone file of 130 MB", PLAN, ORE.ljust(WHOLE, b"\n"), out=b"rows 1\n", left=at("base", ONE_ORE_BLOCK))
     yield Long(run, 134)
     yield Long(thinned(run, b"rows 1 arcs 0 of 0\n", b"0 0\n"), 134, is_thin=True)

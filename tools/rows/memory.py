@@ -1,7 +1,6 @@
 """The commands whose allocations tools/refused-memory refuses, one by one.
 
-What they answer with ample memory is in other tables. Where a run of `compile` or of pitc_thin may
-write there are files before it.
+Other tables have their results with ample memory. If a run of `compile` or of pitc_thin may write, there are files before it.
 """
 from rows.instance import LIMITED, MILL, ORE, PLAN, SAME, at, plain_texts, plan_of
 from rows.trial import Trial, piped, zone_file
@@ -32,7 +31,7 @@ MODELS = [
 
 
 def compiles(name, model, capacity=None):
-    """The files at the base stand first, in the order in which they are written."""
+    """The files at the base come first, in the order in which they are written."""
     plan, *zones = model
     files = {f"zone{number}": text for number, text in enumerate(zones)}
     words = compile_words("plan", "base", files, capacity=capacity)
@@ -49,7 +48,7 @@ def checks(name, texts):
 
 
 def thins(name, model, capacity=None):
-    """A run of pitc_thin. The file that it writes stands first."""
+    """A run of pitc_thin. The file that it writes comes first."""
     plan, *zones = model
     files = {f"zone{number}": text for number, text in enumerate(zones)}
     words = compile_words("plan", "thin", files, capacity=capacity)[1:]

@@ -1,5 +1,5 @@
-"""Names that users have: plans, zone files, bases and files are read and written under the name that is
-given, byte for byte, and those beside them with a name that is near stay as they are.
+"""Names that users have: plans, zone files, bases and files are read and written under the given name, byte for byte, and other files with
+similar names stay unchanged.
 
 A name of bytes that are no UTF-8 is refused, whatever it names.
 """
@@ -9,7 +9,7 @@ from rows.instance import ONE_ORE_BLOCK, ORE, PLAN, at
 from rows.trial import Folder, Trial, refused
 from shared import compile_words
 
-# A name, and others that some programs take for it.
+# A name, and others that some programs confuse with it.
 NAMES = [
     ("zon\u00e9.csv", ["zone\u0301.csv", "zone.csv", "ZON\u00c9.CSV"]),
     ("zone\u0301.csv", ["zon\u00e9.csv"]),
@@ -32,7 +32,7 @@ NAMES = [
     ("\ufeffz.csv", ["z.csv"]),
 ]
 
-# The longest name that a file may have, in bytes; a base has the room of an ending less.
+# The longest name that a file may have, in bytes; a base is shorter by an ending.
 LONGEST = 255
 ENDING = len(".blocks")
 
@@ -40,13 +40,12 @@ NOT_UTF8 = os.fsdecode(b"z\xE9.csv")
 
 
 def named(length, letter="n"):
-    """A name of so many bytes."""
+    """Returns a name with this number of bytes."""
     return letter * length
 
 
 def rows_of(name, near, base=None):
-    """Runs that read a plan and a zone file in the place of each other's names, and those that write and
-    check a base."""
+    """Runs that read a plan and a zone file in place of each other's names, and those that write and check a base."""
     base, beside = name if base is None else base, dict.fromkeys(near, b"near\n")
     wanted = {"out": b"rows 1\n", "left": at(base, ONE_ORE_BLOCK)}
     for what, plan, zone in [("plan", name, "ore"), ("zone file", "one", name)]:
@@ -56,7 +55,7 @@ def rows_of(name, near, base=None):
     counts = b"blocks 1 arcs 0 coefficients 0 limits 0 cpit 0\n"
     files = {**beside, **at(base, ONE_ORE_BLOCK)}
     yield Trial(f"a check of {name[:20]!r}", words=["check", base], files=files, out=counts)
-    # the same with nothing but what is near
+    # the same with only the similar names
     for other in near[:1]:
         files = {"one": PLAN, other: ORE}
         words = compile_words("one", "base", [name])
@@ -64,7 +63,7 @@ def rows_of(name, near, base=None):
 
 
 def in_folders():
-    """Names in folders whose names are as long as they may be: paths of 500 bytes and of 1,500."""
+    """Names in folders whose names have the greatest length: paths of 500 bytes and of 1,500."""
     for depth in (2, 6):
         folders = [named(LONGEST - 5, letter) for letter in "abcdef"[:depth]]
         paths = {"/".join(folders[: count + 1]): Folder() for count in range(depth)}
@@ -80,7 +79,7 @@ def in_folders():
 
 
 def too_long():
-    """Names that are longer than there may be."""
+    """Names that are longer than allowed."""
     name, files = named(LONGEST + 1), {"one": PLAN, "ore": ORE}
     for line, words in [
         ("plan: FeedFailed", compile_words(name, "base", ["ore"])),
@@ -92,7 +91,7 @@ def too_long():
 
 
 def of_no_text():
-    """Names that are not UTF-8, of files that are there."""
+    """Names of existing files that are not UTF-8."""
     files = {"one": PLAN, "ore": ORE, NOT_UTF8: ORE, **at(NOT_UTF8, ONE_ORE_BLOCK)}
     for what, words in [
         ("a plan", compile_words(NOT_UTF8, "base", ["ore"])),

@@ -1,7 +1,7 @@
 """Two faults in one run: in two records of a plan, in two rows, in two files and in two texts.
 
-Each kind of fault stands before each other kind. The order alone decides what is told: that of the
-first faulty record, line, file or text. Each name ends with it.
+Each kind of fault comes before each other kind. The order alone decides what is reported: the fault of the first invalid record, line, file
+or text. Each name ends with it.
 """
 import itertools
 
@@ -15,7 +15,7 @@ from rows.texts import (
 from rows.trial import Folder, Link, lines, piped, refused, short, zone_file
 from shared import CHECKED, ENDINGS, compile_words
 
-# What stands before the faulty records of a plan, and records that are faulty behind it.
+# What precedes the invalid records of a plan, and records that are invalid after it.
 FRONT = "name,one|periods,2|dump,d,1|resource,r,d|limit,r,0,L,2|"
 RECORDS = [
     ("Key", "pit,1"), ("Key", ",name,one"),
@@ -29,8 +29,7 @@ RECORDS = [
     ("TooMany", SIXTEEN_BANDS + ",16,0"), ("TooMany", FIVE_HUNDRED_BANDS),
 ]
 
-# Plans with as many records of a key as there may be, the one that is too many, and records that
-# are faulty behind each of them.
+# Plans with the largest number of records of a key, the one that is too many, and records that are invalid after each of them.
 FULL = [
     (SIXTY_FOUR_ZONES, "zone,1,1,1"), (EIGHT_DUMPS, "dump,i,1"), (EIGHT_RESOURCES, "resource,i,d"),
 ]
@@ -39,7 +38,7 @@ OF_FULL = [
     ("Range", "periods,101"), ("Name", "name,?"),
 ]
 
-# Faulty rows of a zone file.
+# Invalid rows of a zone file.
 GOOD_ROW = [Cell("0"), Cell("0"), Cell("0"), Cell("1"), Cell("0")]
 CELLS = [("Number", "?"), ("TooFine", "0.0000001"), ("Range", "-10"), ("OffGrid", "5")]
 ROWS = [("whole: Width", "0,0,0,1"), ("whole: Width", "0,0,0,1,0,0")] + [
@@ -49,7 +48,7 @@ ROWS = [("whole: Width", "0,0,0,1"), ("whole: Width", "0,0,0,1,0,0")] + [
     if kind != "OffGrid" or place < 3
 ]
 
-# Zone files with a fault: of the header, and of the third row, behind a block that is the same in all.
+# Zone files with a fault: of the header, and of the third row, after a block that is the same in all.
 FILES = [
     ("row 1 column x: MissingColumn", b""),
     ("row 1 column tonnes: MissingColumn", b"x,y,z,grade\n?,0,0,1\n"),
@@ -81,8 +80,7 @@ def compiled(name, line, plan, zones, **more):
 
 
 def in_two_records():
-    """Of plans, the first record of two; also behind as many of a key as there may be, and before
-    more records than there may be."""
+    """Of plans, the first record of two; also after as many of a key as there may be, and before more records than there may be."""
     def told(front, kind, first, second, name=""):
         line = f"plan row {front.count('|') + 1}: {kind}"
         name = short(f"two records: {first} before {name or second}")
@@ -101,7 +99,7 @@ def in_two_records():
 
 
 def in_two_rows():
-    """Of a zone file, the first row of two; also behind rows that repeat a block."""
+    """Of a zone file, the first row of two; also after rows that repeat a block."""
     plan = plan_of()
     for (fault, first), (_, second) in itertools.permutations(ROWS, 2):
         line, text = f"file 0 row 3 column {fault}", zone_file("0,0,0,1,0", first, second)
@@ -112,8 +110,7 @@ def in_two_rows():
 
 
 def in_two_files(files):
-    """Of zone files, the first of two and of three, whatever is wrong with the others; the same
-    block stands in each of them."""
+    """Of zone files, the first of two and of three, whatever is wrong with the others; the same block is in each of them."""
     good, two, three = zone_file("0,0,0,1,0"), plan_of(cones=["1,1,1"] * 2), plan_of(cones=["1,1,1"] * 3)
     for (first, text), (second, other) in itertools.product(files, repeat=2):
         name = f"two files: {first} before {second}"
@@ -130,8 +127,7 @@ def in_two_files(files):
 
 
 def in_two_texts():
-    """The plan before its zone files, these before their number is looked at, and all before what is
-    written."""
+    """The plan before its zone files, these before their number is checked, and all before anything is written."""
     full = {f"b.{ending}": Link("/dev/full") for ending in ENDINGS}
     plan, repeated = plan_of(), zone_file("0,0,0,1,0", "0,0,0,1,0")
     for kind, record in {kind: (kind, record) for kind, record in RECORDS}.values():
@@ -150,8 +146,7 @@ def in_two_texts():
 
 
 def in_two_outputs():
-    """Of the files of an instance, the first of two that cannot be written: those before it are
-    whole, and no other is begun."""
+    """Of the files of an instance, the first of two that cannot be written: those before it are complete, and no other is begun."""
     kinds = {"a folder": Folder(), "a full device": Link("/dev/full")}
     for (first, second), (kind, other) in itertools.product(
             itertools.combinations(ENDINGS, 2), itertools.permutations(kinds)):
@@ -190,7 +185,7 @@ def in_two_lines():
 
 
 def last_of(good, number, change):
-    """The number, before a change, of the last line that is changed or told."""
+    """Returns the number, before a change, of the last line that is changed or reported."""
     start = number_of(good, change.line)
     is_behind = number >= start + len(change.others)
     told = number + change.count - len(change.others) if is_behind else number
@@ -198,7 +193,7 @@ def last_of(good, number, change):
 
 
 def one_of_each(good, table):
-    """Of the faults of a model file one of each kind at each line: the line, the kind and the change."""
+    """Yields for the faults of a model file one of each kind at each line: the line, the kind and the change."""
     found = {}
     for line, kind, change, *_ in table:
         change = put(line, change) if isinstance(change, str) else change
@@ -207,8 +202,7 @@ def one_of_each(good, table):
 
 
 def pairs_of_lines(good, table):
-    """Each two faults of a model file of unlike kinds, one pair of them for the two sections where
-    they stand."""
+    """Yields each two faults of a model file of different kinds, one pair of them for the two sections in which they are."""
     faults, found = one_of_each(good, table), {}
     section = [sum(line[-1] == ":" for line in good[:at]) for at in range(len(good) + 2)]
     for (number, kind, first), (place, other, second) in itertools.product(faults, repeat=2):
@@ -232,7 +226,7 @@ def in_two_lines_of_a_model():
 
 
 def of_each_kind(file, table):
-    """One text of each kind of fault, with its line."""
+    """Yields one text of each kind of fault, with its line."""
     found = {}
     for line, text, *_ in table:
         if line.startswith(file):
@@ -241,7 +235,7 @@ def of_each_kind(file, table):
 
 
 def of_model(file, good, table):
-    """The same of a model file."""
+    """The same for a model file."""
     faults = one_of_each(good, table)
     return of_each_kind(file, [
         (f"{file} line {number}: {kind}", whole(change.of(good))) for number, kind, change in faults])

@@ -1,4 +1,4 @@
-"""What the pipe form prints of a plan and its zone files, and where it cuts its input.
+"""What the pipe form prints for a plan and its zone files, and where it cuts its input.
 
 The table compile_form has one_ore_block, header_alone, empty_file, same_block_in_two_files,
 limits_and_coefficients, late_fault_in_file_0 and sixty_four_files; the table cones has the
@@ -21,7 +21,7 @@ RICHEST = plan_of("mill,m,1000,100000000,0|")
 
 
 def zones(count):
-    """A plan with so many zones."""
+    """Returns a plan with this number of zones."""
     return plan_of(cones=["1,1,1"] * count)
 
 
@@ -36,8 +36,7 @@ ORE, ZERO = zone_file("0,0,0,1000,5000"), zone_file("0,0,0,1,0")
 NO_RESOURCE = "RESOURCE_CONSTRAINT_COEFFICIENTS:|RESOURCE_CONSTRAINT_LIMITS:|"
 ONE_COEFFICIENT = "RESOURCE_CONSTRAINT_COEFFICIENTS:|0 0 1|RESOURCE_CONSTRAINT_LIMITS:|"
 
-# Files with a column `zone`, which is none of the five, also where it has the number of another
-# zone; and a plan whose zones have each a K of its own.
+# Files with a column `zone`, which is none of the five, also with the number of another zone; and a plan whose zones have different K.
 ZONE_COLUMNS = [
     b"x,y,z,tonnes,grade,zone\n0,0,0,1,0,1\n",
     b"zone,x,y,z,tonnes,grade\n0,10,0,0,1,0\n0,10,0,10,1,0\n",
@@ -45,7 +44,7 @@ ZONE_COLUMNS = [
 ]
 THREE_KS = plan_of("dump,dump,200|", ["1,1,1", "1,1,2", "1,1,3"])
 
-# A name, a plan, the one row of its zone file, and what is printed behind the line of an objective.
+# A name, a plan, the one row of its zone file, and what is printed after the line of an objective.
 WORTHS = [
     ("heap_leach_bands, at 2.5", LEACH, "0,0,0,1000,2.5", "0 111500|"),
     ("heap_leach_bands, below 2.5", LEACH, "0,0,0,1000,2.499999", "0 73999.97|"),
@@ -123,15 +122,14 @@ FAULTS = [
     ),
 ]
 
-# Two zone files of which each has a quote that is not closed, and so goes on to its end.
+# Two zone files, each with a quote that is not closed, and so continues to its end.
 OPEN_QUOTES = [
     b'x,y,z,tonnes,grade,rock\n0,0,0,1,0,"b\n5,0,0,1,0,c\n',
     b'x,y,z,tonnes,grade,rock\n10,0,0,1,0,"b\n0,0,0,1,0,c',
 ]
 
-# Zone files that repeat a block, and the rows that are told: those of records, also behind blank
-# lines and line breaks in cells, of late rows, of many files; also where a number is spelled in
-# another way.
+# Zone files that repeat a block, and the rows that are reported: rows of records, also after blank lines and line breaks in cells, of late
+# rows, of many files; also if a number is written in another format.
 FAR_ROWS = [f"{x % 100}0,{x // 100}0,0,1,0" for x in range(70_000)]
 REPEATED_ROWS = [
     ("rows behind blank lines", "0.3 0.2", [HEADER + b"\n\n0,0,0,1,0\n\r\n\n0,0,0,1,0\n"]),
@@ -162,8 +160,8 @@ REPEATED_ROWS = [
     ("spelled in another way in file 1", "1.2 0.2", [ORE, zone_file("00.000,-0,+.0,7,7")]),
 ]
 
-# Zone files, of which each letter is a row and each other letter another block, and the rows that
-# are told: the first that repeats another one, and the first of that block, each as FILE.ROW.
+# Zone files, of which each letter is a row and each other letter another block, and the rows that are reported: the first that repeats
+# another one, and the first of that block, each as FILE.ROW.
 REPETITIONS = """
 AA 0.3 0.2, AAA 0.3 0.2, ABBA 0.4 0.3, ABAB 0.4 0.2, ABBAA 0.4 0.3, AABB 0.3 0.2, ABABBA 0.4 0.2,
 ABCCBA 0.5 0.4, ABCBCA 0.5 0.3, ABCABC 0.5 0.2, ABCACB 0.5 0.2, ABCBAC 0.5 0.3,
@@ -172,12 +170,11 @@ AB CA DD 1.3 0.2, AB C CA 2.2 1.2, AB CC A 1.3 1.2, A BC CBA 2.2 1.3, A BC ABC 2
 ABCD E EA 2.2 1.2, ABCD EFA EE 1.4 0.2, ABCD EFE A 1.4 1.2, ABC D DCBA 2.2 1.2, A  B BA 3.2 2.2
 """
 
-# Zone files of a block each, as many as there may be and one more.
+# Zone files of a block each, as many as allowed and +1.
 SIXTY_FOUR = [zone_file(f"{10 * file},0,0,1,0") for file in range(64)]
 ONE_MORE = [*SIXTY_FOUR, zone_file("0,10,0,1,0")]
 
-# The same of an input that is cut at each line `--` and nowhere else. Files are counted before they
-# are read.
+# The same for an input that is cut at each line `--` and nowhere else. Files are counted before they are read.
 CUTS = [
     ("pieces: 65 for 64 zones", piped(zones(64), *ONE_MORE), "settings: Files"),
     ("pieces: 65 zones", piped(zones(65), *ONE_MORE), "plan row 67: TooMany"),
@@ -241,10 +238,10 @@ CUTS = [
     ),
 ]
 
-# As many bytes as a plan may have.
+# The largest number of bytes of a plan.
 MOST = 1_048_576
 
-# The same of an input that is a file.
+# The same for an input that is a file.
 FILES = [
     ("a zone file as the plan", ORE, "plan row 1: Key"),
     ("no zone file", ONE, "settings: Files"),
@@ -272,7 +269,7 @@ def from_files():
 
 
 def repetitions():
-    """Each with places that rise and that fall with the letters, and along each axis."""
+    """Each with positions that rise and that fall with the letters, and along each axis."""
     for entry in REPETITIONS.replace("\n", " ").strip().split(", "):
         letters, row, first = entry.rsplit(" ", 2)
         line = "file {} row {} repeats file {} row {}".format(*row.split("."), *first.split("."))
@@ -300,7 +297,7 @@ def repeated_rows():
 
 
 def many_pieces(count):
-    """As many zone files as this, of a block each, from the last place to the first."""
+    """This number of zone files, of a block each, from the last position to the first."""
     pieces = [zone_file(f"{10 * (count - file)},0,0,1,{file}") for file in range(count)]
     last = count - 1
     blocks = (f"{block} {block + 1} 0 0 1 {last - block} {last - block}|" for block in range(count))
@@ -308,7 +305,7 @@ def many_pieces(count):
     return Trial(f"pieces: {count}", given=piped(zones(count), *pieces), out=part)
 
 
-# The coefficients of many_coefficients for five blocks and two resources, by hand.
+# The coefficients of many_coefficients for five blocks and two resources, worked out manually.
 COEFFICIENTS_BY_HAND = (
     "1 0 0 1|1 0 1 1|1 1 0 1|2 0 0 2|2 0 1 2|2 1 0 2|4 0 0 4|4 0 1 4|4 1 0 4|",
     "1 0 1|1 1 1|2 0 2|2 1 2|4 0 4|4 1 4|",

@@ -1,6 +1,6 @@
-"""Plans: which are taken, and the first faulty record of the others; some by `compile` too.
+"""Plans: which are accepted, and the first invalid record of the others; some by `compile` too.
 
-The table written has what the texts show of what a plan states.
+The table written has what the texts show of a plan.
 """
 import itertools
 
@@ -14,7 +14,7 @@ from shared import compile_words
 
 TAKEN = None
 
-# The six records that a plan has to have, and such in another order, but for a destination.
+# The six records that a plan must have, and the same in another order, except a destination.
 SIX = ["name,one", "grid,0,0,0,10,10,10", "zone,1,1,1", "dump,d,1", "periods,1", "rate,0.1"]
 IN_TURN = "rate,0|periods,2|{}|zone,1,1,1|grid,0,0,0,10,10,10|name,one"
 
@@ -32,7 +32,7 @@ SIXTEEN_BANDS = "leach,h,1,1" + "".join(f",{start},0" for start in range(16))
 SIXTEEN_OF_THE_MILL = SIXTEEN_BANDS.replace("leach,h", "leach,mill")
 FIVE_HUNDRED_BANDS = "leach,h,1,1" + "".join(f",{start},0" for start in range(500))
 
-# Names that are numbers, keys, or begin or end with other letters than most.
+# Names that are numbers, keys, or begin or end with unusual characters.
 ODD_NAMES = [
     "0", "007", "-", "-1", "-x", "..", ".x", "x.", "_", "_-.", "mill", "name", "MILL", "1.5", "a..b", "n" * 64,
 ]
@@ -45,12 +45,12 @@ def odd_names():
         yield f"mill,{mill},1,1,1|leach,{leach},1,1,0,1|dump,{dump},1|resource,{resource},{dump},{mill},{leach}"
 
 
-# Names of 64 bytes that differ in one, and such that are the front of others.
+# Names of 64 bytes that differ in one, and names that are prefixes of others.
 LONG_NAMES = ["n" * at + "m" + "n" * (63 - at) for at in (0, 7, 8, 15, 16, 30, 31, 32, 62, 63)]
 FRONTS = ["n" * length for length in (1, 7, 8, 9, 31, 32, 63, 64)]
 
-# The cells of records, by docs/formats.md: what stands before the record, its key and its cells.
-# Numbers count millimetres, millionths or whole numbers.
+# The cells of records, by docs/formats.md: what precedes the record, its key and its cells. Numbers count millimetres, millionths or
+# integers.
 ORIGIN, SIZE = Cell("0", 3, -(10**12), 10**12), Cell("10", 3, 1, 100_000)
 SLOPE, BENCHES = Cell("1", 0, 1, 1000), Cell("1", 0, 1, 20)
 RECOVERY, PRICE, COST = Cell("900", 0, 0, 1000), Cell("600", 0, 0, 10**8), Cell("1500", 0, 0, 10**7)
@@ -62,7 +62,7 @@ AT_MOST, AT_LEAST, BETWEEN = Cell("L"), Cell("G"), Cell("I", stays=True)
 
 
 def limited(periods, *ends):
-    """A limit of a plan with so many periods, with this letter and these tonnes."""
+    """Returns a limit of a plan with this number of periods, with this letter and these tonnes."""
     before = f"periods,{periods}|dump,d,1|resource,r,d|"
     return before, "limit", [LIMITED_BY, Cell("0", 0, 0, periods - 1), *ends]
 
@@ -83,9 +83,8 @@ CELLS = [
     limited(2, BETWEEN, LEAST, GREATEST),
 ]
 
-# Keys, and how many cells their records may have, the key counted, of the first 40; every other
-# cell is `?`, so the kind tells which cell is looked at first. The fourth cell of a `limit` decides
-# on its width.
+# Keys, and how many cells their records may have, the key counted, of the first 40; every other cell is `?`, so the kind tells which cell
+# is checked first. The fourth cell of a `limit` decides on its width.
 WIDTHS = [
     ("name", [2], "Name"),
     ("grid", [7], "Number"),
@@ -102,17 +101,16 @@ WIDTHS = [
     ("limit,?,?,II", [5], "Name"),
 ]
 
-# What is none of the keys, beside each of them a letter less, a letter more and one changed.
+# What is none of the keys: each key with a letter less, a letter more and one changed.
 NO_KEYS = [
     "#", "%", "#name", "pit", "na me", "name:", "re\u017fource", "l\u0131mit", "nam\u00e9", "x",
     "0", "?",
 ]
 
 
-# What stands in front, the kind of a fault, and records that have it there as the last; `Missing`
-# is told of the row behind them.
+# The preceding text, the kind of a fault, and records that have it there as the last; `Missing` is reported for the row after them.
 FAULTS = [
-    # the table of examples, and what may be lacking at the end, each alone
+    # the table of examples, and what may be missing at the end, each alone
     ("|".join(SIX), "Twice", "|name,one"),
     ("|".join(SIX), "Name", "|resource,r,heap", "|limit,r,0,L,1"),
     ("", "Missing", *("|".join(SIX[:at] + SIX[at + 1 :]) for at in range(6))),
@@ -133,7 +131,7 @@ FAULTS = [
     ("rate,0|", "Twice", "rate,1"),
     ("rate,0|", "Range", "rate,1.1"),
     ("rate,0|", "Number", "rate,x"),
-    # as many zones as there may be, and a 65th, which is looked at first
+    # as many zones as allowed, and a 65th, which is checked first
     (SIXTY_FOUR_ZONES, "Missing", ""),
     (SIXTY_FOUR_ZONES, "TooMany", "zone,1,1,1|", "zone,1,1,1,1,1,1,1,1,1"),
     (SIXTY_FOUR_ZONES, "Range", "zone,1,1,0"),
@@ -145,7 +143,7 @@ FAULTS = [
     ("dump,c,1|dump,d,1|", "Twice", "dump,c,1"),
     ("dump,d,1|", "Number", "dump,d,x"),
     ("dump,d,1|", "Missing", "dump,D,1|dump,dd,1|dump,d.,1"),
-    # a ninth destination, which is looked at first
+    # a ninth destination, which is checked first
     (EIGHT_DUMPS, "Missing", ""),
     (EIGHT_DUMPS, "TooMany", "dump,i,1", "mill,i,1,1,1", "leach,i,1,1,0,1"),
     (EIGHT_DUMPS, "Twice", "dump,a,1", "dump,h,1", "leach,h,1,1,2,300,2,400"),
@@ -172,7 +170,7 @@ FAULTS = [
     (EIGHT_DUMPS + "resource,r,a|", "TooMany", "dump,i,1", "mill,i,1,1,1", "leach,i,1,1,0,1"),
     (EIGHT_DUMPS.replace("dump,h,1|", ""), "Missing", "mill,h,1,1,1", "leach,h,1,1,0,1"),
     ("dump,d,1|resource,r,d|", "Width", "resource,r", "resource"),
-    # names that are near to others
+    # names that resemble others
     ("dump,a.b,1|", "Missing", "dump,a_b,1|dump,ab,1|dump,a-b,1|dump,7,1|dump,007,1|dump,07,1|resource,r,7"),
     ("dump,a.b,1|dump,007,1|", "Name", "resource,r,a_b", "resource,r,ab", "resource,r,7", "resource,r,0"),
     ("dump,d,1|resource,a.b,d|", "Missing", "resource,a_b,d|resource,ab,d|resource,7,d|resource,007,d"),
@@ -181,7 +179,7 @@ FAULTS = [
     (EIGHT_RESOURCES, "Twice", "resource,a,d", "resource,i,d,d"),
     (EIGHT_RESOURCES, "Name", "resource,i,x"),
     (EIGHT_RESOURCES, "Width", "resource,i"),
-    # a name is told by all of its bytes, the case of letters among them
+    # a name is identified by all of its bytes, the case of letters among them
     *(
         (NAMED, "Name", f"resource,r,{other}", f"limit,{other},0,L,1")
         for other in ["one", "one-", "one-wa", "one-ways", "one_way", "oneway", "One-way",
@@ -211,7 +209,7 @@ FAULTS = [
             ("Twice", [f"resource,{name},d" for name in names]),
         ]
     ),
-    # two spellings of one number
+    # two formats of one number
     *(
         (f"{LIMITED}limit,r,{first},L,2|", "Twice", f"limit,r,{second},L,3",
          f"limit,r,{second},I,1,2")
@@ -231,7 +229,7 @@ FAULTS = [
     ("periods,2.0|" + ONE_RESOURCE, "Range", "limit,r,2,L,2", "limit,r,10,L,2", "limit,r,19,L,2"),
     (LIMITED, "Missing", "limit,r,0,I,5,5.000000", "limit,r,0,I,05,5.", "limit,r,0,I,-0,0",
      "limit,r,0,I,+.5,00.50"),
-    # ends of a limit that floating point takes for one number
+    # ends of a limit that floating point makes equal
     (LIMITED, "Order", "limit,r,0,I,1000000000000,999999999999.999999",
      "limit,r,0,I,999999999999.999999,999999999999.999998",
      "limit,r,0,I,500000000000.000001,500000000000"),
@@ -239,19 +237,19 @@ FAULTS = [
     (LIMITED, "Missing", "limit,r,0,I,1,4294.967296", "limit,r,0,I,1,9007199254.740992"),
     (LIMITED, "Missing", "limit,r,0,I,999999999999.999999,1000000000000",
      "limit,r,0,I,999999999999.999998,999999999999.999999"),
-    # a limit that stands twice behind many others
+    # a limit that occurs twice, after many others
     *(
         (ALL_LIMITS, "Twice", f"limit,{of},{period},{rest}")
         for of, period in itertools.product("ah", (0, 1, 15, 16, 50, 98, 99))
         for rest in ("G,1", "I,1,2")
     ),
-    # more digits about the point than any count of them holds
+    # more digits around the point than any counter holds
     ("", "Missing", *(f"periods,{'0' * zeros}100" for zeros in (17, 39, 64, 255, 1_003, 5_000))),
     ("", "Missing", *(f"rate,{'0' * zeros}.5" for zeros in (39, 64, 255, 1_003, 5_000))),
     ("", "Range", *(f"periods,{'0' * zeros}101" for zeros in (17, 64, 1_003))),
     ("", "Missing", *(f"rate,0.1{'0' * zeros}" for zeros in (39, 64, 255, 1_003, 5_000))),
     ("", "TooFine", f"rate,0.1{'0' * 1_500}1", f"periods,1.{'0' * 5_000}1"),
-    # what some programs take for numbers
+    # what some programs accept as numbers
     ("", "Number", *(f"periods,{text}" for text in [
         "(5)", "1 a", "<", "<1", "1-", "one", "-inf", "+.", "1y", "0x1", "1/1", "1d0"])),
     ("", "Number", *(f"grid,0,0,0,{text},10,10" for text in [
@@ -291,7 +289,7 @@ FAULTS = [
     ("dump,d,1|", "Name", "resource,r,*", "resource,r,all", "resource,r,d d", "resource,r,d,r"),
     ("dump,d,1|resource,r,d|", "Name", "resource,s,r", "dump,*,1", "limit,d,0,L,1"),
     ("dump,d,1|resource,r,d|", "Name", "limit,*,0,L,1", "limit,,0,L,1", "limit,r r,0,L,1"),
-    # what stands between quotes is taken as it is but for blanks; a comma behind a backslash is one
+    # the text between quotes is taken unchanged except for blanks; a comma after a backslash is one
     ("", "Width", "name,one\\,two", "rate,0\\,1"),
     ("", "Name", "name,one\\", "name,one\x0b", "name,\x85one", "name,one\x1c", 'name,"one\x0c"'),
     # quoted cells
@@ -299,24 +297,23 @@ FAULTS = [
     ("", "Name", "name,one\u2009", "name,\u2009one", "name,o\u200bne", "name,\ufeffone"),
     ("", "Missing", 'name,"one'),
     ("", "Missing", *odd_names()),
-    # bytes that some programs take for the end of a record, of a cell or of all, or leave out
+    # bytes that some programs treat as the end of a record, of a cell or of all, or skip
     ("", "Name", "name,one\x0c", "name,one\x1e", "name,one\0", "name,one\x1a", 'name,o"ne',
      "name,one" + " " * 70_000 + "x"),
     ("", "Key", "# x", "% x", "//,x", "name;one", "name\tone", ' "name",one', '"name\n",one', "'name',one"),
     ("", "Width", "name,one" + "," * 70_000 + "x", 'name,"one\\",two"'),
     (LIMITED, "Name", 'limit,r,0,"L"x,1', 'limit,r,0,"L""",1'),
-    # each once-record again behind a resource and a limit
+    # each record that may occur once, again after a resource and a limit
     ("|".join(SIX) + "|resource,r,d|limit,r,0,L,1|", "Twice", "name,one", "grid,0,0,0,10,10,10", "periods,1", "rate,0.1"),
-    # many destinations, of which one is unknown, and as many cells of a resource as there are
+    # many destinations, of which one is unknown, and the same number of cells of a resource
     ("dump,d,1|", "Name", "resource,r,e" + ",d" * 40, "resource,r" + ",e" * 17),
-    # all but one of what there has to be, beside a resource
+    # all required records except one, and a resource
     ("", "Missing", *("|".join([*SIX[:at], *SIX[at + 1 :], "resource,r,d"]) for at in (0, 1, 2, 4, 5))),
 ]
 
 
 def repeated_with_a_fault():
-    """A record that may not stand again, again with a faulty cell or a cell more, and the kind, which is not
-    Twice."""
+    """Returns a record that may not be repeated, repeated with an invalid cell or an extra cell, and the kind, which is not Twice."""
     for before, key, cells in CELLS:
         record = [key, *(cell.good for cell in cells)]
         others, last = [([*record, "1"], "Width")], cells[-1]
@@ -326,7 +323,7 @@ def repeated_with_a_fault():
         for other, kind in others if key not in ("zone", "resource") else ():
             yield f"{before}{','.join(record)}|{','.join(other)}", kind
 
-# Other plans, by their first faulty record.
+# Other plans, by their first invalid record.
 PLANS = [
     ("|".join([*SIX[:2], "zone,1,1,21", *SIX[3:]]), "row 3: Range"),
     ("|".join([*SIX[:2], "zone,1,1", *SIX[3:]]), "row 3: Width"),
@@ -356,7 +353,7 @@ PLANS = [
     ("dump,d,1|resource,r,d|limit,r,0.5,L,1|periods,1", "row 3: TooFine"),
     ("periods,1|dump,d,1|limit,r,0,L,1|resource,r,d", "row 3: Name"),
     ("|".join(SIX) + ",,,", TAKEN),
-    # in any order, but for what is named
+    # in any order, except for what is named
     ("rate,1|periods,100|dump,d,1|zone,1,1,1|grid,0,0,0,10,10,10|name,one", TAKEN),
     (IN_TURN.format("mill,m,0,0,0") + "|resource,m,m|limit,m,1,G,0", TAKEN),
     (IN_TURN.format("leach,m,0,0,0,0"), TAKEN),
@@ -394,11 +391,11 @@ LAST_RECORDS = [
 
 
 def bands(first, changed, less):
-    """Sixteen bands from this start on, of which one begins by so much less."""
+    """Returns sixteen bands from this start on, of which one begins lower by this much."""
     return ",".join(f"{at - less * (at == changed)},0" for at in range(first, first + 16))
 
 
-# What is faulty in the second band of a leach, as in its first.
+# What is invalid in the second band of a leach, as in its first.
 SECOND_BAND = [
     (kind, *(f"0,1,{record_of([text])},1" for text in texts)) for kind, texts in [
         ("Range", ["-0.000001", "-1", "1000000.000001", "18446744073709.551616"]),
@@ -426,11 +423,11 @@ BANDS = [
     ("Range", "1000000.000001,1000", "0,1001", "0.000001,300,0.000002,1001"),
 ]
 
-# One byte order mark is dropped, a second one is part of the first key; an empty plan lacks its
-# name. Records past the 10,000th are not looked at, and empty records count.
+# One byte order mark is dropped, a second one is part of the first key; an empty plan has no name. Records after the 10,000th are not read,
+# and empty records count.
 EMPTY, TOO_MANY = b",\n", "row 10001: TooMany"
 
-# Of the plan's bytes no row is told.
+# For the plan's bytes no row is reported.
 TOO_LONG = "TooLong"
 
 MARKED = [
@@ -448,7 +445,7 @@ MARKED = [
     ("marks_and_nothing: a mark alone", MARK, "row 1: Missing"),
 ]
 
-# As many bytes as a plan may have.
+# The largest number of bytes of a plan.
 MOST = 1_048_576
 
 LENGTHS = [
@@ -473,34 +470,33 @@ MANY = [
 
 
 def told(name, plan, answer):
-    """A plan without a zone file: it is refused, or taken, and then a zone file is lacking."""
+    """A plan without a zone file: it is refused, or accepted, and then a zone file is missing."""
     return refused(short(name), line_of(answer), given=plan)
 
 
 def line_of(answer):
-    """The line of a plan's fault, or that a zone file is lacking."""
+    """Returns the line of a plan's fault, or the line that a zone file is missing."""
     if answer is TAKEN:
         return "settings: Files"
     return "plan: TooLong" if answer is TOO_LONG else "plan " + answer
 
 
 def told_by_compile(name, plan, answer):
-    """The same by `compile`, which is given a zone file too many."""
+    """The same by `compile`, with an extra zone file."""
     files = {"plan": plan, "zone": HEADER}
     words = compile_words("plan", "b", ["zone"] * (plan.lower().count(b"zone,") + 1))
     return refused(short(name) + ", by compile", line_of(answer), words=words, files=files)
 
 
 def last_told(name, before, key, cells, kind=None):
-    """A record of these cells behind what stands before it, and the kind of its fault."""
+    """A record of these cells after what precedes it, and the kind of its fault."""
     row = before.count("|") + 1
     answer = f"row {row}: {kind}" if kind else f"row {row + 1}: Missing"
     return told(name, lines(before + record_of([key, *cells])), answer)
 
 
 def faults_of_cells(before, key, cells):
-    """Each cell of a record in turn: numbers at both ends of its range and past them, and what is
-    none. Then two that are refused."""
+    """Each cell of a record in turn: numbers at both ends of its range and outside it, and what is no number. Then two that are refused."""
     def told_of(name, texts, kind=None):
         record = before + ",".join([key, *texts])
         return last_told(f"{name}: {record}", before, key, texts, kind)
@@ -509,7 +505,7 @@ def faults_of_cells(before, key, cells):
         for text, _, kind in cell.spellings():
             yield told_of("numbers_of_a_plan", with_cell(cells, at, text), kind)
         for _, kind in cell.faults()[:1]:
-            # Alone in its record it is a row of `widths`; an empty cell at the end is left out.
+            # Alone in its record it is a row of `widths`; an empty cell at the end is dropped.
             for text in [text for text in ("", "?") if text or at + 1 < len(cells)]:
                 if len(cells) > 1:
                     yield told_of("cells_of_a_plan", with_cell(cells, at, text), kind)
@@ -520,8 +516,7 @@ def faults_of_cells(before, key, cells):
 
 
 def spellings_of_a_key(before, key, cells):
-    """A key in capitals, with each letter alone as a capital, and with letters too many and too
-    few."""
+    """Returns a key in capitals, with each letter alone as a capital, and with letters too many and too few."""
     goods = [cell.good for cell in cells]
     capitals = (key[:at] + key[at].upper() + key[at + 1 :] for at in range(len(key)))
     for other in [key.upper(), *capitals]:
@@ -533,7 +528,7 @@ def spellings_of_a_key(before, key, cells):
 
 
 def widths(front, counts, kind):
-    """Records of this front, and of `?` up to 40 cells."""
+    """Returns records of this prefix, and of `?` up to 40 cells."""
     cells = front.split(",")
     for count in range(len(cells), 41):
         record = lines(",".join([*cells, *["?"] * (count - len(cells))]))
@@ -561,13 +556,13 @@ def names():
         yield told(f"letters_of_limits: {letter}", plan, answer)
 
 
-# What is near to a name, and is none.
+# What resembles a name, and is none.
 NO_NAMES = ["a b", "a/b", "a:b", "a+b", "'a'", "a\u00e9", "a\u00a0", "*", "\uff41"]
 
-# Lines that are near to that at which the pipe form cuts, as records of a plan.
+# Lines that resemble the line at which the pipe form cuts, as records of a plan.
 NEAR_CUTS = ["-", "---", "-- ", " --", "\t--", "- -", "--,,", "==", "--x", "x--", '"--"', "\u2013"]
 
-# Records that may stand once: two that are good, and one with a cell that is not, and its kind.
+# Records that may occur once: two valid ones, and one with an invalid cell, and its kind.
 ONCE = [
     ("name,one", "name,two", "name,?", "Name"),
     ("grid,0,0,0,10,10,10", "grid,-1,2,0.5,20,1,3", "grid,0,0,0,10,10,0", "Range"),
@@ -577,7 +572,7 @@ ONCE = [
 
 
 def long_records():
-    """Records of so many cells more than there may be, as a narrow count of them takes for none."""
+    """Records with too many cells, by a number that a narrow counter reads as 0."""
     for _, key, cells in CELLS:
         for more in (16, 32, 64, 100, 256, 65_536) if key not in ("leach", "resource") else ():
             record = ",".join([key, *(cell.good for cell in cells), *["1"] * more])
@@ -586,7 +581,7 @@ def long_records():
 
 
 def records_twice():
-    """Each record that may stand once beside the same and another, in either case and order."""
+    """Each record that may occur once with the same and another, in either case and order."""
     for one, other, faulty, kind in ONCE:
         pairs = itertools.product((one, other), repeat=2)
         for first, second in pairs:
@@ -601,7 +596,7 @@ def records_twice():
 
 
 def of_the_mill(name, front, table):
-    """Records behind the mill plan, by the kind of their fault."""
+    """Records after the mill plan, by the kind of their fault."""
     for kind, *records in table:
         for record in records:
             plan = plan_of() + lines(front + record)
@@ -609,7 +604,7 @@ def of_the_mill(name, front, table):
 
 
 def table():
-    """The plans whose last record is faulty, and what is told of them."""
+    """The plans whose last record is invalid, and what is reported."""
     for front, kind, *records in FAULTS:
         for plan in (front + record for record in records):
             row = plan.rstrip("|").count("|") + 1 + (kind == "Missing")

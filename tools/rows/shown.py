@@ -1,4 +1,4 @@
-"""A row as a reader sees it: what a run is given, and what it has to answer and to leave."""
+"""A row as a reader sees it: its inputs, and the expected result and files."""
 import shlex
 from typing import Iterator
 
@@ -9,8 +9,7 @@ LINES, BYTES = 40, 300
 
 
 def shown(trial: Trial) -> Iterator[str]:
-    """The lines that show a row. Bytes that are no letters stand as `\\x..`, as do line ends but
-    LF."""
+    """Returns the lines that show a row. Bytes that are no letters are shown as `\\x..`, and so are line ends except LF."""
     for words in [*trial.before, trial.words]:
         yield "runs: " + shlex.join(["pitc", *map(word, words)])
     if trial.source:
@@ -26,7 +25,7 @@ def shown(trial: Trial) -> Iterator[str]:
 
 
 def left(trial: Trial) -> Iterator[str]:
-    """What is left of the files."""
+    """Returns the lines for the files afterwards."""
     for name, text in trial.left.items():
         yield from content(f"left in {name}", text)
     stay = [name for name in trial.files if name not in trial.left]
@@ -39,7 +38,7 @@ def word(text: "str | bytes") -> str:
 
 
 def content(what: str, of: Content) -> Iterator[str]:
-    """What is given or wanted in one place."""
+    """Returns the lines for one input or output."""
     if isinstance(of, bytes):
         yield f"{what}: {len(of)} bytes" if of else f"{what}: nothing"
         yield from text_lines(of)
@@ -60,7 +59,7 @@ def content(what: str, of: Content) -> Iterator[str]:
 
 
 def text_lines(text: bytes) -> Iterator[str]:
-    """The lines of a text, the last with a word where it has no line end."""
+    """Returns the lines of a text, the last with a word if it has no line end."""
     lines = text[: LINES * BYTES * 2].split(b"\n")
     last = lines.pop()
     for line in lines[:LINES]:
@@ -72,6 +71,6 @@ def text_lines(text: bytes) -> Iterator[str]:
 
 
 def cut(line: bytes) -> str:
-    """A line, cut where it is long."""
+    """Returns a line, cut if it is long."""
     letters = repr(line[:BYTES])[2:-1]
     return letters if len(line) <= BYTES else f"{letters} .. of {len(line)} bytes"

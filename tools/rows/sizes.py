@@ -1,7 +1,7 @@
-"""Inputs, texts and words that are large.
+"""Inputs, texts and arguments that are large.
 
-Each row takes some seconds and some hundred megabytes at most, so they run one after the other.
-That of five million blocks has 800 MB of files.
+Each row takes some seconds and some hundred megabytes at most, so they run one after the other. The row of five million blocks has 800 MB
+of files.
 """
 import functools
 import shutil
@@ -15,15 +15,15 @@ from shared import CHECKED, ENDINGS, compile_words
 
 ONE_AT_A_TIME = True
 
-# The bytes of disk that have to be free where the rows have their folders.
+# The free bytes of disk that the rows' folders need.
 ROOM = 2_000_000_000
 
-# As many bytes as an input or a zone file may have.
+# The largest number of bytes of an input or a zone file.
 MOST = 268_435_456
 
 
 def plan_of(zones=1, benches=1):
-    """A plan with a dump alone, and so many benches above each block."""
+    """Returns a plan with a dump alone, and this number of benches above each block."""
     cones = [f"1,{benches},1"] * zones
     return instance.plan_of("dump,dump,200|", cones, grid="0,0,0,1,1,1")
 
@@ -35,7 +35,7 @@ FLAT = plan_of(benches=1000)
 
 
 def bench(z, wide, deep):
-    """The places of a bench, in order of identifier."""
+    """Returns the positions of a bench, in order of identifier."""
     return [(x, y, z) for y in range(deep) for x in range(wide)]
 
 
@@ -56,12 +56,12 @@ OLDER = at("b", dict.fromkeys(ENDINGS, b"older\n"))
 
 
 def compiles(*zones):
-    """The words of a run into the base `b`."""
+    """Returns the arguments of a run into the base `b`."""
     return compile_words("plan", "b", zones)
 
 
 def million_rows(name):
-    """As many rows as a file may have, all of them valued by one valuer."""
+    """The largest number of rows of a file, all of them valued by one valuer."""
     places = bench(0, 1000, 1000)
     left = at("b", texts_of(places, unlisted(0, 10**6)))
     words, files = [*compiles("zone"), "--valuers", "1"], {"plan": ONE, "zone": rows(places)}
@@ -75,9 +75,9 @@ def million_and_one(name):
 
 
 def two_files(name):
-    """Two files of as many rows as a file may have, one above the other.
+    """Two files with the largest number of rows, one above the other.
 
-    A block has five predecessors, and one less at each side.
+    A block has five predecessors, and -1 at each side.
     """
     zones = [rows(bench(z, 1000, 1000)) for z in (0, 1)]
     counts = "blocks 2000000 arcs 4996000 coefficients 0 limits 0 cpit 0"
@@ -94,7 +94,7 @@ def long_text(name):
     return Trial(name, given=piped(FLAT, rows(low + high)), out=out)
 
 
-# A cell that is not looked at stands between the two.
+# A cell that is not read is between the two.
 HEAD, END = b"x,y,z,tonnes,grade,rock\n0,0,0,1,0,", b"\n1,0,0,1,0,\n"
 
 
@@ -112,7 +112,7 @@ def long_zone_file(size, name):
 
 
 def too_long():
-    """Files of zeros, of as many bytes as there may be, and of one more."""
+    """Files of zeros, with the largest number of bytes, and +1."""
     files = {"input": bytes(MOST)}
     yield refused("the longest input", "plan: TooLong", source="input", files=files)
     files = {"input": bytes(MOST + 1)}
@@ -137,7 +137,7 @@ def too_long():
 
 
 def long_file(ending, name):
-    """A text that is read of an instance, behind a remark of 200 MB."""
+    """A text of an instance that is read after a remark of 200 MB."""
     remark = b"%" + b"x" * 200_000_000 + b"\n"
     counts = b"blocks 1 arcs 0 coefficients 0 limits 0 cpit 0\n"
     files = at("b", {**ONE_BLOCK, ending: remark + ONE_BLOCK[ending]})
@@ -145,7 +145,7 @@ def long_file(ending, name):
 
 
 def five_million_piped(name):
-    """A model beyond each count at which a list might be taken for full: its texts by the pipe form."""
+    """A model beyond each count at which a list might appear full: its texts by the pipe form."""
     given = piped(large.PLAN, *large.zones())
     return Trial(name, source="input", files={"input": given}, out=Pieces(large.sections))
 
@@ -164,7 +164,7 @@ def five_million_blocks(name):
 
 
 def many_words():
-    """As many zone files as a plan may name, without a number of valuers, and more words."""
+    """As many zone files as a plan may name, without a number of valuers, and extra arguments."""
     zones = {f"z{zone}": rows([(zone, 0, 0)]) for zone in range(64)}
     files, names = {"plan": plan_of(64), **zones}, list(zones)
     left = at("b", plain_texts(*files.values()))

@@ -1,5 +1,4 @@
-"""MineLib texts by `pitc check`: the counts of those that are taken, and the first faulty line of
-the others."""
+"""MineLib texts by `pitc check`: the counts of those that are accepted, and the first invalid line of the others."""
 import itertools
 import random
 import re
@@ -15,8 +14,8 @@ from shared import CHECKED, header
 
 
 def number_of(text, line):
-    """The number of a line, counted from 1. It is said by this, or by a word of its key, as
-    `NPERIODS`, also as so many lines behind or before it, as `LIMITS+2`."""
+    """The number of a line, counted from 1. It is given as a number or as a word of its key, as `NPERIODS`, also with a distance, as
+    `LIMITS+2`."""
     if isinstance(line, int):
         return line
     word, more = re.fullmatch(r"(\w+)([+-]\d+)?", line).groups()
@@ -26,7 +25,7 @@ def number_of(text, line):
 
 
 class Change(NamedTuple):
-    """Lines that stand in the place of so many from a line on, or of all."""
+    """Lines that replace this number from a line on, or all."""
 
     line: Union[int, str]
     count: Optional[int]
@@ -75,8 +74,8 @@ ONE_PCPSP = lines_of(ONE_ORE_BLOCK["pcpsp"])
 NO_PCPSP, NO_CPIT = NO_BLOCK["pcpsp"], NO_BLOCK["cpit"]
 NO_BLOCKS = "blocks 0 arcs 0 coefficients 0 limits 0"
 
-# The fields of lines, by docs/formats.md: they count kilograms, millionths or whole numbers. Each
-# line is the second of two blocks, or the first of its section. There are two resources.
+# The fields of lines, by docs/formats.md: they count kilograms, millionths or integers. Each line is the second of two blocks, or the first
+# of its section. There are two resources.
 INDEX, BLOCK, RESOURCE = Cell("0", 0, 0, 9999), Cell("1", 0, 0, 1), Cell("0", 0, 0, 1)
 VALUE = Cell("1", 6, -(10**24), 10**24)
 LEAST = VALUE._replace(good="-1000000000000000000")
@@ -84,8 +83,7 @@ GREATEST = VALUE._replace(good="1000000000000000000")
 AT_MOST, AT_LEAST, BETWEEN = Cell("L"), Cell("G"), Cell("I", stays=True)
 MASS, GRADE, ZONE = Cell("1", 3, 0, 10**9), Cell("1", 6, 0, 10**12), Cell("0", 0, 0, 63)
 
-# The fields of a line, and the kinds of those numbers in range that stand in the place of the only
-# one which is asked for.
+# The fields of a line, and the kinds for numbers in range that replace the only valid one.
 BLOCK_LINE = [Cell("1", 0, 0, 63_999_999), INDEX, INDEX, INDEX, MASS, GRADE, ZONE], ["Order"]
 PREC_LINE = [BLOCK, BLOCK, RESOURCE], ["Order", "Count", "Twice"]
 LIMIT_LINES = [
@@ -115,8 +113,8 @@ HEADER_NUMBERS = {
     "DISCOUNT_RATE": Cell("0.1", 6, 0, 10**6),
 }
 
-# Faults of model files, of each kind at every place that can have it: the number of the line that
-# is told and the kind, and the lines that have it in the place of that line, or changes.
+# Faults of model files, of each kind at every place that can have it: the number of the line that is reported and the kind, and the lines
+# that have it in place of that line, or changes.
 FAULTS_OF_A_PCPSP = [
     ("NAME", "Fields", "NAME:", "NAME: one two"),
     ("NAME", "Name", "NAME: o/e", 'NAME: "one"', "NAME: one\r ", "NAME: one%", "NAME: one,"),
@@ -143,7 +141,7 @@ FAULTS_OF_A_PCPSP = [
     ("OBJECTIVE-1", "Missing", without("RATE")),
     ("OBJECTIVE", "Fields", "OBJECTIVE_FUNCTION: 1"),
     ("OBJECTIVE", "Key", "RESOURCE_CONSTRAINT_COEFFICIENTS:", without("OBJECTIVE")),
-    # a section out of turn while keys lack, and one in turn while lines lack
+    # a section out of turn while keys are missing, and one in turn while lines are missing
     ("OBJECTIVE-1", "Key", Change("OBJECTIVE-1", 2, ["RESOURCE_CONSTRAINT_COEFFICIENTS:"]),
      Change("OBJECTIVE-1", 2, ["EOF:"])),
     ("OBJECTIVE-1", "Key", Change("OBJECTIVE-1", 2, ["RESOURCE_CONSTRAINT_LIMITS: 1"]),
@@ -188,7 +186,7 @@ FAULTS_OF_A_PCPSP = [
     ("LIMITS+1", "Order", "0 0 I 1000000000000 999999999999.999999",
      "0 0 I 999999999999999999.999999 999999999999999999.999998",
      "0 0 I -999999999999.999999 -1000000000000"),
-    # no remark behind a field or a value
+    # no remark after a field or a value
     ("NAME", "Fields", "NAME: one % x", "NAME: one %x", "NAME: one\t% x"),
     ("TYPE", "Fields", "TYPE: PCPSP % x"),
     ("RATE", "Fields", "DISCOUNT_RATE: 0.1 % x"),
@@ -302,8 +300,7 @@ HOSTILE_CPIT = [
     ("COEFFICIENTS+1", "Range", "0 18446744073709551616 1000"),
 ]
 
-# The line that is told, and block files, each with these precedences. Then precedence files, each
-# of two blocks.
+# The line that is reported, and block files, each with these precedences. Then precedence files, each of two blocks.
 FAULTS_OF_BLOCKS = [
     ("blocks line 1: Fields", b"0 0 0 0 1000 5000\n", b"0 0 0 0 1000 5000 0 0\n"),
     ("blocks line 1: Fields", b"0;0;0;0;1000;5000;0\n", b"0,0,0,0,1000,5000,0\n"),
@@ -361,12 +358,12 @@ FAULTS_OF_PRECEDENCES = [
     ("prec line 3: Order", b"0 1 1\n1 0\n0 0\n"),
     ("prec line 3: Fields", b"0 1 1\n1 0\n1\n", b"0 1 1\n1 0\nEOF\n"),
     ("prec line 1: Range", b"0 18446744073709551616\n1 0\n"),
-    # no remark behind a field, and a mark only at the front
+    # no remark after a field, and a byte order mark only at the start
     ("prec line 1: Number", b"0 0 % none\n1 0\n", b"0 1 1 %\n1 0\n", b"0 1 1% x\n1 0\n"),
     ("prec line 2: Number", b"0 1 1\n1 0 %\n", b"0 1 1\n1 0 % x\n", b"0 1 1\n1 0%\n"),
     ("prec line 2: Number", b"\n" + MARK + b"0 1 1\n1 0\n", b"% x\n" + MARK + b"0 1 1\n1 0\n"),
     ("prec line 3: Number", b" \n\n" + MARK + b" 0 1 1\n1 0\n", b"0 1 1\n\n" + MARK + b"1 0\n"),
-    # two spellings of one number
+    # two formats of one number
     ("prec line 1: Twice", b"0 1 00\n1 0\n", b"00 1 0\n1 0\n", b"0 1 -0\n1 0\n"),
     ("prec line 2: Twice", b"0 1 1\n1 1 01\n", b"0 1 1\n01 1 1\n", b"0 1 1\n1. 01 +1\n"),
     ("prec line 2: Order", b"0 1 1\n00 0\n", b"0 0\n-0 1 1\n"),
@@ -377,7 +374,7 @@ FAULTS_OF_PRECEDENCES = [
     ("prec line 65539: Missing", b"0 1 1\n" + b"%\n" * 65_537),
 ]
 
-# The same of one block.
+# The same for one block.
 HOSTILE_BLOCKS = [
     ("blocks line 1: Fields", b"0 0 0 0 1000 5000"),
     ("blocks line 1: Number", MARK + MARK + b"0 0 0 0 1000 5000 0\n"),
@@ -392,7 +389,7 @@ HOSTILE_PRECEDENCES = [
     ("prec line 1: Range", b"0 1 0\n", b"0 18446744073709551616\n", b"0 -1\n"),
 ]
 
-# What an objective's line may say of a block: decimals in every spelling, and what is none.
+# What an objective's line may say of a block: decimals in every format, and what is no decimal.
 SPELLINGS = [
     (None, "007 +.25", "5. -0", "1.2345670 0.0000000", "123456789012345678.1234560 -.5"),
     (None, "1000000000000000000 -1000000000000000000"),
@@ -402,7 +399,7 @@ SPELLINGS = [
     ("Number", "5.x 0", "-.x 0"),
 ]
 
-# The ten blocks of nine_above, and the front of a precedence file.
+# The ten blocks of nine_above, and the start of a precedence file.
 TEN_BLOCKS = lines(
     "0 1 1 0 1 0 0|1 0 0 1 1 0 0|2 1 0 1 1 0 0|3 2 0 1 1 0 0|4 0 1 1 1 0 0|"
     "5 1 1 1 1 0 0|6 2 1 1 1 0 0|7 0 2 1 1 0 0|8 1 2 1 1 0 0|9 2 2 1 1 0 0|"
@@ -416,8 +413,8 @@ NINE_ABOVE = [
     ("pcpsp line 1: Missing", b"0 0\n1 2 2 0\n2 3 9 1 0\n"),
 ]
 
-# The first line of a precedence file of ten blocks, with two things that are faulty or one that is
-# easily missed, by its kind. Taken is what only lacks a model file.
+# The first line of a precedence file of ten blocks, with two invalid parts or one that is easily missed, by its kind. The accepted ones
+# only need a model file.
 LINES_OF_TEN = [
     ("Order", "1 1 1", "1 2 2", "1 3 1 1"),
     ("Range", "1 1 10", "0 2 10", "0 2 -1", "0 10 x", "10 x", "10 0", "0 10", "0 2 1 10"),
@@ -435,8 +432,7 @@ LINES_OF_TEN = [
     ("Range", "0 2 1 281474976710658", "0 2 1 258", "0 2 1 -2"), ("TooFine", "0 2 1 10.1", "0 2 1 2.1"),
 ]
 
-# Precedences and a model file that no block has. A text that is a byte order mark alone has no
-# lines.
+# Precedences and a model file that no block has. A text that is a byte order mark alone has no lines.
 TEXTS_OF_NO_BLOCK = [
     (b"0 0\n", NO_PCPSP, "prec line 1: Range"),
     (b"", b"", "pcpsp line 1: Missing"),
@@ -447,25 +443,24 @@ TEXTS_OF_NO_BLOCK = [
     (b"% none\n\n0 0 % none\n", NO_PCPSP, "prec line 3: Range"),
 ]
 
-# Lines that are skipped, and others, which have one field or none of their own, and no colon. The
-# byte FF stands as U+DCFF.
+# Lines that are skipped, and others, which have one field or no valid field, and no colon. The byte FF is written U+DCFF.
 SKIPPED = [
     "", " ", "\t", "\t \t", "\r", " \t\r", "%", "% a: b", "  % x", "\t%x\r", "%%", "% \udcff", "% \0", "% x\rx",
 ]
 NOT_SKIPPED = ["\r\r", "\v", "\f", "#", "//%", "\0", "\r%", ";"]
 
-# By hand: remarks, blank lines, runs of blanks, line ends of two bytes, header keys in another
-# order, a last line without its end.
+# Worked out manually: remarks, blank lines, several blanks, line ends of two bytes, header keys in another order, a last line without its
+# end.
 HAND_BLOCKS = b"% hand\r\n\n0\t0 0  0 1000.000 5000 0\r\n"
 HAND_PCPSP = "\n".join([
     *reversed(header("PCPSP", blocks=1)[1:]), "NAME : one", "OBJECTIVE_FUNCTION:", "0 12000",
     "RESOURCE_CONSTRAINT_COEFFICIENTS:", "RESOURCE_CONSTRAINT_LIMITS:",
 ]).encode()
 
-# A mark in front, and numbers in other spellings.
+# A byte order mark at the start, and numbers in other formats.
 SPELLED_BLOCKS = MARK + b"+0 0. 0 .0 01000.0000000 5000 0\n1 1 0 0 -0 7 0"
 
-# Predecessors in no order, and the least and greatest of most numbers.
+# Predecessors in no order, and the smallest and largest of most numbers.
 EDGE_BLOCKS = b"0 0 0 0 0 0 0\n1 9999 9999 9999 1000000 1000000 63\n2 2 0 0 0 0 0\n"
 EDGE_PREC = b"0 2 2 1\n1 0\n2 0\n"
 EDGE_PCPSP = lines(
@@ -476,7 +471,7 @@ EDGE_PCPSP = lines(
 )
 
 
-# Numbers in spellings that other programs take for others, as 010 for 8.
+# Numbers in formats that other programs read differently, as 010 for 8.
 ELEVEN = ["0.", "+1", "02", "3.0", "004.000", "+05", "6.", "07", "08", "9." + "0" * 1_100, "010"]
 ELEVEN_BLOCKS = lines("".join(f"{number} {number} 0 0 08 .5 00.0|" for number in ELEVEN))
 ABOVE = {7: "1. 02", 9: "02.0 +8. 010"}
@@ -497,7 +492,7 @@ ELEVEN_CPIT = lines(
 
 
 def many_predecessors(count):
-    """A block below so many others."""
+    """Returns a block below this number of others."""
     blocks = "".join(f"{block} 0 0 0 1 0 0\n" for block in range(count + 1))
     above = " ".join(map(str, [0, count, *range(1, count + 1)]))
     prec = above + "\n" + "".join(f"{block} 0\n" for block in range(1, count + 1))
@@ -519,7 +514,7 @@ def with_one_pcpsp(text):
     return ONE_BLOCK, ONE_PREC, whole(text)
 
 
-# Texts that are taken, and their counts.
+# Texts that are accepted, and their counts.
 HAND = HAND_BLOCKS, b"0 0", HAND_PCPSP
 EDGE = EDGE_BLOCKS, EDGE_PREC, EDGE_PCPSP
 REMARKS = b"% none\n \t\n"
@@ -537,7 +532,7 @@ TAKEN = [
     ("cpit_destinations: a lower limit", with_cpit(AT_LEAST_500), TWO_BLOCKS + " cpit 1"),
     ("cpit_destinations: no limit", with_cpit(cut_before("LIMITS+1").of(CPIT)),
      TWO_BLOCKS + " cpit 1"),
-    # what the two model files state is not compared, but for the number of blocks
+    # the statements of the two model files are not compared, except for the number of blocks
     *(
         (f"cpit_beside_pcpsp: {line}", with_cpit(put(at, line).of(CPIT)), TWO_BLOCKS + " cpit 1")
         for at, line in [
@@ -566,8 +561,7 @@ TAKEN = [
 
 
 def answered(name, texts, place, kind, counts=""):
-    """Texts that are refused at a place, such as `prec line 2`, or without a kind taken, with these
-    counts."""
+    """Texts that are refused at a place, such as `prec line 2`, or accepted if no kind is given, with these counts."""
     files = at("b", dict(zip(CHECKED, texts)))
     name, run = short(name), {"words": ["check", "b"], "files": files}
     if kind:
@@ -580,8 +574,8 @@ def faulty(name, texts, line):
 
 
 def lines_like(fields, others):
-    """A line that is good; then each of its fields in turn: numbers at both ends of its range and
-    past them, and what is none; then two fields that are refused. Each with the kind of its fault.
+    """Yields a valid line; then each of its fields in turn: numbers at both ends of its range and outside it, and what is no number; then
+    two fields that are refused. Each has the kind of its fault.
     """
     yield [field.good for field in fields], None
     for at, field in enumerate(fields):
@@ -596,7 +590,7 @@ def lines_like(fields, others):
 
 
 def fields_of(place, kinds_of_lines, texts_with, counts):
-    """Lines that are like those of these kinds, each once."""
+    """Yields lines that are like those of these kinds, each once."""
     found = {}
     for line in kinds_of_lines:
         for fields, kind in lines_like(*line):
@@ -606,8 +600,7 @@ def fields_of(place, kinds_of_lines, texts_with, counts):
 
 
 def widths_of(place, front, counts, texts_with):
-    """Lines of this front, and of `?` up to 12 fields: wrong numbers of fields come before fields
-    that are none."""
+    """Yields lines with this prefix, and of `?` up to 12 fields: wrong numbers of fields come before invalid fields."""
     for count in range(max(1, len(front)), 13):
         kind = "Number" if count in counts else "Fields"
         texts = texts_with(" ".join([*front, *["?"] * (count - len(front))]))
@@ -650,7 +643,7 @@ def lines_of_sections(file, good, lines_of, texts_of, counts):
 
 
 def letters_of(place, texts_with, counts):
-    """Limits of each letter: those of four fields, and but for an interval those of five."""
+    """Limits of each letter: those of four fields, and those of five except for an interval."""
     for letter in [*LETTERS, "LL", "LE", "GE", "IN", "<", "<=", ">", ">=", "=", "1"]:
         name = f"letters_of_limits: {place}: {letter}"
         kind = {"L": None, "G": None, "I": "Fields"}.get(letter, "Name")
@@ -660,10 +653,9 @@ def letters_of(place, texts_with, counts):
 
 
 def orders(file, good, key, ends, tail, texts_of, counts):
-    """Two lines below a section's line, whose places have these ends: each in front of each. Then
-    a third behind two that rise.
+    """Two lines below a section's line, with these ends of the ranges: each before each. Then a third after two that rise.
 
-    `counts` has braces where the number of these lines stands.
+    `counts` has braces for the number of these lines.
     """
     places, section = list(itertools.product(*map(range, ends))), number_of(good, key)
     below = next((line for line in range(section, len(good)) if ":" in good[line]), len(good))
@@ -683,8 +675,7 @@ def orders(file, good, key, ends, tail, texts_of, counts):
 
 
 class Header(NamedTuple):
-    """A model file of no block, of which nothing but header and sections stands, the texts before
-    it, and what is answered where it is taken."""
+    """A model file of no block with only header and sections, the texts before it, and the result if it is accepted."""
 
     file: str
     good: Sequence[str]
@@ -697,7 +688,7 @@ class Header(NamedTuple):
         return len(self.good) - 3
 
     def answered(self, name, changed, number=0, kind=None):
-        """What is answered to the file that is changed: a fault of this line, or its counts."""
+        """Returns the result for the changed file: a fault of this line, or its counts."""
         if isinstance(changed, Change):
             changed = changed.of(self.good)
         text = changed if isinstance(changed, bytes) else whole(changed)
@@ -706,8 +697,7 @@ class Header(NamedTuple):
 
 
 def headers(of):
-    """Each line of a header and of a section in turn, then two sections in turn, and the file cut
-    behind each line."""
+    """Each line of a header and of a section in turn, then two sections in turn, and the file cut after each line."""
     for number, line in enumerate(of.good, 1):
         yield from spellings_of_a_key(of, number, line)
         of_line = header_key if number <= of.head else section_line
@@ -730,7 +720,7 @@ def headers(of):
 
 
 def spellings_of_a_key(of, number, line):
-    """A key in other cases and with letters too many and too few, and with blanks about it."""
+    """A key in other cases and with letters too many and too few, and with blanks around it."""
     key, value = line.split(":")
     for other in [
         key.lower(), key.title(), key[:-1] + key[-1].lower(), key[1:], key[:-1], key + "S",
@@ -747,8 +737,7 @@ def spellings_of_a_key(of, number, line):
 
 
 def header_key(of, number, line):
-    """A header key with other values, without one, twice, lacking, behind a section, and as the
-    first and the last."""
+    """A header key with other values, without one, twice, missing, after a section, and as the first and the last."""
     key, value = line.split(":")
     for text, stated, kind in HEADER_NUMBERS[key].spellings() if key in HEADER_NUMBERS else []:
         if key == "NBLOCKS" and stated:
@@ -775,7 +764,7 @@ def header_key(of, number, line):
 
 
 def section_line(of, number, line):
-    """The line of a section with fields behind it, twice, and without its colon."""
+    """The line of a section with fields after it, twice, and without its colon."""
     for other in [f"{line} 0", f"{line}:", f"{line} x:"]:
         yield of.answered(f"values_of_keys: {other}", put(number, other), number, "Fields")
     yield of.answered(f"sections_twice: {line}", before(number, line), number + 1, "Key")
@@ -807,7 +796,7 @@ def words_of_headers(of):
 
 
 def bytes_of_lines():
-    """Each byte between two fields, in front of a line, at its end and in a remark."""
+    """Each byte between two fields, before a line, at its end and in a remark."""
     def answers(name, line, place, kind):
         texts = b"0 0 0 0 1000 5000 0\n" + line + b"\n", PREC, whole(PCPSP)
         return answered(name, texts, place, kind, TWO_BLOCKS)
@@ -831,7 +820,7 @@ def bytes_of_lines():
 
 
 def lines_between():
-    """Lines that are skipped and others, behind the first line of each text."""
+    """Lines that are skipped and others, after the first line of each text."""
     texts = [BLOCKS, PREC, whole(PCPSP), whole(CPIT)]
     for number, file in enumerate(CHECKED):
         text, is_line = texts[number], number < 2
@@ -862,7 +851,7 @@ def lines_between():
 
 
 def model_files():
-    """What is said of both model files."""
+    """Statements of both model files."""
     pcpsp = Header("pcpsp", lines_of(NO_PCPSP), [b"", b""], NO_BLOCKS)
     cpit = Header("cpit", lines_of(NO_CPIT), [b"", b"", NO_PCPSP], NO_BLOCKS + " cpit 0")
     for of in (pcpsp, cpit):
@@ -889,7 +878,7 @@ LINES_OF_EACH_KIND = [
 
 
 def long_lines():
-    """Lines of so many fields more than there may be, as a narrow count of them takes for none."""
+    """Lines with too many fields, by a number that a narrow counter reads as 0."""
     for more in (16, 32, 64, 100, 256, 65_536):
         fields = " 0" * more
         blocks = f"0 0 0 0 1 0 0\n1 0 0 0 1 0 0{fields}\n".encode()
@@ -903,7 +892,7 @@ def long_lines():
 
 
 def changed_files():
-    """Model files with lines that are faulty, and such that end within their objective."""
+    """Model files with lines that are invalid, and some that end within their objective."""
     for name, file, good, texts_of, table in [
         ("faults_of_model_files", "pcpsp", PCPSP, with_pcpsp, FAULTS_OF_A_PCPSP),
         ("one_ore_block", "pcpsp", ONE_PCPSP, with_one_pcpsp, FAULTS_OF_ONE_ORE_BLOCK),
@@ -928,7 +917,7 @@ def changed_files():
 
 
 def blocks_and_precedences():
-    """Block files and precedence files that are faulty, each beside good texts."""
+    """Block files and precedence files that are invalid, each with good other texts."""
     two, one, rest = whole(PCPSP), whole(ONE_PCPSP), b"".join(b"%d 0\n" % n for n in range(3, 10))
     name, hostile = "faults_of_blocks_and_precedences", "hostile_minelib_texts"
     for name, table, texts_of in [
@@ -952,7 +941,7 @@ def blocks_and_precedences():
 
 
 def late_lines():
-    """Faulty lines behind so many that are skipped, of each text."""
+    """Invalid lines after this number of skipped ones, of each text."""
     texts = [BLOCKS, PREC, whole(PCPSP), whole(CPIT)]
     for (number, file), count in itertools.product(enumerate(CHECKED), (4, 255, 256, 257, 65_536)):
         text, kind = texts[number], "Fields" if number < 2 else "Key"
@@ -965,13 +954,13 @@ def late_lines():
         yield faulty(name, changed, f"{file} line {place}: Fields")
 
 
-# How many predecessors stand, and what `k` says in their place.
+# How many predecessors there are, and what `k` says instead.
 OTHER_COUNTS = [(300, 44), (5_000, 904), (70_000, 4_464)]
 
 
 def far_lines():
-    """What is faulty far behind, or of many: another count, a predecessor that stands twice, an identifier that is
-    a power of two less, a mark alone, and intervals that end at a power of two millionths."""
+    """Faults far from the start, or among many: another count, a repeated predecessor, an identifier that is a power of two less, a mark
+    alone, and intervals that end at a power of two millionths."""
     for count, told in OTHER_COUNTS:
         blocks, prec, pcpsp = many_predecessors(count)
         line = prec.replace(f"0 {count} ".encode(), f"0 {told} ".encode(), 1)

@@ -1,7 +1,7 @@
-"""What pitc_thin writes and tells, by a plain computation of what is left, apart from the program's.
+"""What pitc_thin writes and reports, by a plain computation of the retained arcs, separate from the program's.
 
-Its rows are run by the program pitc_thin, which stands beside pitc. rows.thin_files has those of its
-arguments, of faulty inputs and of the file that it writes.
+Its rows are run by the program pitc_thin, which is built next to pitc. rows.thin_files has the rows on its arguments, on invalid inputs and
+on the file that it writes.
 """
 import itertools
 import random
@@ -19,11 +19,10 @@ periods,1
 rate,0.1
 """
 
-# So many blocks take no time.
+# This number of blocks takes no time.
 FEW = 80
 
-# The tonnes and the grade of each block; and such of which some have no tonnage, or are worth
-# nothing, more or less.
+# The tonnes and the grade of each block; and a list of which some have no tonnage, or are worth nothing, more or less.
 ALIKE = ["1,0"]
 UNLIKE = ["0,0", "1,0", "1000,5000", "0,7", "0.001,2777.777778", "1000000,1000000", "9,2777"]
 
@@ -33,7 +32,7 @@ def millimetres(metres):
 
 
 def takes_in(sizes, cone, low, high):
-    """Whether a block stands in the cone of another: slopes of +x, -x, +y and -y as pairs, then K."""
+    """Returns whether a block is in the cone of another: slopes of +x, -x, +y and -y as pairs, then K."""
     east, west, north, south, benches = cone
     dx, dy, dz = (h - l for l, h in zip(low, high))
     if not 0 < dz <= benches:
@@ -45,8 +44,7 @@ def takes_in(sizes, cone, low, high):
 
 
 def lists_of(sizes, cones, zones):
-    """The list of each block of zones, by identifier: all blocks up to K benches higher are tried, and
-    each distance once."""
+    """Returns the list of each block of zones, by identifier: all blocks up to K benches higher are tried, and each distance once."""
     blocks = sorted((place[::-1], zone) for zone, places in enumerate(zones) for place in places)
     benches, inside, lists = {}, [{} for _ in cones], []
     for number, ((z, y, x), _) in enumerate(blocks):
@@ -70,7 +68,7 @@ def mask_of(blocks):
 
 
 def left_of(lists):
-    """Of each list, those that stand in the list of no other one of it."""
+    """Returns for each list the blocks that are predecessors of no other one of it."""
     taken, left = list(map(mask_of, lists)), []
     for one in lists:
         behind = 0
@@ -81,7 +79,7 @@ def left_of(lists):
 
 
 def reaches(lists):
-    """Of each block all to which a way of arcs leads."""
+    """Returns for each block all to which a path of arcs leads."""
     found = [0] * len(lists)
     for n in reversed(range(len(lists))):
         for c in lists[n]:
@@ -90,7 +88,7 @@ def reaches(lists):
 
 
 def least_of(lists):
-    """The transitive reduction: of each list, those to which no way leads from another one of it."""
+    """Returns the transitive reduction: for each list, the blocks to which no path goes from another one of it."""
     reached, least = reaches(lists), []
     for one in lists:
         behind = 0
@@ -113,33 +111,32 @@ def cone_of(cells):
 
 
 def box(xs, ys, zs, holes=()):
-    """All places of a box but for its holes."""
+    """Returns all positions of a box except its holes."""
     return [(x, y, z) for z in zs for y in ys for x in xs if (x, y, z) not in holes]
 
 
 def rows_of(places, sizes, origin, masses):
-    """The rows of blocks at these places, with the tonnes and grades of these in turn."""
+    """Returns the rows of blocks at these positions, with the tonnes and grades of these in turn."""
     for place, mass in zip(places, itertools.cycle(masses)):
         metres = (shortest(o + at * size, 3) for o, at, size in zip(origin, place, sizes))
         yield ",".join([*metres, mass])
 
 
 def written(text, lists):
-    """What a run writes at the file `thin` and tells of it, of blocks with these lists."""
+    """Returns what a run writes to the file `thin` and reports, for blocks with these lists."""
     counts = len(lists), text.count(b" ") - len(lists), sum(map(len, lists))
     return {"out": b"rows %d arcs %d of %d\n" % counts, "left": {"thin": text}}
 
 
 def thinned(name, cells, zones, *given, **how):
-    """A row that is made so, which takes long where there are many blocks."""
+    """A row that is made so, which takes long for many blocks."""
     if sum(map(len, zones)) <= FEW:
         return made(name, cells, zones, *given, **how)
     return Later(name, lambda name: made(name, cells, zones, *given, **how))
 
 
 def made(name, cells, zones, sizes=(10, 10, 10), words=(), origin=(0, 0, 0), masses=ALIKE):
-    """A run that writes what is left of zones with these cells in the plan. Sizes and origin are in
-    metres."""
+    """A run that writes the retained arcs of zones with these cells in the plan. Sizes and origin are in metres."""
     cones = list(map(cone_of, cells))
     lists = lists_of(millimetres(sizes), cones, zones)
     left, least = left_of(lists), least_of(lists)
@@ -180,8 +177,8 @@ def of_zones():
         yield thinned(" ".join(words), ["1,1,3"], [whole], words=words)
 
 
-# The sizes and the cone of full rock that reaches so far to each side, and how many arcs the block in its middle has, four benches below its top:
-# all, and those that are left, as they were counted apart.
+# The sizes and the cone of full rock with these reaches to each side, and how many arcs the block in its middle has, four benches below its
+# top: all, and the retained ones, as they were counted separately.
 FULL_ROCK = [
     ((10, 10, 10), "1,1,4", 4, 96, 9), ((20, 20, 10), "3,2,4", 2, 12, 5),
     ((15, 15, 12), "1,1,4", 4, 68, 33), ((25, 25, 15), "4,5,4", 4, 60, 25),
@@ -197,7 +194,7 @@ def of_full_rock():
         yield thinned(f"full rock: {cells} of {sizes}", [cells], [places], sizes)
 
 
-# Zones' cones, their blocks, what is left of the list of the first block, and what the transitive reduction has of it.
+# Zones' cones, their blocks, the retained arcs of the first block, and what the transitive reduction has of them.
 COLUMN = [(0, 0, z) for z in range(4)]
 UNLIKE_CONES = [
     ("a column of K = 3 below K = 1", ["1,1,3", "1,1,1"], [COLUMN[:1], COLUMN[1:]], [1], [1]),
@@ -210,8 +207,8 @@ UNLIKE_CONES = [
 
 
 def of_unlike_cones():
-    """Zones whose cones differ: what is left by hand; and layers, sides, benches and holes, where dropping only behind what is left would
-    leave more."""
+    """Zones whose cones differ: retained arcs worked out manually; and layers, sides, benches and holes, for which dropping only what
+    follows retained arcs would keep more."""
     for name, cells, zones, left, least in UNLIKE_CONES:
         lists = lists_of([10_000] * 3, list(map(cone_of, cells)), zones)
         assert (left_of(lists)[0], least_of(lists)[0]) == (left, least)
@@ -251,8 +248,8 @@ def of_random_zones():
 
 
 def of_long_rows():
-    """Rows of many blocks along x, where what is left of one block is left of the blocks behind it too, up to a hole, a side or another
-    cone, in the block's own row or in one of those above."""
+    """Rows of many blocks along x, in which the retained arcs of one block are those of the next blocks too, up to a hole, a side or
+    another cone, in the block's own row or in one of those above."""
     along = range(26)
     whole = box(along, range(3), range(4))
     for cells in ("1,1,3", "1,2,2", "2,1,3", "1,1,2,1,1,2,3,2,3", "1,9,1"):
@@ -313,7 +310,7 @@ def of_orders():
 
 
 def of_many_zones():
-    """Zones with slopes and K of their own, some of them without a block."""
+    """Zones with different slopes and K, some of them without a block."""
     for count in (4, 5, 20, 64):
         chance = random.Random(count)
         cells = [f"{chance.randrange(1, 4)},{chance.randrange(1, 4)},{zone % 20 + 1}" for zone in range(count)]
@@ -325,8 +322,8 @@ def of_many_zones():
 
 
 def of_places():
-    """Origins and sizes of many kinds, at either end of the grid; and blocks about the boundary of a cone,
-    below blocks of a steep and of a flat zone."""
+    """Origins and sizes of many kinds, at either end of the grid; and blocks around the boundary of a cone, below blocks of a steep and
+    of a flat zone."""
     near, far = box(range(5), range(5), range(5)), box(range(9995, 10_000), range(9995, 10_000), range(9995, 10_000))
     for origin, sizes in [
         ((-30.5, -1000000000, 999999999.5), (0.5, 100, 0.001)), ((0.001, -0.001, -5), (12.25, 7.5, 3.125)),
@@ -346,7 +343,7 @@ def of_places():
 
 
 def of_wide_cones():
-    """Hundreds of arcs that are left of a block, all of which cover."""
+    """Hundreds of retained arcs of a block, all of which cover."""
     low = [(10, 10, 0)]
     for name, cells, zones in [
         ("12 x 12 x 3", ["1,5,2"], [box(range(12), range(12), range(3))]),
@@ -361,8 +358,8 @@ def of_wide_cones():
 
 
 def of_holes():
-    """Half of the blocks of a box: so many of them have neighbours like those of no other block that the
-    program keeps what is left of a cone for some alone."""
+    """Half of the blocks of a box: neighbours differ from block to block so much that the program stores the retained arcs of a cone for
+    some alone."""
     for name, cells, places in [
         ("1 : 30", ["1,30,3"], box(range(24), range(24), range(4))),
         ("1 : 4 among 1 : 2", ["1,4,3", "1,2,5"], box(range(18), range(18), range(6))),
@@ -375,8 +372,8 @@ def of_holes():
 
 
 def of_many_neighbourhoods():
-    """Unlike cones so wide that few blocks have neighbours like those of others: the program keeps what is
-    left of cones for as many as it may, and lets that go for others, some times."""
+    """Different cones so wide that few blocks have neighbours like those of others: the program stores the retained arcs for as many as
+    it may, and drops these for others, some times."""
     places = box(range(14), range(14), range(12))
     for name, zone_of in [("by turns", lambda place: place[2] % 3), ("beside one another", lambda place: place[0] // 5)]:
         zones = [[place for place in places if zone_of(place) == zone] for zone in range(3)]
@@ -394,14 +391,14 @@ def of_fullest():
 
 
 def cross(side, z, y, x):
-    """The list of a block of a box of this side: itself and its four sides, a bench higher."""
+    """Returns the list of a block of a box of this side: itself and its four sides, a bench higher."""
     places = [(x, y - 1), (x - 1, y), (x, y), (x + 1, y), (x, y + 1)]
     return [((z + 1) * side + b) * side + a for a, b in places if 0 <= a < side and 0 <= b < side]
 
 
 def of_crosses(name, side=160):
-    """Three square benches at K = 2 and 1 : 1: a block has those of a cross on the next bench, and those
-    of a disc of 13 blocks above it, all of which follow."""
+    """Three square benches at K = 2 and 1 : 1: a block has a cross on the next bench, and a disc of 13 blocks above it, all of which
+    follow."""
     places = box(range(side), range(side), range(3))
     left = [cross(side, z, y, x) if z < 2 else [] for x, y, z in places]
     disc = [(x, y) for x in range(-2, 3) for y in range(-2, 3) if x * x + y * y <= 4]

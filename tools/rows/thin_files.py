@@ -1,30 +1,29 @@
-"""What pitc_thin tells of its arguments, of plans and zone files, and what becomes of the file that it
-writes: the rows of `compile`, as far as they hold of it.
+"""What pitc_thin reports on its arguments, on plans and zone files, and what becomes of the file that it writes: the rows of `compile`, as
+far as they apply to it.
 """
 from rows import compile_form, names, pairs, plans, words as words_of_compile, zone_rows
 from rows.compile_form import ACCEPTED, FAULTY_ROWS, REFUSED, WRITTEN, compile_words
 from rows.instance import ONE_ORE_BLOCK, ORE, PLAN, unlisted
 from rows.trial import Folder, Front, Link, Parts, Trial, lines, refused, zone_file
 
-# Files that stand in the place of the one that is written: it is as long as its text, whatever its
-# length was, and stays where the run is refused.
+# Files in place of the one that is written: it is as long as its text, whatever its length was, and stays if the run is refused.
 OLDER = {"longer": b"0 0\n1 1 0\n" * 1000, "shorter": b"9", "as long": b"9 9\n", "empty": b""}
 
 
 def thin_words(words):
-    """The words of a run of compile, as those of pitc_thin, and its files."""
+    """Returns the arguments of a run of compile, as arguments of pitc_thin, and its files."""
     run = compile_words(words)
     return {"words": ["--out", "thin", *run["words"][3:]], "files": run["files"]}
 
 
 def no_arcs(count):
-    """What a run prints of blocks without predecessors, and their text."""
+    """Returns what a run prints for blocks without predecessors, and their text."""
     return b"rows %d arcs 0 of 0\n" % count, lines(unlisted(0, count))
 
 
 def as_thin(trial, older=OLDER["longer"], left=()):
-    """A run of `compile`, as one of pitc_thin into the file at its base, where an older one stands: it is
-    refused alike, or prints and writes these."""
+    """A run of `compile`, as one of pitc_thin into the file at its base, over an older one: it is refused in the same way, or prints and
+    writes these."""
     words, base = trial.words[1:], trial.words[trial.words.index("--out") + 1]
     at_base = {name: text for name, text in trial.files.items() if name.startswith(base + ".")}
     others = {name: text for name, text in trial.files.items() if name not in at_base}
@@ -81,7 +80,7 @@ def of_files():
 
 
 def of_spellings():
-    """Plans and zone files of every spelling."""
+    """Plans and zone files in every format."""
     for name, words, given in ACCEPTED:
         out, text = no_arcs(1)
         yield Trial(name, given=given, out=out, left={"thin": text}, **thin_words(words))
@@ -96,7 +95,7 @@ def of_spellings():
 
 
 def of_plans():
-    """Plans that are faulty, and such that are taken and lack a zone file."""
+    """Plans that are invalid, and some that are accepted and have no zone file."""
     for trial in plans.trials():
         if trial.words:
             yield as_thin(trial)
@@ -117,7 +116,7 @@ def of_names():
     yield refused("a name of the file that is too long", "sink prec: SinkFailed", words=words, files=run["files"])
 
 
-# The words of a run of pitc_thin that ask for a text, and parts of it.
+# The arguments of a run of pitc_thin that request a text, and parts of it.
 ABOUT = "Writes the precedences of a model, and leaves out arcs that follow from others."
 SHOWN = [
     ("--help", ABOUT, "a solver has fewer arcs to take", "prints `rows N arcs M of L`", "[default: 64]"),
@@ -127,12 +126,12 @@ SHOWN = [
     ("--plan one.plan --out base --version ore.csv", "pitc_thin "),
 ]
 
-# The words that are refused beside those of compile.
+# The arguments that are refused besides those of compile.
 ALSO_REFUSED = ["help", "check base", "compile", "ore.csv help"]
 
 
 def of_words():
-    """The words of runs of compile, but for their first, and the words that are those of pitc_thin alone."""
+    """The arguments of runs of compile, without the first, and the arguments of pitc_thin alone."""
     files, one = words_of_compile.FEW, {"out": b"rows 1 arcs 0 of 0\n", "files": words_of_compile.FEW}
     for words in words_of_compile.TAKEN:
         yield Trial(f"words that are taken: {words}", words=words.split()[1:], left={"base": b"0 0\n"}, **one)

@@ -1,4 +1,4 @@
-"""A run of pitc, and what it has to answer and to leave."""
+"""A run of pitc, and its expected result and files."""
 import hashlib
 import os
 import zlib
@@ -28,7 +28,7 @@ class Parts(NamedTuple):
         return all(text in found for text in self.texts)
 
     def lacking(self, found):
-        """The first of them that a text has not."""
+        """Returns the first of them that a text does not have."""
         return Part(next(text for text in self.texts if text not in found))
 
 
@@ -51,13 +51,12 @@ class Sum(NamedTuple):
 
 
 class Pieces(NamedTuple):
-    """The text that is made of these pieces, which are made anew each time that it is looked at."""
+    """The text that consists of these parts, which are made again each time that it is read."""
 
     make: Callable[[], Iterable[bytes]]
 
     def differing(self, found):
-        """Where a text begins to differ, and the piece that should stand there; None where it is
-        the same."""
+        """Returns where a text begins to differ, and the expected part there; None if it is the same."""
         at = 0
         for piece in self.make():
             if not found.startswith(piece, at):
@@ -70,11 +69,11 @@ class Pieces(NamedTuple):
 
 
 class Folder(NamedTuple):
-    """A folder in the place of a file. What stands in it is named with its own name in front."""
+    """A folder in place of a file. Its contents are named with its name before them."""
 
 
 class Link(NamedTuple):
-    """A link to another file in the place of a file."""
+    """A link to another file in place of a file."""
 
     target: str
 
@@ -85,11 +84,10 @@ Content = Union[bytes, Part, Parts, Front, Sum, Pieces, Folder, Link]
 
 
 class Trial(NamedTuple):
-    """What a run is given, and what it has to answer and to leave.
+    """The inputs of a run, and its expected result and files.
 
-    What is given comes through a pipe, but where a source is named: a file or a folder that is
-    standard input. The runs before it are those of other words on the same files, which have to end
-    with 0. The files stay as they are, and no others come, but for those that are left.
+    The input comes through a pipe, unless a source is named: a file or a folder that is standard input. The runs before it have other
+    arguments on the same files, and must end with 0. The files stay unchanged, and no others are created, except those in `left`.
     """
 
     name: str
@@ -107,12 +105,12 @@ class Trial(NamedTuple):
         return self
 
     def input(self):
-        """A number that tells its words, files and standard input from those of other runs."""
+        """Returns a number that tells its arguments, files and standard input from those of other runs."""
         words, before = tuple(self.words), tuple(map(tuple, self.before))
         return hash((words, self.given, self.source, frozenset(self.files.items()), before))
 
     def differences(self, status, out, errors, files):
-        """What a run answered or left that it should not have."""
+        """Returns which results or files of a run are wrong."""
         if status != self.status:
             yield f"status {status} in place of {self.status}"
         found = {"standard output": out, "standard error": errors, **files}
@@ -126,7 +124,7 @@ class Trial(NamedTuple):
 
 
 class Later(NamedTuple):
-    """A row that takes long to make, and is made where more than its name is asked for."""
+    """A row that takes long to make, and is made when more than its name is needed."""
 
     name: str
     make: Callable[[str], Trial]
@@ -142,7 +140,7 @@ def fits(found, wanted):
 
 
 def difference(name, found, wanted):
-    """A text and what is wanted of it, each from the first line on in which they differ."""
+    """Returns a text and the expected text, each from the first line on in which they differ."""
     if isinstance(wanted, Parts):
         wanted = wanted.lacking(found)
     if isinstance(wanted, Pieces):
@@ -159,12 +157,12 @@ def difference(name, found, wanted):
 
 
 def shown(content):
-    """A content, cut where it is long."""
+    """Returns a content, cut if it is long."""
     return repr(content if len(content) <= 200 else content[:200] + b"..")
 
 
 def short(name):
-    """The name of a row; where it is long, its ends, its length and its checksum."""
+    """Returns the name of a row; if it is long, its ends, its length and its checksum."""
     if len(name) <= 160:
         return name
     return f"{name[:80]} .. {name[-40:]}, {len(name)} letters, {zlib.crc32(name.encode()):08x}"
@@ -181,7 +179,7 @@ def zone_file(*rows):
 
 
 def piped(plan, *zones):
-    """The input of the pipe form: a plan and zone files, each but the last with its line end."""
+    """Returns the input of the pipe form: a plan and zone files, each except the last with its line end."""
     return b"--\n".join([plan, *zones])
 
 

@@ -1,11 +1,11 @@
-"""Words of the command line: which are taken, which ask for a text, and which are refused."""
+"""Arguments of the command line: which are accepted, which request a text, and which are refused."""
 from rows.instance import ONE_ORE_BLOCK, ORE, PLAN, at
 from rows.trial import Front, Parts, Trial, refused
 from shared import ENDINGS
 
 FILES = {"one.plan": PLAN, "ore.csv": ORE, **at("base", dict.fromkeys(ENDINGS, b"older\n"))}
 
-# The words of a run on one block, cut at blanks as all that follow.
+# The arguments of a run on one block, cut at blanks like all that follow.
 TAKEN = [
     "compile ore.csv --plan one.plan --out base",
     "compile --plan one.plan ore.csv --valuers 1 --out base --capacity 4096",
@@ -21,14 +21,14 @@ TAKEN = [
     "compile --out base --plan one.plan -- ore.csv",
 ]
 
-# Bases of runs, taken as they are spelled, and the words that name them.
+# Bases of runs, used as they are written, and the arguments that name them.
 BASES = [
     ("", ["--out", ""]), ("", ["--out="]), ("-b", ["--out=-b"]), ("--plan", ["--out=--plan"]),
     ("-", ["--out", "-"]), ("b=c", ["--out=b=c"]), ("b.blocks", ["--out=b.blocks"]),
     ("B.PREC", ["--out", "B.PREC"]), ("compile", ["--out", "compile"]), (" ", ["--out", " "]),
 ]
 
-# Checks of a base behind other words.
+# Checks of a base after other arguments.
 CHECKED_BASES = [
     ("base", ["check", "--", "base"]), ("base", ["check", "base", "--"]),
     ("-b", ["check", "--", "-b"]), ("--help", ["check", "--", "--help"]), ("", ["check", ""]),
@@ -36,7 +36,7 @@ CHECKED_BASES = [
     ("b=c", ["check", "b=c"]),
 ]
 
-# Words that are taken, and what is refused behind them. A plan is looked at before its zone files.
+# Arguments that are accepted, and what is refused after them. A plan is checked before its zone files.
 ONE, BASE = ["--plan", "one.plan"], ["--out", "base"]
 TOLD = [
     ("plan: FeedFailed", ["compile", "--plan", "", *BASE, "ore.csv"]),
@@ -58,7 +58,7 @@ ABOUT = "Turns the block models of an open pit mine into a MineLib instance."
 ABOUT_COMPILE = "Writes the files of the instance of a plan and its zone files"
 ABOUT_CHECK = "Reads the files of an instance and prints its counts"
 
-# The words that ask for a text, and parts of it.
+# The arguments that request a text, and parts of it.
 SHOWN = [
     ("--version", "pitc "),
     (
@@ -83,7 +83,7 @@ SHOWN = [
     ("compile --plan one.plan --out base ore.csv --help", ABOUT_COMPILE),
 ]
 
-# The words that are refused by a text of their own.
+# The arguments that are refused by their own text.
 REFUSED = [
     "nope",
     "--nope",
@@ -110,7 +110,7 @@ REFUSED = [
         f"compile --plan one.plan --out base ore.csv --{option}{more}"
         for option, most in (("valuers", 64), ("capacity", 4096))
         for more in [
-            # what narrower counts would take for 1
+            # what narrower counters would read as 1
             *(f" {2**bits + 1}" for bits in (16, 32, 64, 128)),
             "=", "=-4", " x", " 0x4", " 1e1", " 4x", " 4,", " ++4", " \u0664", f" -{most}", f"={most}.",
         ]
@@ -121,7 +121,7 @@ REFUSED = [
     "compile --plan one.plan --out base ore.csv --valuers 4 --valuers 4",
     "compile --plan one.plan --out base --out base ore.csv",
     "check base --valuers 4",
-    # no front of a word, no other letters, no other hyphens
+    # no prefix of a word, no other letters, no other hyphens
     *(
         f"compile {plan} one.plan {out} base {more} ore.csv".replace("  ", " ")
         for plan, out, more in [
@@ -152,7 +152,7 @@ REFUSED = [
     "-", "--", "-- check base", "- check base", "-- compile", "--HELP", "-H", "--hel", "-elp",
     "--Version", "-v", "version", "help nope", "help nope check", "help check nope", "help base",
     "help --nope", "HELP", "hel", "h",
-    # a value that looks like an option is none, but behind `=`
+    # a value that looks like an option is none, except after `=`
     "compile --plan one.plan --out -b ore.csv",
     "compile --plan one.plan --out --base ore.csv",
     "compile --plan -p --out base ore.csv",
@@ -169,7 +169,7 @@ REFUSED = [
     "check base -- more",
     "check --",
     "compile --plan one.plan --out base --",
-    # the words are looked at before the plan, and the first that is wrong before a later help
+    # the arguments are checked before the plan, and the first that is wrong before a later help
     "compile --nope --help",
     "compile --plan one.plan --nope --help",
     "compile --valuers 65 --help",
@@ -183,7 +183,7 @@ REFUSED = [
     "compile --plan one.plan --out base --valuers 1 2 ore.csv --capacity",
 ]
 
-# What is told of some of them, one for each kind of fault, as `clap` tells it.
+# The report on some of them, one for each kind of fault, as `clap` prints it.
 RUN = "compile --plan one.plan --out base"
 LACKING = "the following required arguments were not provided:"
 NO_NUMBER = "invalid digit found in string"
@@ -201,18 +201,18 @@ LINES = {
     f"{RUN} ore.csv --capacity 0": "invalid value '0' for '--capacity <N>': 0 is not in 1..=4096",
 }
 
-# The same, with a blank in a word.
+# The same, with a blank in an argument.
 REFUSED_WHOLE = [
     ["compile", "--plan", "one.plan", "--out", "base", "ore.csv", f"--{option}", number]
     for option in ("valuers", "capacity") for number in (" 5", "5 ", "", " ", "5 6", "\t5")
 ] + [["check base"], [" check", "base"], ["compile "], [""]]
 
-# The words that are not UTF-8.
+# The arguments that are not UTF-8.
 NOT_UTF8 = [b"\xFF", b"check \xFF", b"compile --plan one.plan --out base \xFF"]
 
 
-# A run of all options, whose words are left out and said twice one by one, and what is told: of a
-# number that is no longer an option's, as of a file that is not there.
+# A run of all options, whose arguments are dropped and repeated one by one, and the report: on a number that is no longer an option's, as
+# on a missing file.
 ALL = "compile --plan one.plan --out base --valuers 2 --capacity 3 ore.csv".split()
 LEFT_OUT = {"--valuers": "file 0: FeedFailed", "--capacity": "file 0: FeedFailed"}
 TWICE = {
@@ -225,7 +225,7 @@ FEW = {"one.plan": PLAN, "ore.csv": ORE}
 
 
 def told_of(words):
-    """How the text of refused words begins."""
+    """The beginning of the text for refused arguments."""
     return Front(f"error: {LINES[words]}\n".encode() if words in LINES else b"error: ")
 
 
@@ -243,15 +243,15 @@ def of_bases():
 
 
 def one_by_one():
-    """Each word of a run but the first left out, and said twice: the run, and the line that is told
-    or None where the text is that of refused words."""
+    """Yields each argument of a run except the first dropped, and repeated: the run, and the line that is reported or None if the text
+    is that of refused arguments."""
     for at, word in enumerate(ALL[1:], 1):
         yield f"without {word}", ALL[:at] + ALL[at + 1 :], LEFT_OUT.get(word)
         yield f"twice {word}", [*ALL[: at + 1], *ALL[at:]], TWICE.get(word)
 
 
 def of_each_word(front=0, files={**FEW, "base": b"older\n"}):
-    """The same as rows, without so many words at the front."""
+    """The same as rows, without this number of arguments at the start."""
     for name, words, line in one_by_one():
         given = {"words": words[front:], "files": files}
         if line:

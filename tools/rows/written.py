@@ -1,6 +1,6 @@
 """What the texts show of a plan: its numbers and names, values, coefficients and limits.
 
-What is not written out here follows by a formula of its own, or by the plain computation.
+What is not written out here comes from a separate formula, or from the plain computation.
 """
 import itertools
 
@@ -58,8 +58,8 @@ SHOWN = [
         "RESOURCE_CONSTRAINT_LIMITS:|0 7 L 0.000001|0 98 G 0|1 0 G 1000000000000|"
         "1 99 I 0.5 999999999999.999999|== cpit|",
     ),
-    # the worths of a kilogram at each kind of destination, of waste and with 0.1 g of metal: -1.5,
-    # -1.6, -0.25 and 0 cents, then -0.87, -0.835, -0.25 and 0
+    # the worths of a kilogram at each kind of destination, of waste and with 0.1 g of metal: -1.5, -1.6, -0.25 and 0 cents, then -0.87,
+    # -0.835, -0.25 and 0
     (
         "worths_are_rounded_down",
         small("mill,m,900,7000,1500|leach,l,9000,1600,0,850|dump,d,250|dump,n,0|"),
@@ -86,12 +86,11 @@ SHOWN = [
         "LIMITS:|0 0 L 1000000000000|0 1 I 0 1000000000000|0 2 L 0|0 3 I 0 0|"
         "0 4 I 1000000000000 1000000000000|== cpit|",
     ),
-    # 333.333333333335 g of metal are recovered, at three cents a kilogram: a thousandth of a
-    # nanogram decides, by hand
+    # 333.333333333335 g of metal are recovered, at three cents a kilogram: a thousandth of a nanogram decides; worked out manually
     ("metal_below_a_nanogram", small("mill,m,1,3,0|"), b"0,0,0,1.873,177967.609895\n",
      "OBJECTIVE_FUNCTION:|0 0.01|== pcpsp|"),
-    # numbers and not their texts have an order: period 10 comes behind 2, and resources stand as in
-    # the plan; one without a limit is counted
+    # numbers and not their texts have an order: period 10 comes after 2, and resources are in the order of the plan; one without a limit is
+    # counted
     (
         "limits_by_number",
         small(
@@ -113,7 +112,7 @@ SHOWN = [
         "2 0 1 0.999|2 1 0 0.999|2 1 1 0.999|4 0 1 1.001|4 1 0 1.001|4 1 1 1.001|RESOURCE",
         "COEFFICIENTS:|0 1 0.001|1 1 0.5|2 1 0.999|4 1 1.001|RESOURCE",
     ),
-    # periods and resources are counted also where none has a limit; an interval may be one number
+    # periods and resources are counted even if none has a limit; an interval may be one number
     (
         "limits_of_few",
         small("dump,d,1|dump,e,2|", "periods,7|rate,0|resource,z,e|resource,y,d|resource,x,e,d|"
@@ -125,7 +124,7 @@ SHOWN = [
         "1 1 I 0.5 0.5|1 2 I 0 0|== cpit|",
         "COEFFICIENTS:|0 1 1|0 2 1|RESOURCE",
     ),
-    # limits are of the plan: they stand also where no block has a tonnage that counts for them
+    # limits belong to the plan: they are there even if no block has a tonnage that counts for them
     (
         "limits_without_tonnage",
         small("dump,d,1|dump,e,1|", "periods,2|rate,0|resource,r,d|resource,s,e|limit,s,1,G,5.0|"
@@ -157,7 +156,7 @@ SHOWN = [
         "OBJECTIVE_FUNCTION:|0 -0.01|RESOURCE_CONSTRAINT_COEFFICIENTS:|RESOURCE_CONSTRAINT_LIMITS:|"
         "0 0 L 7|",
     ),
-    # narrow_worths by hand: a kilogram costs a cent on the dump and brings two at the mill
+    # narrow_worths, worked out manually: a kilogram costs a cent on the dump and earns two at the mill
     (
         "narrow_worths_by_hand",
         small("dump,d,1000|mill,m,1000,2,0|"),
@@ -183,16 +182,15 @@ SHOWN = [
     ),
 ]
 
-# A plan of which one number at a time is spelled in another way, by its place in the record: the
-# texts stay those of its shortest spelling. Each number changes the texts.
+# A plan of which one number at a time is written in another format, by its place in the record: the texts stay those of its shortest
+# format. Each number changes the texts.
 SPELLED_PLAN = [
     "name,n", "grid,0,0,0,1,1,1", "zone,10,9,10,9,9,10,9,10,10", "mill,m,10,10000000,10",
     "dump,d,10", "leach,l,10000000,10,0.5,10,2,20", "periods,12", "rate,0.1", "resource,r,m,l",
     "resource,s,d", "limit,r,10,L,10", "limit,s,9,I,10,11",
 ]
 
-# The key of the record, the places of its cells behind the key, and the decimals and numbers that
-# these are given.
+# The key of the record, the places of its cells after the key, and the decimals and numbers for these.
 SPELLED = [
     ("grid", (0, 1, 2), 3, (0, 10_000, *CUT[3])), ("grid", (3, 4, 5), 3, (10_000, *CUT[3])),
     ("zone", range(8), 0, (10, 12)), ("zone", (8,), 0, (10,)), ("mill", (1, 2, 3), 0, (10,)),
@@ -203,8 +201,8 @@ SPELLED = [
     ("limit,s", (2,), 6, (0, 5 * 10**6, *CUT[6])), ("limit,s", (3,), 6, (11 * 10**6, 10**7 + 249)),
 ]
 
-# Destinations whose worths differ only before they are rounded down: the first one is chosen.
-# 0.001 t cost 1.999 and 1.5 cents, and 0.999 and 0.001.
+# Destinations whose worths differ only before they are rounded down: the first one is chosen. 0.001 t cost 1.999 and 1.5 cents, and 0.999
+# and 0.001.
 EQUAL_WHEN_ROUNDED = [
     ("mill,a,0,0,1999|mill,b,0,0,1500|", -2),
     ("mill,a,0,0,1500|mill,b,0,0,1999|", -2),
@@ -218,13 +216,12 @@ EQUAL_WHEN_ROUNDED = [
     ("leach,a,0,1500,0,0|dump,b,1999|", -2),
 ]
 
-# So many bits, and cents a kilogram that a block costs on a dump or is worth at a mill.
+# A number of bits, and cents a kilogram that a block costs on a dump or is worth at a mill.
 COSTS = [(8, 1), (15, 1), (16, 1), (24, 1), (31, 8), (32, 8), (40, 4096)]
 PRICES = [*COSTS, (48, 2**20), (53, 2**25), (55, 2**26), (56, 99_999_999)]
 NARROW = [("dump,d,{}000|", -1, COSTS), ("mill,m,1000,{},0|", 1, PRICES)]
 
-# Destinations at the ends of their ranges, a row of so many kilograms of the richest ore, and its
-# worth in cents.
+# Destinations at the ends of their ranges, a row with a number of kilograms of the richest ore, and its worth in cents.
 EXTREMES = [
     ("dump,d,10000000|", 10**9, -(10**13)),
     ("mill,m,0,0,10000000|", 10**9, -(10**13)),
@@ -252,7 +249,7 @@ def as_computed(name, plan, *zones):
 
 
 def scanned(bands, grade):
-    """The recovery of the last band that begins at or below the grade, found by looking at each."""
+    """Returns the recovery of the last band that begins at or below the grade, found by checking each."""
     return [0, *(share for start, share in bands if start <= grade)][-1]
 
 
@@ -272,14 +269,13 @@ def at_every_edge(name, bands):
 
 
 def dollars(cents):
-    """Cents as a value of an objective."""
+    """Returns cents as a value of an objective."""
     whole, rest = divmod(abs(cents), 100)
     return ("-" if cents < 0 else "") + f"{whole}.{rest:02d}".rstrip("0").rstrip(".")
 
 
 def narrow_worths():
-    """What is worth as many cents as a count of fewer bits ends at, one more and one less; then
-    worths at the ends of their range."""
+    """Worths in cents at which a counter of fewer bits ends, +1 and -1; then worths at the ends of their range."""
     cases = list(EXTREMES)
     for (key, sign, counts), more in itertools.product(NARROW, (-1, 0, 1)):
         for bits, cents in counts:
@@ -292,21 +288,21 @@ def narrow_worths():
 
 
 def of_spelled_plan(key, place, text):
-    """The plan with this text in the place of a cell of its first record with this key."""
+    """Returns the plan with this text in place of a cell of its first record with this key."""
     records = [record.split(",") for record in SPELLED_PLAN]
     cells = next(cells for cells in records if ",".join(cells).startswith(key + ","))
     cells[key.count(",") + 1 + place] = text
     return lines("".join(",".join(cells) + "|" for cells in records))
 
 
-# Grades about those where bands begin.
+# Grades around those at which bands begin.
 STARTS = (249, 983, 500_000, 1_000_249, 2_000_000, 10**7)
 GRADES = [start + more for start in STARTS for more in (-1, 0, 1)]
 
 
 def blocks_about(origin, size):
-    """A zone file of blocks about a column, each of other tonnes and grade, from this place on and
-    of this size in millimetres."""
+    """Returns a zone file of blocks around a column, each with other tonnes and grade, from this position on and of this size in
+    millimetres."""
     box, column = itertools.product(range(3), range(3), range(2)), ((1, 1, z) for z in range(2, 13))
     rows = []
     cells = zip(range(900_000, 10**6), itertools.cycle(GRADES), [*box, *column])
@@ -317,7 +313,7 @@ def blocks_about(origin, size):
 
 
 def spellings_of_a_plan():
-    """Each number of a plan in each unusual spelling."""
+    """Each number of a plan in each unusual format."""
     for key, places, decimals, numbers in SPELLED:
         for place, number in itertools.product(places, numbers):
             grid = [0, 0, 0, 1_000, 1_000, 1_000]
@@ -333,7 +329,7 @@ def spellings_of_a_plan():
 
 
 def spellings_of_rows():
-    """Each number of a row of a zone file in each unusual spelling."""
+    """Each number of a row of a zone file in each unusual format."""
     plan = small("mill,m,1000,1000000,10|", grid="0,0,0,0.001,0.001,0.001")
     usual = ["0.01", "0.01", "0.01", "10", "10"]
     for place, decimals in enumerate([3, 3, 3, 3, 6]):
@@ -347,8 +343,8 @@ def spellings_of_rows():
 
 
 def destinations_in_order():
-    """A mill, a leach and a dump in each order, which their values, coefficients and the numbers of
-    a CPIT's choice follow; then as many dumps as there may be, of which each in turn is best."""
+    """A mill, a leach and a dump in each order, which their values, coefficients and the numbers of a CPIT's choice follow; then as many
+    dumps as allowed, of which each in turn is best."""
     dump, leach, mill = "dump,d,250|", "leach,l,700,1600,0,850|", "mill,m,900,600,1500|"
     worths = {mill: "12", leach: "13.75", dump: "-2.5"}
     for order in itertools.permutations(worths):
@@ -410,8 +406,8 @@ def numbers_and_names():
         yield shows(f"rates_as_written: {rate}", plan, b"", *(part + "OBJECTIVE" for part in parts))
 
 
-# The limits of all_limits for two resources and three periods, by hand: those of the plan in their
-# order there, and those of the texts.
+# The limits of all_limits for two resources and three periods, worked out manually: those of the plan in their order there, and those of
+# the texts.
 LIMITS_OF_A_PLAN = (
     "limit,a,2,L,1.5|limit,a,1,I,0,1.5|limit,a,0,G,1.5|"
     "limit,b,2,I,0,2.5|limit,b,1,G,0.5|limit,b,0,L,0.5|"

@@ -1,5 +1,5 @@
-"""Zone files by the pipe form: their records, headers and cells, the edges of the grid, and the
-most rows; then the same as the second file of two, by `compile` too."""
+"""Zone files by the pipe form: their records, headers and cells, the edges of the grid, and the most rows; then the same as the second
+file of two, by `compile` too."""
 import itertools
 
 from rows.cells import (
@@ -24,7 +24,7 @@ CELLS = [
     Cell("1", 6, 0, 10**12),
 ]
 
-# What is no name of a column, beside the name with a letter less and with one more.
+# What is no name of a column: each name with a letter less and with one more.
 NO_COLUMNS = {
     "x": ["xc", "x y", "#x", "x:", "xyz", "easting", "0", ""],
     "y": ["yc", "\u00fd", "northing"],
@@ -33,14 +33,14 @@ NO_COLUMNS = {
     "grade": ["gr\u00e0de", "grade_gpt", "au", "degra", "gra de"],
 }
 
-# With a unit behind it, a point or a hyphen a name is that of another column.
+# With a unit, a point or a hyphen after it, a name is that of another column.
 for _column, _names in NO_COLUMNS.items():
     _names += [f"{_column}{end}" for end in (" (m)", "_m", ".", "-", "c", "\u00b2")]
 
-# How often a column stands, by the fault of its header.
+# How often a column occurs, by the fault of its header.
 TIMES = {"MissingColumn": 0, "TwiceColumn": 2}
 
-# What is told of a header, and headers of which that is told.
+# The report on a header, and headers with that report.
 HEADERS = [
     (None, "x,y,z,tonnes,grade,", "x,y,z,tonnes,grade,,,", "x,y,z,,,tonnes,grade,rock,rock"),
     (None, " x\t,\ty , z,tonnes  ,\t\tgrade"),
@@ -57,7 +57,7 @@ HEADERS = [
     ("x: TwiceColumn", "x,X,x,y,z,tonnes,grade"),
     ("tonnes: TwiceColumn", "x,y,z,tonnes,TONNES,grade", "x,y,z,tonnes,grade,tonnes,tonnes"),
     ("grade: TwiceColumn", "grade,x,y,z,tonnes,grade,GRADE", "x,y,z,tonnes,grade,GRADE"),
-    # one column that is lacking and the next one that stands twice, and the other way round
+    # one column that is missing and the next one that occurs twice, and the other way round
     ("x: MissingColumn", "x\0,y,z,tonnes,grade"),
     ("x: MissingColumn", "y,Y,z,tonnes,grade"), ("x: TwiceColumn", "x,X,z,tonnes,grade"),
     ("y: MissingColumn", "x,z,Z,tonnes,grade"), ("y: TwiceColumn", "x,y,Y,tonnes,grade"),
@@ -81,7 +81,7 @@ FILES = [
     ("quoted_and_reordered", OTHER_ORE, "0 0 0 0 1000 5000 0|"),
 ]
 
-# What is told of a row below the header, or the line of its block, and rows of which that is told.
+# The report on a row below the header, or the line of its block, and rows with that report.
 ROWS = {
     "tonnage_spellings": [
         ("0 0 0 0 2500 0 0|", b"0,0,0,2500.000000,0"),
@@ -126,7 +126,7 @@ ROWS = {
             ]),
         ),
         ("row 2 column tonnes: Number", b"0,0,0,'1',0", b"0,0,0,'1,0'"),
-        # what some programs take for numbers
+        # what some programs accept as numbers
         (
             "row 2 column tonnes: Number",
             *(b"0,0,0," + text + b",0" for text in [
@@ -139,7 +139,7 @@ ROWS = {
         ("row 2 column grade: Number", b"0,0,0,1,(1)", b"0,0,0,1,1 g/t", b"0,0,0,1,<0.01",
          b"0,0,0,1,+.", b"0,0,0,1,<", b"0,0,0,1,-inf"),
         ("0 0 0 0 5 7 0|", b"0,0,0,+5.,7.", b"+.0,-.0,-0.,5.,+7", b"00,-00,+00,005.000,07.0"),
-        # more zeros behind the point than any count of digits holds
+        # more zeros after the point than any counter of digits holds
         (
             "0 0 0 0 5 7 0|",
             *(b"0,0,0,5." + b"0" * zeros + b",7"
@@ -210,7 +210,7 @@ RECORDS_OF_TEXTS = [
     (b"x,y,z,rock,tonnes,grade\n0,0,0,'a,b',1,2\n", "row 2 column whole: Width"),
     (b"x,y,z,rock,tonnes,grade\n0,0,0,'a',1,2\n10,0,0,`b`,3,4\n", TWO),
     (b"x,y,z,tonnes,grade,rock\n0,0,0,1,2,'b\n10,0,0,3,4,d'\n", TWO),
-    # what some programs take for the end of a line, or for a blank one, is a byte of its cell
+    # what some programs treat as the end of a line, or as a blank one, is a byte of its cell
     *(
         (b"x,y,z,tonnes,grade,rock\n0,0,0,1,2,a%sb\n10,0,0,3,4,%s\n" % (byte, byte), TWO)
         for byte in [b"\v", b"\f", b"\x1C", b"\x1D", b"\x1E", b"\x1F", b"\x85", b"\xC2\x85",
@@ -219,11 +219,11 @@ RECORDS_OF_TEXTS = [
     (b"rock,x,y,z,tonnes,grade\na\vb,0,0,0,1,2\n\x85,10,0,0,3,4\n", TWO),
     (HEADER + b"0,0,0,1,2\v10,0,0,3,4\n", "row 2 column whole: Width"),
     (HEADER + b"0,0,0,1,2\n\f\n", "row 3 column whole: Width"),
-    # a comma behind a backslash is a comma
+    # a comma after a backslash is a comma
     (b"x,y,z,tonnes,grade,rock\n0,0,0,1,2,a\\,b\n", "row 2 column whole: Width"),
     (b"rock,x,y,z,tonnes,grade\na\\,0,0,0,1,2\n", ONE),
     (b"x\\,y,z,tonnes,grade\n0,0,0,1,2\n", NO_X),
-    # what stands before the header is the header
+    # the text before the header is the header
     (b"x and y\n" + HEADER + b"0,0,0,1,2\n", NO_X),
     (b"# the model of May\n" + HEADER, NO_X),
     (b",,,,\n" + HEADER, NO_X),
@@ -232,16 +232,16 @@ RECORDS_OF_TEXTS = [
     (HEADER + b"0,0,0,1,2\n" + HEADER + b"10,0,0,3,4\n", "row 3 column x: Number"),
     (HEADER + b"0,0,0,1,2\n10,0,0,3,4\n" + HEADER, "row 4 column x: Number"),
     (b"rock,x,y,z,tonnes,grade\na,0,0,0,1,2\nrock,x,y,z,tonnes,grade\n", "row 3 column x: Number"),
-    # rows are counted, and not lines, behind blank lines and behind line breaks in cells
+    # rows are counted, and not lines, after blank lines and after line breaks in cells
     (HEADER + b"\n\n0,0,0,1,2\n\n10,0,0,3,x\n", "row 3 column grade: Number"),
     (b'x,y,z,tonnes,grade,rock\n0,0,0,1,2,"a\nb"\n10,0,0,x,4,c\n', "row 3 column tonnes: Number"),
     (b'"ro\r\nck\n",x,y,z,tonnes,grade\n"\n\n",0,0,0,1,2\n,10,5,0,3,4', "row 3 column y: OffGrid"),
     (b'x,y,z,tonnes,grade,rock\n0,0,0,1,2,"\r\r"\r"10\n",0,0,3,4,c', "row 3 column x: Number"),
-    # a column is told by its own name, however the header spells it
+    # a column is identified by its own name, however the header writes it
     (b"X,Y,Z,TONNES,Grade\n0,0,0,1,?\n", "row 2 column grade: Number"),
     (b"X,Y,Z,Tonnes,GRADE\n0,0,0,-1,?\n", "row 2 column tonnes: Range"),
     (b" X\t,Y,Z,TONNES,GRADE\n5,0,0,1,2\n", "row 2 column x: OffGrid"),
-    # lines that are near to that at which the pipe form cuts
+    # lines that resemble the line at which the pipe form cuts
     *(
         (HEADER + b"0,0,0,1,2\n" + line + b"\n10,0,0,3,4\n", "row 3 column whole: Width")
         for line in [b"-", b"---", b"----", b"-- ", b" --", b"\t--", b"--\t", b"- -", b"==", b"__",
@@ -259,7 +259,7 @@ RECORDS_OF_TEXTS = [
     (HEADER + b" \n", "row 2 column whole: Width"),
     (HEADER + b",,,,\n", "row 2 column x: Number"),
     (HEADER + b'0,0,0,1,2\n"', "row 3 column whole: Width"),
-    # blanks round cells, and quotes behind them, which are cells' own
+    # blanks around cells, and quotes after them, which belong to the cells
     (b"x , y,\tz,tonnes , grade\n 0,0 ,\t0,1\t, 2 \n", ONE),
     (HEADER + b'0,0,0, "1" ,2\n', "row 2 column tonnes: Number"),
     (b"x,y,z,tonnes,grade,zone\n0,0,0,1,2,7\n10,0,0,3,4,x\n", TWO),
@@ -268,12 +268,12 @@ RECORDS_OF_TEXTS = [
     (b"x,y,z,tonnes,grade,ZONE,zone\n0,0,0,1,2,1,0\n10,0,0,3,4,0,1\n", TWO),
     (b'x,y,z,rock,tonnes,grade\n0,0,0,a"b"c,1,2\n10,0,0,d",3,4\n', TWO),
     (HEADER + b'0,0,0,1"5",2\n', "row 2 column tonnes: Number"),
-    # what stands behind a closing quote belongs to the cell
+    # the text after a closing quote belongs to the cell
     (HEADER + b'"1"0,"0" ,0,"1"5,2\n', "0 1 0 0 15 2 0|"),
     (HEADER + b'0,0,0,"1"5"0,2\n', "row 2 column tonnes: Number"),
-    # a quote that is not closed goes on to the end
+    # a quote that is not closed continues to the end
     (b'x,y,z,tonnes,grade,rock\n0,0,0,1,2,"b\n10,0,0,3,4,d\n', ONE),
-    # marks, whole and in part, and where they are none
+    # byte order marks, complete and in part, and at places where they are none
     (MARK + HEADER + b"0,0,0,1,2\n", ONE),
     (MARK + b'"x","y","z","tonnes","grade"\n0,0,0,1,2\n', ONE),
     (MARK + b"\n\r\n" + HEADER + b"0,0,0,1,2\n", ONE),
@@ -298,23 +298,23 @@ RECORDS_OF_TEXTS = [
 ]
 
 def wide(columns, at, *cells):
-    """A header and rows with so many other columns, of which so many stand before these five."""
+    """Returns a header and rows with this number of other columns, and the given number of them before the five."""
     for count, row in zip(itertools.count(), [COLUMNS, *cells]):
         others = [f"{'c' * (count == 0)}{place}" for place in range(columns)]
         yield ",".join([*others[:at], *map(str, row), *others[at:]])
 
 
-# So many columns beside the five, and where these begin.
+# This number of columns besides the five, and where the five begin.
 WIDE = [
     (59, 0), (60, 60), (64, 30), (251, 251), (256, 256), (1_000, 0), (1_000, 1_000),
     (65_536, 65_536),
 ]
 
-# A cell far longer than any buffer, with a line break in it, and a row behind it.
+# A cell far longer than any buffer, with a line break in it, and a row after it.
 SEVENS = b"7" * 500_000
 LONG_CELL = b'x,y,z,rock,tonnes,grade\n0,0,0,"%s\n%s",1,2\n10,0,0,b,3,4' % (SEVENS, SEVENS[1:])
 
-# As many rows as a file may have, and one more, which is not looked at.
+# The largest number of rows of a file, and one extra row, which is not read.
 MOST_ROWS = HEADER + b"0,0,0,1,0\n" * 999_999
 FULL, TOO_MANY = MOST_ROWS + b"0,0,0,1,0\n", "row 1000002 column whole: TooManyRows"
 SHORT = HEADER + b"0,0,0,1\n" + b"0,0,0,1,0\n" * 1_000_001
@@ -329,15 +329,14 @@ MOST = [
 
 
 def says(name, text, answer, plan=WASTE):
-    """A zone file, and what is answered."""
+    """A zone file, and the result."""
     given = piped(plan, text)
     if answer.startswith("row "):
         return refused(name, "file 0 " + answer, given=given)
     return Trial(name, given=given, out=Part(lines(f"== blocks|{answer}== prec|")))
 
 
-# A file of one block high above all others, whose columns stand in another order, and the plan of
-# two zones.
+# A file of one block high above all others, whose columns are in another order, and the plan of two zones.
 HIGH = b"grade,tonnes,z,y,x\n6,5,99990,980,970\n"
 TWO_ZONES = plan_of("dump,dump,200|", ["1,1,1"] * 2, "waste")
 
@@ -360,7 +359,7 @@ def as_second(name, text, answer):
 
 
 def second_files():
-    """What a file may be and what may be wrong with it, of the second file of two."""
+    """What a file may be and what may be wrong with it, for the second file of two."""
     for name, text, answer in FILES:
         yield from as_second(f"second_files: {name}", text, answer)
     for text, answer in RECORDS_OF_TEXTS:
@@ -378,7 +377,7 @@ def second_files():
 
 
 def faulty(name, text, column, kind, row=1, plan=WASTE):
-    """A zone file, of which a column is faulty."""
+    """A zone file, of which a column is invalid."""
     return says(name, text, f"row {row} column {column}: {kind}", plan)
 
 
@@ -387,7 +386,7 @@ def good_row():
 
 
 def numbers():
-    """Each cell of a row: numbers at both ends of its range and past them, and what is none."""
+    """Each cell of a row: numbers at both ends of its range and outside it, and what is no number."""
     yield says("numbers_of_a_row: all good", good_row(), "0 0 0 0 1 1 0|", MILLIMETRES)
     for at, cell in enumerate(CELLS):
         for text, number, kind in [*cell.spellings(), ("", None, "Number")]:
@@ -428,13 +427,13 @@ def faults():
 
 
 def first_fault(cells):
-    """The leftmost of the five cells that is not good, and its kind."""
+    """Returns the leftmost of the five cells that is not valid, and its kind."""
     at = next(at for at, cell in enumerate(CELLS) if cells[at] != cell.good)
     return COLUMNS[at], dict(CELLS[at].faults())[cells[at]]
 
 
 def about_hundreds():
-    """Coordinates about multiples of 100 m, along each axis."""
+    """Coordinates around multiples of 100 m, along each axis."""
     for (axis, column), (text, answer) in itertools.product(enumerate("xyz"), ABOUT_HUNDREDS):
         cells, indices = with_cell([Cell("0")] * 3, axis, text), ["0"] * 3
         name, row = f"about_hundreds: {column}: {text}", HEADER + ",".join(cells).encode() + b",1,0"
@@ -478,7 +477,7 @@ def headers():
 
 
 def wide_files():
-    """Many columns, of which a row has one more or less, or a faulty cell."""
+    """Many columns, of which a row has one extra or one missing cell, or an invalid cell."""
     for columns, at in WIDE:
         name = f"wide_files: {columns} others, at {at}"
         good = list(wide(columns, at, [0, 0, 0, 1, 2], [10, 0, 0, 3, 4]))
@@ -502,8 +501,7 @@ def wide_files():
 
 
 def bytes_about_cells():
-    """Each byte about the name of a column and about a number: spaces and tabs are left out, and
-    nothing else is."""
+    """Each byte around the name of a column and around a number: spaces and tabs are dropped, and nothing else is."""
     for byte in EVERY_BYTE:
         for cell in dict.fromkeys([byte + b"x", b"x" + byte]):
             text = quoted(cell) + b",y,z,tonnes,grade\n0,0,0,1,0\n"
