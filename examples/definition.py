@@ -2,7 +2,7 @@
 
     PYTHONPATH=python python3 examples/definition.py compile --plan mine.plan --out mine from-west.csv from-east.csv from-oxide.csv
 
-It is meant for small models while no pitc is built: it holds all arcs in memory, and accepts some models that pitc rejects. Each file begins with
+It is for small models while no pitc is built: it holds all arcs in memory, and accepts some models that pitc rejects. Each file begins with
 a comment that says that no proof covers it, and `pit-tools survey` repeats this comment.
 """
 from __future__ import annotations

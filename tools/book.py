@@ -1,12 +1,12 @@
-"""One text of definitions from the top down: what some calls promise, and then each word after those that use it.
+"""Prints one text of definitions from the top down: what some calls guarantee, and then each word after the words that use it.
 
-The contracts come first, and are the contents: below each clause are its words and those that they
-use, each with the number of the section that defines it.
+The contracts come first, and are the contents: below each clause are its words and the words that they use, each with the number of the
+section that defines it.
 
-A page of the project is printed whole. Of a file of code the text has the types, traits, constants
-and calls that are used, without bodies and private fields; of the toolchain's library, and of the
-crates that come with it, the definitions that are used. tools/library_words.py tells the words that
-no source defines, or whose source says no more than a sentence, and how `csv` reads by its defaults.
+A definition file of the project is printed complete. A code file contributes the types, traits, constants and calls that are used, without
+bodies and private fields. The toolchain's library, and the crates that come with it, contribute the definitions that are used.
+tools/library_words.py describes the words that no source defines, or whose source says no more than a sentence, and how `csv` reads by its
+defaults.
 """
 import functools
 import itertools
@@ -45,7 +45,7 @@ TOKEN = re.compile(r"\[\]|[^\s(){}\[\],;:`\"]+")
 
 
 class Piece(NamedTuple):
-    """A part of a file that is printed whole, with the names that it defines."""
+    """A part of a file that is printed as one, with the names that it defines."""
 
     path: str
     names: Tuple[str, ...]
@@ -53,7 +53,7 @@ class Piece(NamedTuple):
 
 
 class Imports(NamedTuple):
-    """Words by the pages that they come from, pages by their short names, and the words that are passed on."""
+    """Words by the files that they come from, files by their short names, and the words that are re-exported."""
 
     words: Dict[str, Tuple[str, str]]
     pages: Dict[str, str]
@@ -78,7 +78,7 @@ def library() -> str:
 
 @functools.lru_cache(None)
 def file_of(page: str) -> Optional[str]:
-    """The file of a page that is named as imports name it, if its source is there."""
+    """Returns the file for the name that imports use, if its source exists."""
     first, *rest = page.split(".")
     tops = {"lib": "logic/Lib", "mathlib": "antt/port/mathlib/src"}
     if first in tops:
@@ -101,7 +101,7 @@ def file_of(page: str) -> Optional[str]:
 
 
 def by_defaults(text: str) -> str:
-    """A page of `csv` where its settings are its defaults."""
+    """A file of `csv` whose settings are its defaults."""
     if "\ndefault_config = " in text and library_words.CONFIG not in text:
         sys.exit("tools/pages-to-read: csv has other defaults than tools/library_words.py")
     for found, put in library_words.DEFAULTS:
@@ -132,7 +132,7 @@ def pieces(path: str) -> List[Piece]:
 
 
 def code_piece(path: str, text: str, comment: str, item: str, constant: str, other: str) -> Piece:
-    """A type, a trait or a constant, or a call without its body. Of a type that is seen as something else, what it is seen as."""
+    """Returns a type, a trait or a constant, or a call without its body. For a type that contracts see as another, returns that view."""
     name, comment = constant or other, re.sub(r"(?m)^#\[.*\n", "", comment)
     seen = re.search(SEEN.format(name), text)
     if seen:
@@ -159,7 +159,7 @@ def imports(path: str) -> Imports:
 
 
 def source_of(page: str, name: str) -> str:
-    """The name that a word of a page has where it is defined."""
+    """Returns the name that a file's word has where it is defined."""
     path = file_of(page)
     if not path or any(name in piece.names for piece in pieces(path)):
         return name
@@ -168,7 +168,7 @@ def source_of(page: str, name: str) -> str:
 
 
 def other_names(piece: Piece) -> Iterator[Tuple[str, str]]:
-    """The names that a piece uses for what has another one where it is defined, with that one."""
+    """Returns the names that a part uses for words with another name where they are defined, each with that one."""
     words, pages, _ = imports(piece.path)
     for name, other in used(piece).items():
         front, _, behind = name.partition(".")
@@ -179,7 +179,7 @@ def other_names(piece: Piece) -> Iterator[Tuple[str, str]]:
 
 
 def find(page: str, name: str) -> Optional[Piece]:
-    """Where a word of a page is defined: there, or where it is passed on from."""
+    """Returns where a file's word is defined: there, or where it is re-exported from."""
     path = file_of(page)
     if not path:
         return None
@@ -193,7 +193,7 @@ def find(page: str, name: str) -> Optional[Piece]:
 
 @functools.lru_cache(None)
 def code_imports(path: str) -> Dict[str, List[str]]:
-    """The words that a file of code imports from the project, by their paths."""
+    """Returns the words that a code file imports from the project, by path."""
     found = {}
     for line in re.findall(r"(?m)^(?:pub )?use ([^;]+);", shared.read(path)):
         front, _, listed = line.partition("{")
@@ -222,7 +222,7 @@ def find_in_code(here: str, way: List[str]) -> Optional[Piece]:
 
 
 def code_of(piece: Piece) -> str:
-    """Without comments and how operators bind; of code without the signs of Rust."""
+    """Returns the text without comments and operator fixities; of code, without Rust's punctuation."""
     if is_code(piece.path):
         return re.sub(r"(?<=\w)<|>|&|::", " ", re.sub("//.*", "", piece.text))
     return re.sub(r'(?m)(?:(?<=\s)|^)--.*|^ *infix.*|"[^"\n]*"', "", piece.text)
@@ -230,12 +230,12 @@ def code_of(piece: Piece) -> str:
 
 @functools.lru_cache(None)
 def tokens_of(piece: Piece) -> Tuple[str, ...]:
-    """Its words and signs, in order; a word behind a point stays with what stands before."""
+    """Returns its words and symbols, in order; a word after a dot stays with what precedes it."""
     return tuple(token.rstrip(".") for token in TOKEN.findall(code_of(piece)) if token[0] != ".")
 
 
 def bound(piece: Piece) -> Set[str]:
-    """Its variables and fields: before a colon in brackets, behind λ and `let`, left of an arrow, and on the left of an equation."""
+    """Returns its variables and fields: before a colon in brackets, after λ and `let`, left of an arrow, and on the left of an equation."""
     modules = "" if is_code(piece.path) else "\n".join(MODULE.findall(shared.read(piece.path)))
     code = code_of(piece) + modules
     groups = re.findall(r"[({]([^(){}:]+) : |λ ([^.]*)\.|\blet (\S+) =|\n +(?:pub )?(\S+) (?::|=) |[{;] (\w+) =|(\w+) ←", code)
@@ -249,13 +249,13 @@ def is_data(piece: Piece) -> bool:
 
 
 def is_said(name: str, heads: Set[str]) -> bool:
-    """Whether a word stands there, or each sign of one that has places for its operands."""
+    """Returns whether a word occurs there, or each part of an operator that has places for its operands."""
     return name in heads or "◌" in name and all(sign in heads for sign in name.split("◌") if sign)
 
 
 @functools.lru_cache(None)
 def used(piece: Piece) -> Dict[str, Optional[Piece]]:
-    """The words that a piece uses, each with the piece that defines it, or none where no source here does."""
+    """Returns the words that a part uses, each with the part that defines it, or None if no source here does."""
     words, pages, _ = imports(piece.path)
     tokens = tokens_of(piece)
     heads = {token.split(".")[0] for token in tokens}
@@ -273,24 +273,24 @@ def used(piece: Piece) -> Dict[str, Optional[Piece]]:
     return {name: other for name, other in found.items() if name not in piece.names}
 
 
-# The words of the library that a list tells, and no definition.
+# The library's words that the list describes, and no definition.
 LISTED = {word for words in library_words.LIBRARY for word in words}
 
 
 def is_listed(name: str, other: Optional[Piece]) -> bool:
-    """Whether a used word is one of these: the library's, and no word of the project that has its name."""
+    """Returns whether a used word is one of these: the library's, and no project word with the same name."""
     return name in LISTED and not (other and is_own(other.path))
 
 
 def needs(piece: Piece) -> List[Piece]:
-    """The pieces that define the words of one, in the order in which it names them."""
+    """Returns the parts that define the words of one, in the order in which it names them."""
     places = {token.split(".")[0]: place for place, token in reversed(list(enumerate(tokens_of(piece))))}
     words = sorted(used(piece).items(), key=lambda pair: places.get(pair[0].split(".")[0], 0))
     return [other for name, other in words if other and not is_listed(name, other)]
 
 
 def ordered(roots: List[Piece]) -> List[Piece]:
-    """These pieces and all that they use, each before what it uses. A page stays whole, in its own order."""
+    """Returns these parts and all that they use, each before what it uses. A definition file stays complete, in its own order."""
     found: Dict[Piece, None] = {}
     begun: Set[Piece] = set()
 
@@ -326,7 +326,7 @@ def closure(roots: List[Piece]) -> Set[Piece]:
 
 
 def unknown(piece: Piece) -> Set[str]:
-    """What a definition or a clause says that is no variable of it, no word that is found, no number and no sign of the language."""
+    """Returns what a definition or a clause contains besides variables, known words, numbers and symbols of the language."""
     said, names = piece, {*used(piece), *piece.names, *library_words.SIGNS}
     if is_code(piece.path):
         code = re.sub("//.*", "", piece.text)
@@ -338,7 +338,7 @@ def unknown(piece: Piece) -> Set[str]:
 
 
 def unmet(parts: Dict[str, List[Piece]]) -> Iterator[str]:
-    """The words of a book that nothing defines, and those that are defined above their use in the same part."""
+    """Returns the words of a book that nothing defines, and those that are defined above their use in the same part."""
     printed = {piece for some in parts.values() for piece in some}
     for some in parts.values():
         above: Set[Piece] = set()
@@ -360,20 +360,20 @@ def roots_of(part: str) -> List[Piece]:
 
 
 def lines_of(some: List[Piece]) -> int:
-    """How many lines pieces have, blank ones left out."""
+    """Returns how many lines the parts have, without blank ones."""
     return sum(bool(line.strip()) for piece in some for line in piece.text.split("\n"))
 
 
 class Book(NamedTuple):
-    """The pieces of each of some parts, none twice, the sentences of the library's words that have no definition there, and names
-    by what they are elsewhere."""
+    """Returns the definitions for each of several calls, none twice, the sentences for the library's words that have no definition
+    there, and names by what they are called elsewhere."""
 
     parts: Dict[str, List[Piece]]
     listed: List[Tuple[Tuple[str, ...], str]]
     others: Dict[str, List[str]]
 
     def counts(self) -> str:
-        """The pages of the project, code among them, and their lines; the definitions of the library, and its other words."""
+        """Returns the definition files of the project, code among them, and their lines; the library's definitions, and its other words."""
         own = [piece for some in self.parts.values() for piece in some if is_own(piece.path)]
         lent = [piece for some in self.parts.values() for piece in some if not is_own(piece.path)]
         words, sentences = sum(len(piece.names) > 0 for piece in lent), sum(len(names) for names, _ in self.listed)
@@ -381,7 +381,7 @@ class Book(NamedTuple):
                 f"{lines_of(lent):,} lines, and {sentences} words by a sentence")
 
     def sections(self) -> List[Tuple[str, List[Piece]]]:
-        """What is printed below one heading: of one part and one file, with no contract of a part, which stands in the contents."""
+        """Returns what is printed below one heading: the parts from one file, without the contract of a call, which is in the contents."""
         contracts = {root for part in self.parts for root in roots_of(part)}
         return [(part, list(some)) for part, pieces_of in self.parts.items()
                 for _, some in itertools.groupby((piece for piece in pieces_of if piece not in contracts), lambda piece: piece.path)]
@@ -403,8 +403,8 @@ def book_of(parts: List[str]) -> Book:
 
 
 def contents_of(contract: Piece, numbers: Dict[Piece, int], told: Set[Piece]) -> Iterator[str]:
-    """A contract, and each of its clauses with its words, and below it those that these use, where none told them before. Each word of
-    the project has the number of the section that defines it."""
+    """Prints a contract and each of its clauses with its words; below it the words that these use, unless they were printed before. Each
+    project word has the number of the section that defines it."""
     def own_words(piece: Piece) -> List[Tuple[str, Piece]]:
         places = {token: place for place, token in reversed(list(enumerate(tokens_of(piece))))}
         words = [(name, other) for name, other in used(piece).items() if other in numbers and is_own(other.path)]
@@ -434,7 +434,7 @@ def text_of(book: Book) -> Iterator[str]:
     yield "\n# How to read this\n"
     for sign, says in [*library_words.LANGUAGE.items(), *((", ".join(names), says) for names, says in book.listed)]:
         yield f"    {sign}: {says}"
-    yield "\n# Names that stand for another one\n"
+    yield "\n# Names that mean another one\n"
     for name, meant in book.others.items():
         yield f"    {name}: {', or '.join(meant)}"
     begun: Set[str] = set()

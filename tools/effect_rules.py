@@ -1,4 +1,4 @@
-"""What a run may do to the system, by the tables and the rules of docs/effects.md, and what of its record is none of that."""
+"""The tables and rules of docs/effects.md on what a run may do to the system, and a check of its record against them."""
 import os
 import re
 from typing import Dict, Iterator, List, NamedTuple, Sequence, Tuple
@@ -11,10 +11,10 @@ INPUT, OUTPUT = "O_RDONLY|O_NOCTTY|O_CLOEXEC", "O_WRONLY|O_CREAT|O_NOCTTY|O_TRUN
 # The most bytes that an input may have (docs/formats.md).
 MOST = {"plan": 1 << 20, "file": 1 << 28, "input": 1 << 28}
 
-# The most bytes of a path that a system takes; the library refuses a longer one itself.
+# The most bytes of a path that a system accepts; the library rejects a longer one itself.
 LONGEST_PATH = 4_095
 
-# Few calls are made for a file, and one more for so many bytes.
+# Few calls are made for a file, and +1 for each of this many bytes.
 CALLS, LARGE = 6, 32_768
 
 Row = Dict[str, str]
@@ -23,7 +23,7 @@ SOME: Row = dict.fromkeys(["reads", "creates", "starts threads"], "some")
 
 
 def tables() -> Tuple[List[Row], List[Row], List[Row]]:
-    """The tables of the page, each a list of rows by the words of its head: files and threads, outcomes, memory."""
+    """The tables of the page, each a list of rows by the words of its header: files and threads, outcomes, memory."""
     found: List[List[Row]] = []
     head: List[str] = []
     for line in shared.read(os.path.join(shared.TOP, "docs/effects.md")).splitlines():
@@ -40,8 +40,8 @@ def tables() -> Tuple[List[Row], List[Row], List[Row]]:
 
 
 class Ran(NamedTuple):
-    """What a run was given and how it ended: the program's words, the texts that it could read, its status, what it printed,
-    the sizes of the files that stand there now, and the most bytes that it may take for what it reads and prints, where that is known."""
+    """What a run was given and how it ended: the program's arguments, the texts that it could read, its status, its output, the sizes of
+    the files that exist now, and the most bytes that it may use for what it reads and prints, if known."""
 
     is_thin: bool
     words: Sequence[str]
@@ -58,7 +58,7 @@ class Ran(NamedTuple):
 
 
 class May(NamedTuple):
-    """What a run may use: its command, the paths of inputs and outputs, each with the name that its faults have, whether it reads
+    """What a run may use: its command, the paths of inputs and outputs, each with the name that its errors have, whether it reads
     standard input, and its threads."""
 
     command: str
@@ -70,7 +70,7 @@ class May(NamedTuple):
 
 
 def option(words: List[str], name: str, default: str = "") -> Tuple[str, List[str]]:
-    """What an option of these words says, and the words without it."""
+    """Returns the value of an option in these arguments, and the arguments without it."""
     rest: List[str] = []
     found = default
     for n, word in enumerate(words):
@@ -142,7 +142,7 @@ class Judged:
         self.record, self.ran = record, ran
         files, outcomes, self.costs = page
         self.may = may_of(ran, files)
-        # A line that standard error refuses says no more which outcome it is.
+        # If standard error cannot be written, no line says which outcome it is.
         is_untold = any(call.is_refused for call in record.streams[2].calls)
         self.outcome = SOME if is_untold and self.may.inputs else outcome_of(ran, self.may, outcomes)
         # An opening that a signal interrupts is made again.
@@ -176,7 +176,7 @@ class Judged:
             yield f"{os.fsdecode(file.path)!r} is never closed"
 
     def named(self) -> Iterator[Tuple[str, str, Used]]:
-        """Each file and stream with its name, and with what is done with it."""
+        """Returns each file and stream with its name, and with what is done with it."""
         yield from (("read", name, used) for (_, name), used in zip(self.may.inputs, self.inputs))
         yield from (("write", name, used) for (_, name), used in zip(self.may.outputs, self.outputs))
         yield from zip(("read", "write", "write"), ("input", "output", "errors"), self.record.streams)
@@ -191,7 +191,7 @@ class Judged:
                     yield f"a {what} of {name} after {call.error}"
                 if n < len(used.calls) and what == "read" and call.answer == 0 and not call.error:
                     yield f"a read of {name} after its end"
-            # A pipe takes and gives what it has.
+            # A pipe accepts and returns what it has.
             if name not in ("input", "output") and len(used.calls) > CALLS + used.total // LARGE:
                 yield f"{len(used.calls)} calls for {used.total} bytes of {name}"
             if used.total > MOST.get(name.split()[0], used.total) + 1:
@@ -200,7 +200,7 @@ class Judged:
             yield "standard input is read"
 
     def of_order(self) -> Iterator[str]:
-        """What comes after what: inputs, threads, outputs, what is printed."""
+        """The order: inputs, threads, outputs, printing."""
         record = self.record
         ends = {call.thread: call.end for call in record.calls if call.name == "exit"}
         reads = [call.end for used in [*self.inputs, record.streams[0]] for call in used.calls]
@@ -231,27 +231,28 @@ class Judged:
         readers = [{call.thread for call in used.calls} for used in zones if used.calls]
         starts = self.record.threads[self.may.threads - self.may.zones:]
         if any(len(threads) > 1 for threads in readers) or sum(map(len, readers)) > len(set().union(*readers)):
-            yield "a zone file is not read by one thread of its own"
+            yield "a zone file is not read by its own thread"
         if not set().union(*readers) <= set(starts):
             yield "a zone file is read by none of the threads that are started last"
 
     def of_threads(self) -> Iterator[str]:
-        """How many threads there are, and that none is left."""
+        """Checks how many threads there are, and that none remains."""
         record, count = self.record, len(self.record.threads)
         wanted = {"all": [self.may.threads], "none": [0], "some": range(self.may.threads + 1)}[self.outcome["starts threads"]]
         if count not in wanted:
             yield f"{count} threads in place of {self.may.threads}"
         if set(record.threads) - {call.thread for call in record.calls if call.name == "exit"}:
-            yield "a thread is left"
+            yield "a thread remains"
 
     def of_memory(self) -> Iterator[str]:
-        """Memory that is asked for, used or not."""
+        """Memory that is requested, used or not."""
         most = self.most_memory()
         if self.record.memory.peak > most:
             yield f"{self.record.memory.peak} bytes of memory, of at most {most}"
 
     def most_memory(self) -> int:
-        """The sum of the third table; where it is known what a run takes for what it reads and prints, that is in place of its rows."""
+        """Returns the sum of the third table. If it is known what a run uses for what it reads and prints, this replaces the table's
+        rows."""
         record, given = self.record, self.ran.given
         lines = sum(text.count(b"\n") + text.count(b"\r") + 1 for text in given)
         counts = {"run": 1, "file to read, thread": len(self.inputs) + len(record.threads),
@@ -271,9 +272,9 @@ class Judged:
         return sum(int(row["bytes"].replace(",", "")) for row in rows if row["of"] == "any command" or self.may.command in row["of"].split(", "))
 
     def failed(self) -> Iterator[str]:
-        """The lines that tell of the calls that the system refused."""
+        """Returns the lines that report the calls that the system refused."""
         for what, name, used in self.named():
-            # A `cpit` may be missing, and what is told of standard error cannot be told.
+            # A `cpit` may be missing, and an error of standard error cannot be reported.
             is_missing = name == "cpit" and not used.is_open
             if used.is_refused and not is_missing and name != "errors":
                 yield f"{name}: {'FeedFailed' if what == 'read' else 'SinkFailed'}"
@@ -283,7 +284,7 @@ class Judged:
                     yield self.ran.line
 
     def of_faults(self) -> Iterator[str]:
-        """Faults that were reported and not there, or there and not reported."""
+        """Checks for errors that were reported and did not occur, or occurred and were not reported."""
         record, line, status = self.record, self.ran.line, self.ran.status
         if any(call.is_refused for call in record.streams[2].calls):
             return
@@ -306,7 +307,7 @@ class Judged:
                 yield f"{len(text)} bytes printed, {stream.total} of them written"
 
     def of_outcome(self) -> Iterator[str]:
-        """How many files are read and created, of those that the outcome has, and whether each is whole."""
+        """Checks how many files are read and created, of those that the outcome has, and whether each is complete."""
         reads, creates = self.outcome["reads"], self.outcome["creates"]
         wanted = {"all": len(self.may.inputs), "opened": len(self.may.inputs), "first": 1, "none": 0}
         if len(self.inputs) != wanted.get(reads, len(self.inputs)):

@@ -1,6 +1,6 @@
-"""Looks whether the lane of a built pitc or pitc_thin has as many places as `--capacity` asks for.
+"""Checks that the lane of a built pitc or pitc_thin has the capacity that `--capacity` specifies.
 
-One allocation has to be the same number of bytes for each place, at each capacity.
+One allocation must have the same number of bytes per position, at each capacity.
 """
 import collections
 import itertools
@@ -8,7 +8,7 @@ import itertools
 import malloc
 from rows import memory
 
-# How many places a lane is asked to have, and how many it has where nobody asks.
+# The capacities to request, and the default capacity.
 CAPACITIES, USUAL = [1, 2, 7, 64, 65, 1000, 4095, 4096], 64
 
 
@@ -19,19 +19,19 @@ def sizes_of(program, library, trial):
 
 
 def is_lane(sizes, width):
-    """Whether each capacity has an allocation of so many bytes a place, that no other has."""
+    """Returns whether each capacity has an allocation of this number of bytes per position that no other has."""
     pairs = itertools.permutations(CAPACITIES, 2)
     return all(sizes[one][width * one] > sizes[other][width * one] for one, other in pairs)
 
 
 def faults(program, library, with_capacity, usual):
-    """What is wrong with the number of its places, by runs with a capacity and usual ones."""
+    """Returns what is wrong with the lane's capacity, by runs with a capacity and default runs."""
     runs = {places: with_capacity(*memory.ONE, places) for places in CAPACITIES}
     sizes = {places: sizes_of(program, library, run) for places, run in runs.items()}
     widths = range(1, max(sizes[CAPACITIES[-1]], default=0) // CAPACITIES[-1] + 1)
     lanes = [width for width in widths if is_lane(sizes, width)]
     if len(lanes) != 1:
-        return ["no allocation has as many places as --capacity asks for"]
+        return ["no allocation has the capacity that --capacity requests"]
     size = lanes[0] * USUAL
     return [f"{trial.name}: the lane has not {USUAL} places" for trial in usual
             if sizes_of(program, library, trial)[size] <= sizes[1][size]]

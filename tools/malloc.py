@@ -1,6 +1,6 @@
 """Runs a built pitc with the malloc of tools/malloc.c, which refuses one allocation.
 
-It needs a C compiler: cc, gcc or clang, or else that of the toolchain whose rt is called here.
+It needs a C compiler: cc, gcc or clang, or else the toolchain's, whose rt is called here.
 """
 import os
 import shutil
@@ -10,12 +10,12 @@ import sys
 from rows import driver
 from shared import TOP
 
-# The descriptor on which the malloc tells.
+# The descriptor that the malloc reports to.
 TOLD = 199
 
 
 def compiler():
-    """The path of a compiler and the arguments that it needs, or None where there is none."""
+    """Returns the path of a compiler and the arguments that it needs, or None if there is none."""
     here = list(filter(None, map(shutil.which, ["cc", "gcc", "clang"])))
     if here:
         return here[:1]
@@ -37,11 +37,10 @@ def build(folder, name="malloc"):
 
 
 def answer(program, library, trial, nth=0):
-    """What a row's run answers whose Nth allocation is refused, and what the malloc tells of it.
+    """Returns the result of a row's run whose Nth allocation is refused, and what the malloc reports.
 
-    Told are words, each with a size: `refused`, or `within` where the C library starts a thread.
-    Where N is 0 they are `size` for each allocation, and for each thread `start`, with the size of
-    what was allocated last before.
+    It reports words, each with a size: `refused`, or `within` if the C library starts a thread. If N is 0 it reports `size` for each
+    allocation, and for each thread `start`, with the size of the last allocation before.
     """
     reads, writes = os.pipe()
     os.dup2(writes, TOLD, inheritable=True)

@@ -1,4 +1,4 @@
-"""What pages, recipes and tests call beside the toolchain, and which packages of Debian bring it."""
+"""What pages, recipes and tests call besides the toolchain, and which Debian packages have it."""
 import os
 import re
 import shutil
@@ -11,8 +11,7 @@ import shared
 
 
 class Need(NamedTuple):
-    """A program by its names, of which one is enough; the package of Debian that brings it, where not
-    each system has it; and what calls it."""
+    """A program by its names, of which one is enough; the Debian package that has it, unless each system has it; and what calls it."""
 
     names: List[str]
     package: str
@@ -21,7 +20,7 @@ class Need(NamedTuple):
 
 NEEDS = [
     Need(["bash"], "", "the gate, completions, a recipe"),
-    Need(["cat"], "", "recipes: cksum, cp, head, ls, sort, tr, wc and the like are beside it"),
+    Need(["cat"], "", "recipes: with it come cksum, cp, head, ls, sort, tr, wc and the like"),
     Need(["awk"], "", "recipes"),
     Need(["grep"], "", "recipes"),
     Need(["sed"], "", "recipes"),
@@ -54,14 +53,14 @@ OF_PIT_TOOLS = ["pandas", "numpy", "scipy", "matplotlib", "openpyxl"]
 # wheel; by nbclient and ipykernel tools/recipes runs notebooks; by shtab tools/pit-tools-pages makes completions.
 MODULES = [*OF_PIT_TOOLS, "pytest", "distributed", "hypothesis", "ezdxf", "meshio", "tqdm", "nbclient", "ipykernel", "ensurepip", "shtab"]
 
-# What no package brings.
+# What no package has.
 DEVICES = ["/dev/full"]
 
 LOOK = "import importlib.util as u, sys; print(*[name for name in sys.argv[1:] if not u.find_spec(name)])"
 
 
 def is_strict() -> bool:
-    """Whether nothing may be left out: where CI is set, as servers set it that try each change."""
+    """Returns whether nothing may be skipped: if CI is set, as servers set it that try each change."""
     return bool(os.environ.get("CI"))
 
 
@@ -71,20 +70,20 @@ def is_there(need: Need) -> bool:
 
 
 def interpreters() -> List[str]:
-    """Each python3 once, of the PATH in its order, and that of the system."""
+    """Returns each python3 once, of the PATH in its order, and the system's."""
     folders = [*os.environ.get("PATH", "").split(os.pathsep), "/usr/bin"]
     paths = (os.path.join(folder or ".", "python3") for folder in folders)
     return list(dict.fromkeys(path for path in paths if os.access(path, os.X_OK)))
 
 
 def lacking_of(python: str, modules: List[str]) -> List[str]:
-    """Those of these modules that an interpreter does not have."""
+    """Returns which of these modules an interpreter does not have."""
     done = subprocess.run([python, "-c", LOOK, *modules], capture_output=True, text=True)
     return done.stdout.split() if done.returncode == 0 else modules
 
 
 def first_with_modules(modules: Sequence[str] = tuple(MODULES)) -> Tuple[Optional[str], Dict[str, List[str]]]:
-    """The first interpreter that has all these modules, and what those before it lack."""
+    """Returns the first interpreter that has all these modules, and what those before it do not have."""
     lacking = {}
     for python in interpreters():
         lacking[python] = lacking_of(python, list(modules))
@@ -94,7 +93,7 @@ def first_with_modules(modules: Sequence[str] = tuple(MODULES)) -> Tuple[Optiona
 
 
 def pages_of_tool() -> Dict[str, bytes]:
-    """The man page and the completions of pit-tools, by the names of their files; none where no interpreter has all modules."""
+    """Returns the man page and the completions of pit-tools, by the names of their files; none if no interpreter has all modules."""
     python, _ = first_with_modules()
     if python is None:
         return {}
@@ -108,19 +107,19 @@ def pages_of_tool() -> Dict[str, bytes]:
 
 
 def packages_of(modules: Iterable[str]) -> List[str]:
-    """The packages of Debian that bring these modules."""
+    """Returns the Debian packages that have these modules."""
     return [f"python3-{'venv' if name == 'ensurepip' else name}" for name in modules]
 
 
 def of_recipes() -> List[str]:
-    """The programs that blocks of commands on the pages name, behind ```sh."""
+    """Returns the programs that command blocks on the pages name, after ```sh."""
     pages = (shared.read(path) for path in shared.pages_with_recipes())
     words = (line.split() for page in pages for line in re.findall("(?m)^```sh (.+)$", page))
     return sorted(set(sum(words, [])))
 
 
 def lacking_of_planner() -> Dict[str, Tuple[List[str], str]]:
-    """What `./try planner` lacks, like `lacking`."""
+    """Returns what is missing for `./try planner`, like `lacking`."""
     found = {need.names[0]: ([need.package], "the pit in a survey") for need in NEEDS if need.package == "g++" and not is_there(need)}
     if first_with_modules(OF_PIT_TOOLS)[0] is None:
         found["a python3 with " + ", ".join(OF_PIT_TOOLS)] = (packages_of(OF_PIT_TOOLS), "pit-tools")
@@ -128,7 +127,7 @@ def lacking_of_planner() -> Dict[str, Tuple[List[str], str]]:
 
 
 def lacking() -> Dict[str, Tuple[List[str], str]]:
-    """What is not there, by its name: the packages that bring it, and what calls it."""
+    """Returns what is missing, by its name: the packages that have it, and what calls it."""
     found = {need.names[0]: (list(filter(None, [need.package])), need.callers) for need in NEEDS if not is_there(need)}
     if first_with_modules()[0] is None:
         callers = "tests of python/, recipes, and tools/archive: the wheel"
@@ -142,7 +141,7 @@ def lacking() -> Dict[str, Tuple[List[str], str]]:
 
 
 def packages() -> List[str]:
-    """All packages of Debian, as they are installed by hand."""
+    """Returns all Debian packages, for a manual installation."""
     return [need.package for need in NEEDS if need.package] + packages_of(MODULES)
 
 
@@ -152,10 +151,10 @@ def packages_of_planner() -> List[str]:
 
 
 def left_out(count: int, names: Iterable[str]) -> str:
-    """What a tool says at its end of what it left out for want of these; nothing where there is none."""
+    """Returns what a tool prints at its end if it skipped something because these are missing; otherwise nothing."""
     return f"; {count} left out, for want of {' '.join(dict.fromkeys(names))}" if count else ""
 
 
 def status(wrong: object, left: object) -> int:
-    """With what a tool ends: something was wrong, or left out where nothing may be."""
+    """Returns a tool's status: something was wrong, or skipped when nothing may be."""
     return 1 if wrong or left and is_strict() else 0

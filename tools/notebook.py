@@ -2,7 +2,7 @@
 
     notebook.py NOTEBOOK FOLDER     runs a notebook from this folder, and prints what each cell printed and whether it came to its end
 
-What stands between the blocks are its cells of text; a block is a cell of its commands, below which stands what they print, as the page has it.
+The text between the blocks becomes cells of text; a block becomes a cell of its commands, followed by their output as the page has it.
 """
 import json
 import os
@@ -15,7 +15,7 @@ PAGES = ["docs/planners.md", "docs/solvers.md"]
 
 BLOCK = re.compile(r"(?ms)^```sh([^\n]*)\n(.*?)^```\n(?:\s*```text\n(.*?)^```\n)?")
 
-# The first cell of each: a cell that begins with %%shell is read by one shell, which stands at first above the folder of the pages.
+# The first cell of each: a cell that begins with %%shell is read by one shell, which starts in the folder above the pages.
 SHELL = '''\
 # Cells that begin with %%shell are commands. All are read by one shell; it begins in the folder that has examples/.
 import pathlib
@@ -70,7 +70,7 @@ def notebook_of(page):
         cells.append(code_cell(f"%%shell{block[1]}\n{block[2]}", block[3] or ""))
         end = block.end()
     cells.append(text_cell(page[end:]))
-    # The title stands first.
+    # The title comes first.
     cells[:2] = cells[1::-1]
     kernel = {"display_name": "Python 3", "language": "python", "name": "python3"}
     notebook = {"cells": cells, "metadata": {"kernelspec": kernel}, "nbformat": 4, "nbformat_minor": 4}
@@ -78,7 +78,7 @@ def notebook_of(page):
 
 
 def told_by(python, path, folder):
-    """What each cell of commands of a notebook prints, and its status, which is none where it did not come to an end."""
+    """Returns what each cell of commands of a notebook prints, and its status, which is none if it did not finish."""
     quiet = {**os.environ, "PYDEVD_DISABLE_FILE_VALIDATION": "1"}
     done = subprocess.run([python, __file__, path, folder], stdin=subprocess.DEVNULL, stdout=subprocess.PIPE, env=quiet, check=True)
     return json.loads(done.stdout)

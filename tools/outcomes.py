@@ -1,4 +1,4 @@
-"""Outcomes of runs, as tools/run-pages tries the statement `Runs` of pit_compile on them: right ones, and such that are altered."""
+"""Outcomes of runs, on which tools/run-pages tries the statement `Runs` of pit_compile: right ones and altered ones."""
 import itertools
 import re
 from typing import Any, Dict, Iterator, List, NamedTuple, Optional, Tuple
@@ -12,8 +12,8 @@ VALUERS, CAPACITY, STARTS = 4, 64, 128
 
 
 class Outcome(NamedTuple):
-    """What a run answered, and of each sink whether it was begun, its bytes and how many calls it refused; how many valuers there were;
-    what a sink that was cut off lacks of its text; and the file whose feed failed, or -1."""
+    """The result of a run, and for each sink whether it was begun, its bytes and how many calls failed; how many valuers there were;
+    what a truncated sink misses of its text; and the file whose feed failed, or -1."""
 
     answer: Made
     sinks: Tuple[Tuple[bool, bytes, int], ...]
@@ -26,13 +26,13 @@ UNTOUCHED = ((False, b"", 0),) * len(NAMES)
 
 
 def sinks_of(told: Tuple[Tuple[bool, bytes, int], ...]) -> Function:
-    """What the sinks tell, by the name of their text."""
+    """Returns the states of the sinks, by the name of their text."""
     states = [{"begun": begun, "before": (), "taken": Made("Some", (chain(taken),)), "failures": failures} for begun, taken, failures in told]
     return Function(1, lambda name: states[NAMES.index(name)])
 
 
 def texts_wanted(trial: Trial) -> Optional[List[bytes]]:
-    """The whole texts that a row wants, by the pipe form or by `compile`."""
+    """Returns the complete texts that a row expects, by the pipe form or by `compile`."""
     if isinstance(trial.out, bytes) and trial.out.startswith(b"== blocks\n"):
         return re.split(rb"(?m)^== \w+\n", trial.out)[1:]
     texts = [text for ending in ENDINGS for name, text in trial.left.items() if name.endswith("." + ending)]
@@ -40,7 +40,7 @@ def texts_wanted(trial: Trial) -> Optional[List[bytes]]:
 
 
 def refusal_wanted(trial: Trial) -> Optional[Made]:
-    """The refusal of a run that a row wants."""
+    """Returns the refusal of a run that a row expects."""
     line = trial.errors.decode() if isinstance(trial.errors, bytes) else ""
     if line == "pitc: settings: Files\n":
         return Made("Settings", (Made("Files"),))
@@ -53,14 +53,14 @@ def refusal_wanted(trial: Trial) -> Optional[Made]:
 
 
 def gathered(sent: List[List[Made]], valuers: int = VALUERS) -> Dict[str, Any]:
-    """What went through the lane: each message taken in turn, and then one Stop by each valuer."""
+    """Returns what went through the lane: each message taken in turn, and then one Stop by each valuer."""
     messages = [message for file in sent for message in file]
     took = [[*messages[taker::valuers], Made("Stop")] for taker in range(valuers)]
     return {"capacity": CAPACITY, "sent": chain(map(chain, sent)), "took": chain(map(chain, took))}
 
 
 def right(trial: Trial, sent: List[List[Made]]) -> Optional[Outcome]:
-    """The outcome that a row wants, where it wants the whole texts or a refusal of the run."""
+    """Returns the outcome that a row expects, if it expects complete texts or a refusal of the run."""
     texts = texts_wanted(trial)
     if texts:
         return Outcome(Made("Ok", (gathered(sent),)), tuple((True, text, 0) for text in texts))
@@ -76,7 +76,7 @@ def cut_off(outcome: Outcome, place: int, failures: int, refusal: Made) -> Outco
 
 
 def also_right(outcome: Outcome) -> Iterator[Tuple[str, Outcome]]:
-    """What may come of the same run where a sink, a feed or memory is refused."""
+    """Yields possible outcomes of the same run if a sink, a feed or memory fails."""
     yield "a feed fails", Outcome(Made("Err", (Made("FeedFailed", (0,)),)), UNTOUCHED, failed=0)
     yield "no thread", Outcome(Made("Err", (Made("NoThread"),)), UNTOUCHED)
     yield "no memory", Outcome(Made("Err", (Made("OutOfMemory"),)), UNTOUCHED)
@@ -86,7 +86,7 @@ def also_right(outcome: Outcome) -> Iterator[Tuple[str, Outcome]]:
 
 
 def with_took(outcome: Outcome, change) -> Outcome:
-    """The same, where what the valuers took is changed."""
+    """Returns the same with what the valuers took changed."""
     view = outcome.answer.held[0]
     took = [list(each(taken)) for taken in each(view["took"])]
     change(took)
@@ -111,22 +111,22 @@ def altered(outcome: Outcome) -> Iterator[Tuple[str, Outcome]]:
                 yield f"another {name}", outcome._replace(answer=Made("Err", (Made("Row", other),)))
         if refusal.tag == "Same":
             first, again = refusal.held
-            for name, pair in [("turned", (again, first)), ("the row before", (first, {**again, "row": again["row"] - 1})), ("the row behind", (first, {**again, "row": again["row"] + 1}))]:
+            for name, pair in [("turned", (again, first)), ("the row before", (first, {**again, "row": again["row"] - 1})), ("the next row", (first, {**again, "row": again["row"] + 1}))]:
                 yield f"{name} repeats", outcome._replace(answer=Made("Err", (Made("Same", pair),)))
         return
     for place, which in enumerate(NAMES):
         stopped, begun = cut_off(outcome, place, 1, Made("SinkFailed", (which,))), (True, b"", 0)
-        yield f"cut off at {ENDINGS[place]}, which refused nothing", cut_off(outcome, place, 0, Made("SinkFailed", (which,)))
-        yield f"cut off at {ENDINGS[place]}, another is told", stopped._replace(answer=Made("Err", (Made("SinkFailed", (NAMES[place - 1],)),)))
+        yield f"cut off at {ENDINGS[place]}, which did not fail", cut_off(outcome, place, 0, Made("SinkFailed", (which,)))
+        yield f"cut off at {ENDINGS[place]}, another is reported", stopped._replace(answer=Made("Err", (Made("SinkFailed", (NAMES[place - 1],)),)))
         if place + 1 < len(NAMES):
-            yield f"cut off at {ENDINGS[place]}, one behind is begun", stopped._replace(sinks=(*stopped.sinks[:-1], begun))
+            yield f"cut off at {ENDINGS[place]}, a later one is begun", stopped._replace(sinks=(*stopped.sinks[:-1], begun))
         begun, text, _ = outcome.sinks[place]
-        others = [("another text", (begun, text + b"\n", 0)), ("a call refused", (begun, text, 1)), ("not begun", (False, text, 0))]
+        others = [("another text", (begun, text + b"\n", 0)), ("a failed call", (begun, text, 1)), ("not begun", (False, text, 0))]
         for name, other in others:
             yield f"{ENDINGS[place]}: {name}", outcome._replace(sinks=(*outcome.sinks[:place], other, *outcome.sinks[place + 1 :]))
     for name, change in [
         ("a message is not taken", lambda took: took[0].pop(0)), ("a message is taken twice", lambda took: took[1].insert(0, took[0][0])),
-        ("a Stop lacks", lambda took: took[-1].pop()), ("a Stop too many", lambda took: took[0].append(Made("Stop"))),
+        ("a Stop is missing", lambda took: took[-1].pop()), ("a Stop too many", lambda took: took[0].append(Made("Stop"))),
         ("a Quit is taken", lambda took: took[0].insert(0, Made("Quit"))), ("a valuer less", lambda took: took.pop()),
         ("another message", lambda took: took[0].insert(0, Made("End", (9, 0)))),
     ]:
@@ -135,11 +135,11 @@ def altered(outcome: Outcome) -> Iterator[Tuple[str, Outcome]]:
     if len(sent[0]) > VALUERS:
         yield "rows of a file are taken from the last", with_took(outcome, lambda took: took[0].insert(0, took[0].pop(-2)))
     yield "a row less was sent", outcome._replace(answer=Made("Ok", (gathered([sent[0][1:], *sent[1:]]),)))
-    yield "more valuers than were asked for", outcome._replace(valuers=VALUERS + 1)
+    yield "more valuers than were requested", outcome._replace(valuers=VALUERS + 1)
 
 
 class Judge:
-    """Says of outcomes whether they are such as `Runs` states."""
+    """Decides whether outcomes are among those that `Runs` states."""
 
     def __init__(self, pages: Pages):
         self.pages = pages
@@ -148,7 +148,7 @@ class Judge:
         return [list(each(file)) for file in each(self.pages.call("pit_compile.Rows", "model_sends", plan, texts))]
 
     def holds(self, plan, texts, outcome: Outcome) -> bool:
-        """Whether a run of this plan and these texts may come to this."""
+        """Returns whether a run of this plan and these texts may have this outcome."""
         word, blocks = self.pages.call, list(each(self.pages.call("pit_compile.Rows", "model_blocks", plan, texts)))
         view = outcome.answer.held[0] if outcome.answer.tag == "Ok" else {"sent": (), "took": ()}
         lists = list(each(view["sent"]))

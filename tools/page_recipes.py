@@ -1,4 +1,4 @@
-"""The blocks of commands on the pages of docs/, and what they have to print."""
+"""The command blocks on the pages of docs/, and what they must print."""
 import os
 import re
 import shutil
@@ -9,7 +9,7 @@ import shared
 
 
 class Recipe:
-    """A block of commands, where it stands, which programs it lacks, and what it has to print."""
+    """A command block, its place on the page, which programs it lacks, and what it must print."""
 
     def __init__(self, place, commands, programs):
         self.place, self.commands, self.wanted = place, commands, None
@@ -17,7 +17,7 @@ class Recipe:
 
 
 def recipes_of(page):
-    """The blocks ```sh of a page, each with the block ```text behind it."""
+    """Returns the blocks ```sh of a page, each with the block ```text after it."""
     text, recipes = shared.read(page), []
     blocks = list(re.finditer(r"(?ms)^```([^\n]*)\n(.*?)^```$", text))
     if len(re.findall("(?m)^```", text)) != 2 * len(blocks):
@@ -33,8 +33,8 @@ def recipes_of(page):
 
 
 def told_by(recipes, top, folder, environment=None):
-    """What each of these recipes of a page prints, and its status, where it came to an end: they run in one shell at a top, and files of
-    their own stand in a folder."""
+    """Returns what each of these recipes of a page prints, and its status, if it finished: they run in one shell at the top, with their
+    own files in a folder."""
     script = f"cd '{top}' || exit\n"
     for number, recipe in enumerate(recipes):
         piece = os.path.join(folder, str(number))
@@ -55,9 +55,9 @@ def told_by(recipes, top, folder, environment=None):
 
 
 def differences(recipe, told, status):
-    """What is wrong of a recipe."""
+    """Returns what is wrong with a recipe."""
     if status is None:
-        yield f"its commands did not come to an end\n{told}"
+        yield f"its commands did not finish\n{told}"
     elif told != (recipe.wanted or ""):
         yield f"its commands print\n{told}in place of\n{recipe.wanted or ''}"
     elif status != 0:

@@ -1,9 +1,10 @@
-"""Evaluates the definitions of crates/*/specs as they stand.
+"""Evaluates the definitions of crates/*/specs as they are.
 
-Each function of a page becomes one of Python, by its clauses in their order; a word that it brings in is that of the page that it is brought
-in from, a constant of the code is read there, and a word of the library is found in `library`, by hand. Lists are chains `(head, rest)`, `()`
-being the empty one; natural numbers and integers are numbers, `pos n` and `negsuc n` those of 0 and more and below 0. A statement is a test
-of its arguments: what it says of each or of some value of a type, or of one that a field of it names, is tried on the values of `trying`.
+Each function of a definition file becomes a Python function, by its clauses in their order. A word that it imports is that of the file that
+it is imported from, a constant of the code is read there, and a library word is found in `library`, which is hand-written. Lists are chains
+`(head, rest)`, with `()` as the empty one; natural numbers and integers are numbers, `pos n` and `negsuc n` the numbers from 0 and below 0.
+A statement is a test of its arguments: what it says of each or of some value of a type, or of one that a field of it names, is tried on the
+values of `trying`.
 """
 import functools
 import glob
@@ -14,7 +15,7 @@ from typing import Any, Callable, Dict, Iterator, List, NamedTuple, Optional, Tu
 import shared
 
 TOKEN = re.compile(r'"[^"]*"|[(){};,]|\.\w+(?<=[)\w])|[^\s(){};,"]+')
-# How closely signs bind, and those that bind to the right.
+# How closely operators bind, and those that bind to the right.
 BINDING = {"^": 80, "*": 70, "/": 70, "%": 70, "*ℤ": 70, "+": 65, "-": 65, "+ℤ": 65, "-ℤ": 65, "∷": 60, "++": 55, "==": 50, "&&": 35, "||": 30,
            "≡": 20, "≢": 20, "<": 20, "≤": 20, "×": 15, "⊎": 12, ">>=": 10, "↔": 8, "→": 5}
 TO_THE_RIGHT = {"∷", "^", "×", "⊎", "→"}
@@ -38,7 +39,7 @@ class Made(NamedTuple):
 
 
 class Function:
-    """A function of so many arguments, and those that it has."""
+    """A function of this number of arguments, and the arguments so far."""
 
     def __init__(self, count: int, call: Callable, held: Tuple[Any, ...] = ()):
         self.count, self.call, self.held = count, call, held
@@ -94,7 +95,7 @@ def tokens_of(lines: List[str]) -> List[Token]:
 
 
 class Reader:
-    """Reads a term; a statement of a `do` ends where a line begins no further right."""
+    """Reads a term; a statement of a `do` ends at the line that is indented no further."""
 
     def __init__(self, tokens: List[Token]):
         self.tokens, self.at, self.columns = tokens, 0, [-1]
@@ -157,12 +158,12 @@ class Reader:
         return ("call", found, arguments) if arguments else found
 
     def is_bound(self) -> bool:
-        """Whether names stand here in parentheses, with their type."""
+        """Returns whether names are here in parentheses, with their type."""
         words = [token.text for token in self.tokens[self.at : self.at + 9]]
         return words[:1] == ["("] and ":" in words and all(re.fullmatch(r"\w+", word) for word in words[1 : words.index(":")])
 
     def quantified(self):
-        """What is said of each, or of some, value of these types."""
+        """Reads what is said of each, or of some, value of these types."""
         found = []
         while self.is_bound():
             self.take("(")
@@ -244,7 +245,7 @@ class Reader:
 
 
 def told_type(term) -> str:
-    """A type as it is written."""
+    """Reads a type as it is written."""
     if term[0] == "call":
         return " ".join([told_type(term[1]), *(f"({part})" if " " in part else part for part in map(told_type, term[2]))])
     return f"{told_type(term[2])} {term[1]} {told_type(term[3])}" if term[0] == "sign" else str(term[1])
@@ -254,7 +255,7 @@ def told_type(term) -> str:
 
 
 class Page:
-    """A page: the clauses of its functions, its variants, and what it brings in by which name."""
+    """A definition file: the clauses of its functions, its variants, and what it imports by which name."""
 
     def __init__(self, path: str):
         self.name = ".".join(["Rattle", path.split("/")[1], "specs", *path[: -len(".antt")].split("/")[3:]])
@@ -274,7 +275,7 @@ class Page:
             self.take(chunk)
 
     def take(self, chunk: List[str]) -> None:
-        """Takes a clause, a type or an import."""
+        """Records a clause, a type or an import."""
         head = chunk[0]
         if brought := re.match(r"(?:pub )?use (Rattle\.[\w.]+)(?:\.\{(.*)\}| as (\w+))$", head):
             source, names, other = brought.groups()
@@ -294,13 +295,13 @@ class Page:
 
     @staticmethod
     def defined_by(head: str) -> str:
-        """The word that a clause defines: its first one, or the sign between two patterns."""
+        """Returns the word that a clause defines: its first one, or the operator between two patterns."""
         left = Reader(tokens_of([head])).term()
         return left[1] if left[0] == "sign" else (left[1] if left[0] == "call" else left)[1]
 
 
 class Pages:
-    """All pages, and what a page's words are as Python."""
+    """All definition files, and their words as Python."""
 
     def __init__(self, library: Dict[str, Any]):
         found = [Page(path) for path in sorted(glob.glob("crates/*/specs/**/*.antt", recursive=True))]
@@ -320,7 +321,7 @@ class Pages:
         return all(applied(one, name) == applied(other, name) for name in self.values_of("TextName"))
 
     def word(self, page: str, name: str) -> Any:
-        """What a word of a page is."""
+        """Returns the value of a file's word."""
         if (page, name) not in self.ready:
             self.ready[page, name] = self.made(page, name)
         return self.ready[page, name]
@@ -332,7 +333,7 @@ class Pages:
         return applied(found, *arguments) if arguments else found
 
     def below(self, name: str) -> List[Page]:
-        """A page and all that it stands on."""
+        """Returns a file and all that it depends on."""
         found: Dict[str, Page] = {}
         more = [name]
         while more:
@@ -343,7 +344,7 @@ class Pages:
         return list(found.values())
 
     def source(self, page: str, name: str) -> Optional[Tuple[str, str]]:
-        """The page that has a word which this page uses, and its name there; None of what it does not bring in."""
+        """Returns the file that has a word which this file uses, and its name there; None if it is not imported."""
         if page not in self.pages:
             return page, name
         for word in (name, name.strip("◌")):
@@ -353,7 +354,7 @@ class Pages:
         return self.source(*brought) if brought else None
 
     def is_variant(self, page: str, name: str) -> bool:
-        """Whether a word is a variant, by how the page names it."""
+        """Returns whether a word is a variant, by how the file names it."""
         first, _, rest_of_it = name.partition(".")
         if rest_of_it:
             return first in self.pages[page].others
@@ -364,14 +365,14 @@ class Pages:
         return owner.endswith("TheVariants") or owner in self.pages and word in self.pages[owner].variants or word in LIBRARY_VARIANTS
 
     def made(self, page: str, name: str) -> Any:
-        """Makes a word: a function or a value by its clauses, a constant of the code, or a word of the library."""
+        """Makes a word: a function or a value by its clauses, a constant of the code, or a library word."""
         if page not in self.pages:
             if page.endswith("TheConstants"):
                 return constant(page, name)
             if ".proofs." in page:
                 return PROOF
             if name not in self.library:
-                raise NameError(f"{name} of {page} is no word of the library that stands here")
+                raise NameError(f"{name} of {page} is no word of the library that is defined here")
             return self.library[name]
         if name in self.pages[page].statements:
             clauses = [Statement(self, page, *self.pages[page].statements[name])]
@@ -387,7 +388,7 @@ class Pages:
 
 
 class Clause:
-    """A clause of a function: its patterns, and what it answers, as Python."""
+    """Returns a clause of a function: its patterns and its result, as Python."""
 
     def __init__(self, pages: Pages, page: str, chunk: List[str]):
         self.pages, self.page, self.steps = pages, page, []
@@ -406,7 +407,7 @@ class Clause:
         self.body = Reader([token._replace(begins=token.begins and at > 0) for at, token in enumerate(tokens[middle + 1 :])]).term()
 
     def lines(self) -> List[str]:
-        """A loop that is left where a pattern does not fit, and that answers where all do."""
+        """Returns a loop that is left if a pattern does not match, and that returns if all do."""
         names: Dict[str, str] = {}
         for number, pattern in enumerate(self.patterns):
             self.match(pattern, f"a{number}", names)
@@ -483,7 +484,7 @@ class Clause:
         return self.tried("any", names, bound, said)
 
     def tried(self, how, names, bound, said):
-        """What is said of values of these types, of all or of any."""
+        """Returns what is said of values of these types, of all or of any."""
         inner = dict(names)
         loops = []
         for name, kind in bound:
@@ -520,7 +521,7 @@ class Clause:
         return f"applied({self.python(head, names)}, {', '.join(told)})"
 
     def global_word(self, name: str) -> str:
-        """The expression of a word of a page, which is made when it is first asked for."""
+        """Returns the expression for a file's word, which is made at its first use."""
         place = self.pages.source(self.page, name)
         if place is None:
             raise NameError(f"{name} of {self.page} is brought in from nowhere")
@@ -578,7 +579,7 @@ def with_fields(value: Dict[str, Any], fields: Dict[str, Any]) -> Dict[str, Any]
 
 
 def constant(page: str, name: str) -> int:
-    """A constant of the code, in the file that the page's name tells."""
+    """Returns a constant of the code, from the file that the definition file's name implies."""
     crate, path = page.split(".")[1], "/".join(page.split(".")[4:-1])
     value = re.search(rf"(?m)^pub const {name}: \w+ = ([^;]+);", shared.read(f"crates/{crate}/src/{path}.rt"))
     return eval(re.sub(r"[A-Z_]{2,}", lambda other: str(constant(page, other[0])), value[1].replace("as usize", "")))

@@ -3,9 +3,8 @@
 
     tools/plain.py BASE PLAN ZONE..         writes them at a base
 
-It is written from docs/formats.md alone, in another language than pitc: it counts in whole numbers,
-tests all pairs of blocks for cones, and knows no fault but that of a repeated block.
-tools/random-models and the tables of tools/rows compare what a built pitc answers with it.
+It is written from docs/formats.md alone, in another language than pitc. It counts in integers, tests all pairs of blocks for cones, and
+knows no error except a repeated block. tools/random-models and the tables of tools/rows compare the results of a built pitc with it.
 """
 import csv
 import io
@@ -74,7 +73,7 @@ def worth(kind, cells, block):
 
 
 def is_above(plan, lower, upper):
-    """Whether a block has to wait for an upper one."""
+    """Returns whether a block must wait for an upper one."""
     (east, west, north, south), benches = plan["zones"][lower.zone]
     dz, dy, dx = (up - low for up, low in zip(upper.place, lower.place))
     if not 1 <= dz <= benches:
@@ -137,7 +136,7 @@ def model(plan, kind, objective, coefficients):
 
 
 def compiled(text, files):
-    """The texts by their endings, or the line of the refusal."""
+    """Returns the texts by their endings, or the line of the refusal."""
     plan = plan_of(text)
     blocks = blocks_of(plan, files)
     if isinstance(blocks, str):

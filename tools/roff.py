@@ -9,12 +9,12 @@ def escaped(text: str) -> str:
 
 
 def line_of(text: str) -> str:
-    """A line that is no request, also where it begins as one."""
+    """Returns a line that is no request, even if it begins like one."""
     return re.sub("^[.']", r"\\&\g<0>", text) + "\n"
 
 
 def paragraph(text: str) -> str:
-    """A text in the page's language: what stands in backticks is bold, and no line is a request."""
+    """Returns a text in the page's language: text in backticks is bold, and no line is a request."""
     text = re.sub("`([^`]*)`", r"\\fB\1\\fR", escaped(text))
     return "".join(map(line_of, textwrap.wrap(text, 98, break_on_hyphens=False)))
 

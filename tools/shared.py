@@ -35,7 +35,7 @@ HEADER_KEYS = [
 
 
 def header(kind, **values):
-    """The header lines of a model file. What is not given is of one period and one destination."""
+    """Returns the header lines of a model file. Defaults mean one period and one destination."""
     said = {"name": "one", "periods": 1, "destinations": 1, "resources": 0, "rate": "0.1"}
     said = {"kind": kind, **said, **values}
     keys = [(key, value) for key, files, value in HEADER_KEYS if kind in files.split()]
@@ -43,12 +43,12 @@ def header(kind, **values):
 
 
 def parser_of(doc):
-    """A parser for the words of a script that is described so."""
+    """Returns a parser for the arguments of a script with this description."""
     return argparse.ArgumentParser(description=doc.split("\n")[0])
 
 
 def built(crate, path):
-    """The whole path of a program. Where there is none the script ends with 2, and says how it is built."""
+    """Returns the complete path of a program. If there is none the script ends with 2, and prints how to build it."""
     if not os.path.isfile(path) or not os.access(path, os.X_OK):
         print(f"tools/{os.path.basename(sys.argv[0])}: there is no program {path}; (cd crates/{crate} && rt run -- --help) proves and builds it",
               file=sys.stderr)
@@ -57,7 +57,7 @@ def built(crate, path):
 
 
 def with_program(doc):
-    """The same, where the first word is a built pitc."""
+    """The same, if the first argument is a built pitc."""
     parser = parser_of(doc)
     help_of_it = "a built pitc, as crates/pitc/out/pitc, which rt run leaves there"
     parser.add_argument("program", type=functools.partial(built, "pitc"), help=help_of_it)
@@ -65,7 +65,7 @@ def with_program(doc):
 
 
 def with_programs(doc):
-    """The same, where the second word is a built pitc_thin."""
+    """The same, if the second argument is a built pitc_thin."""
     parser = with_program(doc)
     help_of_it = "a built pitc_thin, as crates/pitc_thin/out/pitc_thin, which rt run leaves there"
     parser.add_argument("thin", type=functools.partial(built, "pitc_thin"), help=help_of_it)
@@ -100,12 +100,12 @@ COMMENT_OR_TEXT = re.compile(r"""(?s)//[^\n]*|/\*.*?\*/|r(#*)".*?"\1|b?"(?:\\.|[
 
 
 def code_of(path):
-    """The code of a file of Rattle, with a blank for each comment and each text, so that no word in them counts."""
+    """Returns the code of a Rattle file, with a blank for each comment and each text, so that no word in them counts."""
     return COMMENT_OR_TEXT.sub(" ", read(path))
 
 
 def test_files():
-    """The files of crates/ that only tests compile: modules behind `#[cfg(test)]`, and what is in their folders."""
+    """Returns the files of crates/ that only tests compile: modules after `#[cfg(test)]`, and the contents of their folders."""
     found = []
     for path in glob.glob("crates/*/src/**/*.rt", recursive=True):
         folder = os.path.dirname(path) if os.path.basename(path) in ("lib.rt", "main.rt") else path[: -len(".rt")]
@@ -126,7 +126,7 @@ def pipe_input(plan, zones):
 
 
 def compile_words(plan, base, zones, valuers=None, capacity=None):
-    """The words of `pitc compile` for these paths."""
+    """Returns the arguments of `pitc compile` for these paths."""
     words = ["compile", "--plan", plan, "--out", base]
     if valuers is not None:
         words += ["--valuers", str(valuers)]
@@ -142,8 +142,7 @@ def write_texts(base, texts):
 
 
 class Used(NamedTuple):
-    """How a run ended, and what it took: seconds of wall time and of processor time, and the bytes
-    of its peak memory."""
+    """How a run ended, and what it used: seconds of wall time and of processor time, and the bytes of its peak memory."""
 
     status: int
     wall: float
@@ -152,9 +151,8 @@ class Used(NamedTuple):
 
 
 def measured(command, **streams):
-    """Runs a command in a process of its own, by `subprocess.Popen` with these streams. Its peak is
-    what GNU time tells, where that is there: the system also counts what a process held before it
-    became the command, so without it a peak is never less than that of the tool which asks."""
+    """Runs a command in its own process, by `subprocess.Popen` with these streams. GNU time measures its peak, if it exists: the system
+    also counts what a process held before it became the command, so without GNU time a peak is never less than that of the calling tool."""
     with tempfile.NamedTemporaryFile("r") as told:
         by_time = ["time", "-f", "%M", "-o", told.name] if shutil.which("time") else []
         begun = time.monotonic()

@@ -1,7 +1,7 @@
 """The parts of docs/times.md that tools write: what they measured, of which commit, on which machine.
 
-A part stands between a line `<!-- NAME -->` and a line `<!-- end of NAME -->`. Its first line has the commit, and the machine where it is
-not the one that docs/times.md names at its beginning.
+A part is between a line `<!-- NAME -->` and a line `<!-- end of NAME -->`. Its first line has the commit, and the machine if it is not the
+one that docs/times.md names at its beginning.
 """
 import os
 import re
@@ -21,7 +21,7 @@ def git(*words: str) -> str:
 
 
 def commit() -> str:
-    """The commit of the crates that stand here, and whether they differ from it."""
+    """Returns the commit of the crates here, and whether they differ from it."""
     changed = " with changes" if git("status", "--porcelain", "crates") else ""
     return git("rev-parse", "--short=8", "HEAD") + changed
 
@@ -37,9 +37,9 @@ def machine() -> str:
 
 
 def head() -> str:
-    """The first line of a part, as it is to be before anything is measured. It names this machine where the page does not say so for all."""
+    """Returns the first line of a part, made before anything is measured. It names this machine unless the page names it for all."""
     load, here = os.getloadavg()[0], machine()
-    work = f"beside other work (a load of {load:.1f} at the beginning)" if load > 0.5 else "with no other work"
+    work = f"with other work (a load of {load:.1f} at the beginning)" if load > 0.5 else "with no other work"
     is_usual = f"of {here}, unless they name another" in " ".join(shared.read(os.path.join(shared.TOP, PAGE)).split())
     return f"Commit {commit()}, {time.strftime('%Y-%m-%d', time.gmtime())}{'' if is_usual else '; ' + here}, {work}."
 

@@ -1,26 +1,26 @@
-"""What a run asked of the system, by its trace: calls on files, threads, memory, and what was refused."""
+"""What a run requested from the system, by its trace: calls on files, threads, memory, and what was refused."""
 import errno
 import os
 import re
 import subprocess
 from typing import Dict, Iterator, List, NamedTuple, Optional, Sequence, Tuple
 
-# A descriptor that no run has: tools/effects.c writes to it which call it answers by an error.
+# A descriptor that no run has: tools/effects.c writes to it for which call it returns an error.
 TOLD = "1023"
 
 STRACE = ["strace", "-f", "-qq", "--seccomp-bpf", "-xx", "-s", "64", "-e", "signal=none"]
 
 MEMORY = {"brk", "mmap", "munmap", "mprotect", "madvise", "mremap"}
 
-# What threads ask for as they start, wait and end, and the end of the program.
+# What threads call as they start, wait and end, and the end of the program.
 OF_THREADS = {"set_robust_list", "rseq", "rt_sigprocmask", "exit", "exit_group", "getrandom"}
 
-# The C library counts the processors where many threads allocate, and asks how memory is given where it gives much of it back.
+# The C library counts the processors if many threads allocate, and reads how memory is allotted if it returns much of it.
 OF_LIBRARY = {(path, "O_RDONLY|O_CLOEXEC") for path in (b"/sys/devices/system/cpu/online", b"/proc/sys/vm/overcommit_memory")}
 
 
 class Call(NamedTuple):
-    """A call: the lines of the trace where it began and ended, its thread, its answer, and the error by which it was answered, if any."""
+    """A call: the lines of the trace where it began and ended, its thread, its result, and its error, if any."""
 
     begin: int
     end: int
@@ -32,18 +32,18 @@ class Call(NamedTuple):
 
     @property
     def is_refused(self) -> bool:
-        """Whether it was answered by an error that is not to be tried again."""
+        """Returns whether it failed with an error after which it is not repeated."""
         return self.error not in ("", "EINTR")
 
 
 def words_of(program: Sequence[str], trace: str, shown: Dict[str, str], is_long: bool = False) -> List[str]:
-    """The words that run a program, trace it into a file, and show it these variables alone. Of a long run the waits of its threads,
-    which are many, are not traced."""
+    """Returns the arguments that run a program, trace it into a file, and give it these variables alone. The waits of its threads, which
+    are many in a long run, are then not traced."""
     return [*STRACE, "-e", "trace=!sched_yield" + ",futex" * is_long, "-o", trace, *(word for item in shown.items() for word in ("-E", "=".join(item))), *program]
 
 
 def why_not() -> Optional[str]:
-    """Why no run can be traced here; None where one can."""
+    """Returns why no run can be traced here; None if one can."""
     try:
         ran = subprocess.run(words_of(["true"], os.devnull, {}), capture_output=True, text=True, check=False)
     except FileNotFoundError:
@@ -57,14 +57,14 @@ def bytes_of(escaped: str) -> bytes:
 
 
 def fault_of(call: Call, text: bytes) -> Call:
-    """The call that tools/effects.c answered by an error, as it says."""
+    """Returns the call for which tools/effects.c returned an error, by its report."""
     name, code, args = text.split(b" ", 2)
     shown = f'AT_FDCWD, "{args.hex()}", FAULT' if name == b"openat" else args.decode()
     return call._replace(name=name.decode(), args=shown, answer=-1, error=errno.errorcode[int(code)])
 
 
 def calls_in(trace: str) -> List[Call]:
-    """The calls in the order in which they ended; a fault that was put in stands for its call."""
+    """Returns the calls in the order in which they ended; an injected error replaces its call."""
     begun: Dict[int, Tuple[int, str, str]] = {}
     calls: List[Call] = []
     for number, line in enumerate(trace.splitlines()):
@@ -127,7 +127,7 @@ class Used:
 
 
 class Memory:
-    """What memory a run has asked for, used or not, beside the stacks of its threads, and the most that it was."""
+    """The memory that a run has requested, used or not, besides the stacks of its threads, and its maximum."""
 
     def __init__(self) -> None:
         self.areas: Dict[int, int] = {}
@@ -136,7 +136,7 @@ class Memory:
         self.is_refused = False
 
     def take(self, call: Call) -> None:
-        """Takes up a call on memory."""
+        """Records a call on memory."""
         self.is_refused |= call.error == "ENOMEM"
         if call.error:
             return
@@ -159,7 +159,7 @@ class Memory:
 
 
 class Record:
-    """What one run did, behind the loading of its libraries. `strange` has the calls that no run makes."""
+    """What one run did, after the loading of its libraries. `strange` has the calls that no run makes."""
 
     def __init__(self, trace: str):
         calls = calls_in(trace)
@@ -180,7 +180,7 @@ class Record:
             self.strange += filter(None, [self.strangeness(call)])
 
     def strangeness(self, call: Call) -> str:
-        """Takes a call up, and tells what no run does."""
+        """Records a call, and notes what no run does."""
         shown = f"{call.name}({call.args[:90]})"
         if call.name == "+++":
             return "" if "exited" in call.args else f"a thread ends by {call.args}"
@@ -206,7 +206,7 @@ class Record:
         return "" if call.name in OF_THREADS else shown
 
     def open(self, call: Call) -> str:
-        """Takes the opening of a file up."""
+        """Records the opening of a file."""
         found = re.match(r'([^,]*), "([^"]*)", ([^,]*)', call.args)
         assert found, call
         path, flags = bytes_of(found[2]), found[3]
@@ -218,7 +218,7 @@ class Record:
         return "" if found[1] == "AT_FDCWD" else f"openat({call.args})"
 
     def use(self, call: Call) -> str:
-        """Takes a read, a write or a close up."""
+        """Records a read, a write or a close."""
         number = int(call.args.split(",")[0])
         used = self.lent.get(number)
         if used is None:

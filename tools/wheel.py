@@ -1,7 +1,7 @@
 """A wheel of pitc, pitc_thin and pit-tools, which pip installs without a network, and how it is tried.
 
-It has what the archive has: the package pit_tools with its compiled program, the two programs, and below share/ their man pages, completions,
-pages and examples. What pit-tools needs stands in python/pyproject.toml.
+It has what the archive has: the package pit_tools with its compiled program, the two programs, and below share/ their man pages,
+completions, pages and examples. The requirements of pit-tools are in python/pyproject.toml.
 """
 import ast
 import base64
@@ -58,7 +58,7 @@ NAME = setting("name")
 
 
 def settings():
-    """What python/pyproject.toml asks of packages, as lines of METADATA, and its commands."""
+    """Returns what python/pyproject.toml requires of packages, as lines of METADATA, and its commands."""
     lines = [f"Requires-Dist: {need}" for need in ast.literal_eval(re.search(r"(?ms)^dependencies = (\[.*?\])", PYPROJECT)[1])]
     for name, needs in re.findall(r"(?m)^(\w+) = (\[.*\])$", PYPROJECT.split("[project.optional-dependencies]\n")[1].split("\n\n")[0]):
         if name != "test":
@@ -74,7 +74,7 @@ def summed(text):
 
 
 def files_of(version, tag, programs, below_share, texts):
-    """The files of the wheel by their paths: those of its package, of its programs and below share/, and what pip reads."""
+    """Returns the files of the wheel by their paths: its package, its programs, the files below share/, and what pip reads."""
     front, (needs, commands) = f"{NAME}-{version}", settings()
     package = {path[len("python/"):]: text for path, text in texts.items() if path.startswith("python/pit_tools/")}
     data = {**below_share, **{f"pitc/{path}": text for path, text in texts.items() if not path.startswith("python/")}}
@@ -111,13 +111,13 @@ def too_new(name, program):
 
 
 def fault_of(words, **more):
-    """None where a command ends with 0, else the last line of what it prints."""
+    """Returns None if a command ends with 0, otherwise the last line that it prints."""
     done = subprocess.run(words, stdout=subprocess.PIPE, stderr=subprocess.STDOUT, text=True, check=False, **more)
-    return None if done.returncode == 0 else (done.stdout.strip().splitlines() or ["no word"])[-1]
+    return None if done.returncode == 0 else (done.stdout.strip().splitlines() or ["no output"])[-1]
 
 
 def is_there(path, text):
-    """Whether a file is there and has these bytes."""
+    """Returns whether a file exists and has these bytes."""
     if not os.path.exists(path):
         return False
     with open(path, "rb") as file:
@@ -130,7 +130,7 @@ def listed(folder):
 
 
 def of_commands(installed, folder):
-    """What is wrong of the commands of docs/tutorial.md, run from an installed wheel."""
+    """Returns what is wrong with the commands of docs/tutorial.md, run from an installed wheel."""
     recipes = page_recipes.recipes_of(os.path.join(shared.TOP, "docs/tutorial.md"))
     top, cache, apart = (os.path.join(folder, name) for name in ("top", "cache", "apart"))
     shutil.copytree(os.path.join(installed, "share/pitc"), top)
@@ -143,7 +143,7 @@ def of_commands(installed, folder):
 
 
 def tried(path, python, programs, below_share):
-    """What is wrong of a wheel that is installed in a new environment over an interpreter's packages, used, and removed."""
+    """Returns what is wrong with a wheel that is installed in a new environment over an interpreter's packages, used, and removed."""
     quiet = {**os.environ, "PIP_DISABLE_PIP_VERSION_CHECK": "1", "PIP_NO_CACHE_DIR": "1"}
     with tempfile.TemporaryDirectory() as folder:
         installed = os.path.join(folder, "installed")
