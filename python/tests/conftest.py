@@ -1,4 +1,4 @@
-"""Finds the package beside the tests, where it is not installed, and the built program, where there
+"""Finds the package next to the tests, if it is not installed, and the built program, if there
 is one."""
 import os
 import signal
@@ -7,13 +7,13 @@ import sys
 import pytest
 
 sys.path.insert(0, os.path.dirname(os.path.dirname(os.path.abspath(__file__))))
-# A shell that runs the tests in the background, or nohup, has all that they start ignore these.
+# A shell that runs the tests in the background, or nohup, makes every child process ignore these.
 signal.signal(signal.SIGINT, signal.default_int_handler)
 signal.signal(signal.SIGHUP, signal.SIG_DFL)
 
 
 def _built(name: str, variable: str) -> str:
-    """The path of a built program, which the environment names."""
+    """Returns the path of a built program, which the environment names."""
     program = os.environ.get(variable, "")
     if not os.access(program, os.X_OK):
         pytest.skip(f"no built {name}: tools/python-tests PROGRAM names one")

@@ -1,10 +1,11 @@
-"""What becomes of each export: right, told, refused with its cause, or wrong.
+"""The outcome of each export: right, reported, refused with its cause, or wrong.
 
     python3 export_verdicts.py [--all]      the table, or the wrong ones and the counts
 
-An export is right where its words give the blocks of its mine without a line that names a mistake;
-told, where they do and the report has that line; refused, where they stop with their own cause,
-also if changed words then give its mine. All else is wrong: another mine, or another cause."""
+An export is right if its arguments give the blocks of its mine without a line that names a
+mistake; reported ('told') if they do and the report has that line; refused if they stop with
+its own cause, also if changed arguments then give its mine. All else is wrong: another mine,
+or another cause."""
 from __future__ import annotations
 
 import os
@@ -30,8 +31,8 @@ KINDS = {"first": exports, "later": later_exports, "mistake": mistaken_exports,
 
 
 class Verdict(NamedTuple):
-    """What became of an export: `right`, `told`, `refused` or `wrong`, with the line that says so or
-    what is wrong."""
+    """The outcome of an export: `right`, `told`, `refused` or `wrong`, with the line that says
+    so or what is wrong."""
 
     name: str
     outcome: str
@@ -39,7 +40,7 @@ class Verdict(NamedTuple):
 
 
 def imported(export: Export, **changed: object) -> Imported:
-    """Reads an export in the current folder, lays what is expected beside it, and writes its zone
+    """Reads an export in the current folder, compares what is expected, and writes its zone
     files."""
     paths = [name for name in export.files if name not in ("zones.csv", "d.csv", "report.csv")]
     reports = ["report.csv"] if "report.csv" in export.files else []
@@ -50,7 +51,7 @@ def imported(export: Export, **changed: object) -> Imported:
 
 
 def verdict_of(export: Export) -> Verdict:
-    """What becomes of an export; its files are written into the current folder."""
+    """Returns the outcome of an export; its files are written into the current folder."""
     for name, content in export.files.items():
         with open(name, "wb") as file:
             file.write(content)
@@ -84,7 +85,7 @@ def verdict_of(export: Export) -> Verdict:
 
 
 def line_with(pattern: str, text: str) -> str:
-    """The line of a text in which a pattern ends, or an empty text."""
+    """Returns the line of a text in which a pattern ends, or an empty text."""
     found = re.search(pattern, text)
     if not found:
         return ""
@@ -93,7 +94,7 @@ def line_with(pattern: str, text: str) -> str:
 
 
 def differences(export: Export, found: Imported) -> Iterable[str]:
-    """Where the zone files that were written are not the export's mine."""
+    """Returns how the written zone files differ from the export's mine."""
     rows = rows_of(found)
     counts = [{zone: len(one) for zone, one in each.items()} for each in (rows, export.rows)]
     if counts[0] != counts[1]:
@@ -113,7 +114,7 @@ def differences(export: Export, found: Imported) -> Iterable[str]:
 
 
 def rows_of(found: Imported) -> Rows:
-    """The rows of the zone files that were written."""
+    """Returns the rows of the zone files that were written."""
     rows: Rows = {}
     for name, path in zip(found.zones, found.file_names("from")):
         table = read_zone_file(path)
@@ -125,7 +126,7 @@ def rows_of(found: Imported) -> Rows:
 
 
 def main() -> int:
-    """Prints the table. It answers 1 where an export is wrong."""
+    """Prints the table. It returns 1 if an export is wrong."""
     counts: dict[str, Counter] = {kind: Counter() for kind in KINDS}
     for kind, made in KINDS.items():
         for export in made():

@@ -1,9 +1,9 @@
-"""Exports of one mine, as mining packages, spreadsheets and people write them, each with the blocks
-that it has to give.
+"""Exports of one mine, as mining packages, spreadsheets and people write them, each with the
+blocks that it must give.
 
-The mine is a box of 14 x 10 x 7 places of 20 x 20 x 10 m: hills with air above, two old workings,
-oxide above sulphide in the west and the east, and rock without a grade. What an export has to give
-is made of whole numbers here, by nothing of the package."""
+The mine is a box of 14 x 10 x 7 positions of 20 x 20 x 10 m: hills with air above, two old
+workings, oxide above sulphide in the west and the east, and rock without a grade. The expected
+values of an export are computed in integers here, without the package."""
 from __future__ import annotations
 
 import bz2
@@ -19,8 +19,8 @@ NX, NY, NZ = 14, 10, 7
 
 
 class Block(NamedTuple):
-    """A place of the box. Density is in 1/10,000 t/m3, kilograms are its own, grade in millionths
-    of g/t; both None in air and holes, the grade None where it is not known."""
+    """A position of the box. Density is in 1/10,000 t/m3, mass in kilograms, grade in
+    millionths of g/t; both are None in air and holes, the grade is None if it is unknown."""
 
     i: int
     j: int
@@ -49,7 +49,7 @@ class Block(NamedTuple):
 
 
 def mine() -> list[Block]:
-    """All places, x running first, then y, then z."""
+    """Returns all positions, x running first, then y, then z."""
     luck = random.Random(70)
     ground = {(i, j): 4 + round(1.4 * math.sin(i / 3) + math.cos(j / 2)) for i in range(NX)
               for j in range(NY)}
@@ -84,8 +84,8 @@ def truth(blocks: Iterable[Block] = MINE,
           grade: Callable[[Block], Optional[int]] = lambda block: block.grade,
           zone: Callable[[Block], str] = lambda block: block.zone, place: Callable[[Block], tuple[
         int, int, int]] = lambda block: (1000 * block.x, 1000 * block.y, 1000 * block.z)) -> Rows:
-    """By zone, the tonnes in kilograms and the grade in millionths of each block, by its x, y and z
-    in millimetres."""
+    """Returns by zone the tonnes in kilograms and the grade in millionths of each block, by
+    its x, y and z in millimetres."""
     rows: Rows = {}
     for block in blocks:
         mass = kilograms(block)
@@ -95,18 +95,18 @@ def truth(blocks: Iterable[Block] = MINE,
 
 
 def by_density(block: Block) -> Optional[int]:
-    """The kilograms of 4000 m3."""
+    """Returns the kilograms of 4000 m3."""
     return None if block.density is None else block.density * 400
 
 
 @dataclass
 class Export:
-    """An export: its files, the words that read it, what it has to give, and how far that may
+    """An export: its files, the arguments that read it, what it must give, and how far that may
     differ (kilograms, millionths).
 
-    `told` are patterns of the report. `refused` is a pattern of the fault or of a line behind LOOK
-    AT with `first` in place of some words: how it goes where a planner does not know yet.
-    `expected` are words of a resource report."""
+    `told` has patterns of the report. `refused` is a pattern of the error or of a line after
+    LOOK AT, with `first` in place of some arguments: it shows what happens while a planner
+    does not know better. `expected` has arguments of a resource report."""
 
     name: str
     files: dict[str, bytes]
@@ -121,7 +121,7 @@ class Export:
 
 
 def dec(value: int, places: int) -> str:
-    """A whole number of 10**-places as a text."""
+    """Returns an integer number of 10**-places as a text."""
     sign, value = "-" if value < 0 else "", abs(value)
     return (f"{sign}{value // 10 ** places}.{value % 10 ** places:0{places}d}" if places
             else f"{sign}{value}")
@@ -140,7 +140,7 @@ USUAL = {"x": "X", "y": "Y", "z": "Z", "tonnes": "TONNES", "grade": "AU", "zone"
 
 
 def usual(block: Block, none: str = "-99") -> list[str]:
-    """Cells of x, y, z, tonnes, grade and zone."""
+    """Returns cells of x, y, z, tonnes, grade and zone."""
     return [str(block.x), str(block.y), str(block.z), known(block.kilograms, 3, none),
             known(block.grade, 6, none), block.zone]
 
@@ -262,7 +262,7 @@ def old_exports() -> Iterable[Export]:
                  first={"parents": "", "corner": "", "size": "20,20,10"})
 
     def cut(block: Block) -> list[str]:
-        """A block in two along z, the upper part a quarter, with sizes of their own."""
+        """A block in two along z, the upper part a quarter, with a column for sizes."""
         dense = known(block.density, 4, "-99")
         gold = known(block.grade, 6, "-99")
         return [f"{block.x},{block.y},{block.z - 1.25},20,20,7.5,{dense},{gold},{block.zone}",
@@ -448,7 +448,7 @@ def workbook(rows: Iterable[list], title: str, sheet: str = "Blocks") -> bytes:
 
 
 def further_exports() -> Iterable[Export]:
-    """More of the notes' kinds, and those that nobody named."""
+    """More kinds from the notes, and kinds that nobody named."""
     def cells(block: Block) -> list:
         return [block.x, block.y, block.z,
                 None if block.kilograms is None else block.kilograms / 1000,
@@ -577,7 +577,7 @@ def swiss(cell: str) -> str:
 
 
 def single(value: float) -> str:
-    """A number as single precision holds it."""
+    """Returns a number as single precision holds it."""
     import struct
     return repr(struct.unpack("f", struct.pack("f", value))[0])
 

@@ -31,7 +31,7 @@ SIX_ROWS = """x,y,z,tonnes,grade
 
 
 def compiled(folder, plan, zones, name="mine"):
-    """Writes a plan, its zone files and the instance into a folder; answers the base."""
+    """Writes a plan, its zone files and the instance into a folder; returns the base."""
     base = os.path.join(str(folder), name)
     shared.write(base + ".plan", plan)
     for number, text in enumerate(zones):
@@ -41,8 +41,9 @@ def compiled(folder, plan, zones, name="mine"):
 
 
 def quickly_compiled(folder, plan, zones, name="mine"):
-    """The same by pit_tools.instances.valuation, which test_instance.py compares with the plain computation:
-    that one looks at all pairs of blocks, so it is too slow for thousands."""
+    """The same by pit_tools.instances.valuation, which test_instance.py compares with the
+    plain computation. The plain one tests all pairs of blocks, so it is too slow for
+    thousands."""
     base = os.path.join(str(folder), name)
     shared.write(base + ".plan", plan)
     for number, text in enumerate(zones):
@@ -62,7 +63,7 @@ def six_blocks(folder, *changes, name="mine"):
 
 
 def deposit(folder, seed=None, size=(8, 6, 5), shape="lens", K=None, name="mine"):
-    """A deposit, with one K for all zones where it is given."""
+    """A deposit, with one K for all zones if it is given."""
     made = Deposit(name, seed, size, shape)
     lines = made.plan().splitlines(True)
     if K is not None:

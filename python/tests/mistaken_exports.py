@@ -1,5 +1,5 @@
-"""Exports that gave another mine without a word, or stopped with the cause of another one: each
-stops with its own cause, is told, or gives its mine."""
+"""Exports that gave another mine silently, or stopped with the cause of another one: each
+stops with its own cause, is reported, or gives its mine."""
 from __future__ import annotations
 
 import io
@@ -16,8 +16,8 @@ ROCK = [block for block in MINE if block.is_rock]
 
 def case(name: str, files: dict[str, bytes], words: dict, told: str, rows: Optional[Rows] = None,
          mended: Optional[dict] = None, grid: str = "1000,2000,300,20,20,10") -> Export:
-    """An export with a pattern of what stops it or, where `rows` has its mine, of what is told
-    besides; and with words that are changed for the mine, where the first ones stop."""
+    """An export with a pattern of what stops it or, if `rows` has its mine, of what else is
+    reported; and with arguments that are changed for the mine, if the first ones stop."""
     if rows is None:
         return Export(name, files, words, {}, refused=told)
     if mended:
@@ -34,7 +34,7 @@ def metal(name: str, factor: float = 1.0) -> dict[str, bytes]:
 
 
 def copper(block) -> str:
-    """A second metal, which a third of the blocks lack."""
+    """A second metal, which is missing in a third of the blocks."""
     return "" if block.grade is None or (block.i + block.j) % 3 == 0 else dec(block.grade // 2, 6)
 
 

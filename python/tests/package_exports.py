@@ -1,5 +1,5 @@
-"""More exports of the mine of `exports`: kinds that went wrong once, and what mining packages
-write. One that no words can read has no rows, and `refused` names its cause."""
+"""More exports of the mine of `exports`: kinds that failed once, and what mining packages
+write. One that no arguments can read has no rows, and `refused` names its cause."""
 from __future__ import annotations
 
 import datetime
@@ -20,7 +20,8 @@ INDICES = {"i": "I", "j": "J", "k": "K", "first": "1000,2000,300", "size": "20,2
 
 
 def book(sheets: dict[str, list[list]], shown: Optional[dict[str, str]] = None) -> bytes:
-    """A workbook of these sheets; `shown` has number formats of columns, by their letters."""
+    """Returns a workbook of these sheets; `shown` has number formats of columns, by their
+    letters."""
     import openpyxl
     made = openpyxl.Workbook()
     made.remove(made.active)
@@ -45,7 +46,7 @@ HEADER = HEAD.split(",")
 
 
 def sizes_exports() -> Iterable[Export]:
-    """Rows with sizes of their own."""
+    """Rows with columns for sizes."""
     triples = [[b for b in MINE if b[:3] in ((i, j, k), (i + 1, j, k), (i + 2, j, k))]
                for i in (0, 3) for j in range(NY) for k in range(NZ)]
     wide = [triple for triple in triples
@@ -134,7 +135,7 @@ def sizes_exports() -> Iterable[Export]:
 
 
 def repeated_exports() -> Iterable[Export]:
-    """Rows that stand twice."""
+    """Repeated rows."""
     both = PLAIN + PLAIN.partition("\n")[2]
     yield Export("each row twice", {"a.csv": both.encode()}, {**USUAL, "drop_repeats": True},
                  truth(), refused="--drop-repeats takes each once", first={"drop_repeats": False})
@@ -167,7 +168,7 @@ def repeated_exports() -> Iterable[Export]:
 
 
 def workbook_exports() -> Iterable[Export]:
-    """Workbooks as people keep them."""
+    """Workbooks as people store them."""
     benches = {"Benches 1-4": [HEADER, *(cells(b) for b in MINE if b.k < 4)],
                "Notes": [["by a geologist"]],
                "Benches 5-7": [HEADER, *(cells(b) for b in MINE if b.k > 3)]}
@@ -333,7 +334,7 @@ def placed_exports() -> Iterable[Export]:
 
 
 def no_grid_exports() -> Iterable[Export]:
-    """Models that lie on no level grid, and texts that are no tables: each is refused with its
+    """Models that are on no level grid, and texts that are no tables: each is refused with its
     cause."""
     along, across = math.cos(math.radians(12)), math.sin(math.radians(12))
 

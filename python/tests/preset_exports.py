@@ -1,5 +1,5 @@
-"""Exports of the mine of `exports` as `--package` reads them: with sizes of sub-blocks, turned and
-dipping. Their coordinates are turned here, by nothing of the package."""
+"""Exports of the mine of `exports` as `--package` reads them: with sizes of sub-blocks, turned
+and dipping. Their coordinates are turned here, without the package."""
 from __future__ import annotations
 
 import math
@@ -25,7 +25,7 @@ class Piece(NamedTuple):
 
 def pieces(is_cut: Callable[[Block], bool] = lambda b: (b.i + b.j) % 3 == 0,
            none: str = "-99") -> list[Piece]:
-    """Rock in whole blocks, and in eight parts each where it is cut."""
+    """Rock in complete blocks, or in eight parts each if it is cut."""
     found = []
     for block in (b for b in MINE if b.is_rock):
         if not is_cut(block):
@@ -259,7 +259,7 @@ def deswik_exports() -> Iterable[Export]:
 
 
 def larger_exports() -> Iterable[Export]:
-    """Blocks that are regularised to greater ones."""
+    """Blocks that are regularised to larger ones."""
     def rows(found: list[Block]) -> dict:
         sums: dict = {}
         for block in found:

@@ -1,4 +1,4 @@
-"""A pit goes back: coordinates, the rows of exports, a report and sections."""
+"""Moves a pit back into the export: coordinates, the rows of exports, a report and sections."""
 import csv
 import re
 
@@ -77,7 +77,7 @@ def test_blocks_come_back_to_their_centroids(base, tmp_path):
 
 
 def test_a_row_of_two_blocks_has_the_mean_of_what_is_mined(base, tmp_path, monkeypatch):
-    """A row 40 m long lies on two blocks, of which one is mined."""
+    """A row 40 m long covers two blocks, of which one is mined."""
     monkeypatch.chdir(tmp_path)
     lines = ["XC,YC,ZC,XINC,YINC,ZINC,T,AU,ZONE", "110,200,50,40,20,10,21600,1,west"]
     lines += [f"{100 + 20 * x},{200 + 20 * y},{50 + 10 * z},20,20,10,10800,1,"
@@ -101,7 +101,7 @@ def test_a_row_of_two_blocks_has_the_mean_of_what_is_mined(base, tmp_path, monke
     assert rows[1][-5] == "0.75" and rows[1][-2:] == ["0.25", "0.5"]
 
 
-def test_a_line_without_a_share_has_the_whole_block(base, tmp_path, capsys):
+def test_a_line_without_a_share_has_the_complete_block(base, tmp_path, capsys):
     split, whole = block_number((2, 1, 0)), block_number((0, 0, 2))
     schedule = written(tmp_path / "schedule",
                        [f"{split} 1 1 0.25", f"{split} 1 2 0.75", f"{whole} 0 2"])
@@ -114,8 +114,8 @@ def test_a_line_without_a_share_has_the_whole_block(base, tmp_path, capsys):
 
 
 def export_of(kind):
-    """The lines of an export with a title row of units, noise, or turned or cut in two, and the
-    words of import."""
+    """The lines of an export with a title row of units, noise, or turned or cut in two, and
+    the arguments of import."""
     words = ["--tonnes", "T", "--grade", "AU", "--zone", "ROCK", "--x", "XC", "--y", "YC", "--z",
              "ZC"]
     lines = ["HOLE;XC;YC;ZC;T;AU;ROCK"]
@@ -158,7 +158,7 @@ def test_every_row_of_the_export_has_what_its_block_has(base, tmp_path, capsys, 
     assert told[-1].endswith(";;")
 
 
-def test_the_report_by_hand(base, tmp_path, capsys):
+def test_the_report_worked_out_manually(base, tmp_path, capsys):
     places = [(1, 1, 0), (1, 1, 1), (1, 1, 2), (0, 0, 2)]
     schedule = written(tmp_path / "schedule",
                        [f"{block_number(place)} {at // 3} {0 if place[2] < 2 else 2}"
@@ -176,7 +176,8 @@ def test_the_report_by_hand(base, tmp_path, capsys):
 
 
 def test_the_report_as_csv_and_workbook_has_the_numbers_of_the_text(base, tmp_path, capsys):
-    """The value of the schedule above by hand, heads with units, and the lines of the text."""
+    """The value of the schedule above, worked out manually, headers with units, and the lines
+    of the text."""
     places = [(1, 1, 0), (1, 1, 1), (1, 1, 2), (0, 0, 2)]
     lines = [f"{block_number(place)} {at // 3} {0 if place[2] < 2 else 2}"
              for at, place in enumerate(places)]
@@ -203,7 +204,7 @@ def test_the_report_as_csv_and_workbook_has_the_numbers_of_the_text(base, tmp_pa
     assert [every[name] for name in names] == ["21622", "21611", "2.5", "0.9995"]
     heights = [(row["name"], row["z (m)"]) for row in rows if row["part"] == "bench"]
     assert heights == [("2", "70"), ("1", "60"), ("0", "50"), ("all", "")]
-    # Each number of the text stands in the table, and each of the table in its sheet.
+    # Each number of the text is in the table, and each of the table in its sheet.
     cells = (cell for row in rows for cell in row.values())
     numbers = {float(cell) for cell in cells if re.fullmatch(r"-?[0-9.]+", cell)}
     for text in re.findall(r" (-?[0-9,]+\.[0-9]+)(?= |\n)", told):
@@ -228,8 +229,8 @@ def test_the_empty_pit_is_reported(base, tmp_path, capsys):
     assert (tmp_path / "a.csv").read_text().splitlines()[1] == "bench,all,,0,0,0,0,0,0,,0"
 
 
-def test_shares_by_period_stand_on_the_rows_of_the_export(base, tmp_path, capsys):
-    """A block over two periods and two destinations, one whole, and rows of two blocks."""
+def test_shares_by_period_are_on_the_rows_of_the_export(base, tmp_path, capsys):
+    """A block over two periods and two destinations, one complete, and rows of two blocks."""
     lines, words = export_of("plain")
     export = written(tmp_path / "export.csv", lines)
     assert main(["import", export, *words, "--out", str(tmp_path / "from")]) == 0
@@ -280,8 +281,8 @@ def test_an_export_that_was_changed_since_is_refused(base, tmp_path, capsys, cha
     assert main(onto) == 0
 
 
-def test_mined_blocks_without_a_row_are_told(base, tmp_path, capsys):
-    """An export of a part of the blocks, as where an instance is made of two."""
+def test_mined_blocks_without_a_row_are_reported(base, tmp_path, capsys):
+    """An export of a part of the blocks, as when an instance is made from two."""
     lines, words = export_of("plain")
     export = written(tmp_path / "export.csv", lines[:1] + lines[3:])
     assert main(["import", export, *words, "--out", str(tmp_path / "from")]) == 0
@@ -299,7 +300,7 @@ def test_mined_blocks_without_a_row_are_told(base, tmp_path, capsys):
     (["report", "{plan}", "{base}", "{bad}"], "line 2: no line of a pit or a schedule"),
     (["back", "{plan}", "{base}", "{good}", "--onto", "{good}"],
      "not what `pit-tools import` writes")])
-def test_what_is_wrong_is_told_in_a_line(base, tmp_path, capsys, words, told):
+def test_what_is_wrong_is_reported_in_a_line(base, tmp_path, capsys, words, told):
     names = dict(plan=base + ".plan", base=base, bad=written(tmp_path / "bad", ["1", "99"]),
                  good=written(tmp_path / "good", ["1"]))
     assert main([word.format(**names) for word in words]) == 2

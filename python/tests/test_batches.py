@@ -1,4 +1,4 @@
-"""Batches, by a program that stands for pitc: tools/plain.py."""
+"""Batches, with a program in place of pitc: tools/plain.py."""
 import csv
 import fcntl
 import os
@@ -111,7 +111,7 @@ def read(name="MANIFEST"):
 
 
 def calls():
-    """The instances that were compiled since they were asked for last."""
+    """Returns the instances that were compiled since the last call."""
     found = read("calls").split() if os.path.exists("calls") else []
     open("calls", "w").close()
     return found
@@ -164,7 +164,7 @@ def test_options_go_to_each_run(here):
     assert "options: --valuers 1\n" in read("BUILD")
 
 
-def test_thin_files_stand_beside_whole_ones_and_the_pit_is_found_by_them(here):
+def test_thin_files_can_be_next_to_complete_ones_and_the_pit_is_found_by_them(here):
     program(here, "pitc_thin")
     _, whole = run_batch(thin=os.path.abspath("pitc_thin"))
     assert whole and is_accepted() and "  one.thin\n" in read() and "  pitc_thin\n" in read("BUILD")
@@ -246,7 +246,7 @@ def test_a_file_of_another_kind_stays(here, capsys, name):
     assert f"{name}: " in capsys.readouterr().err and read(name) == "mine\n" and calls() == []
 
 
-def test_nothing_is_taken_away_where_pitc_does_not_work(here, capsys):
+def test_nothing_is_taken_away_if_pitc_does_not_work(here, capsys):
     run_batch()
     before = {name: read(name) for name in ("MANIFEST", "SIZES", "BUILD", "RECORD", "one.blocks")}
     for text, told in (("#!/bin/false\n", "--version ends with 1"),
@@ -266,14 +266,14 @@ def test_nothing_is_taken_away_where_pitc_does_not_work(here, capsys):
     (["--jobs", "2", "--scheduler", "tcp://127.0.0.1:1"], "goes without --jobs"),
     (["--join", ".", "--part", "1/2"], "goes without --part"),
     (["--join", ".", "--continue"], "goes without --continue")])
-def test_words_that_do_not_fit_are_told(here, capsys, words, told):
+def test_words_that_do_not_fit_are_reported(here, capsys, words, told):
     (here / "LIST").write_text(ONE)
     assert main(["batch", "LIST", *([] if "--join" in words else ["--pitc", "./pitc"]),
                  *words]) == 2
     assert told in capsys.readouterr().err and calls() == []
 
 
-# What fails leaves no manifest
+# A failure leaves no manifest
 
 
 def test_a_plan_that_is_refused_leaves_no_manifest_and_what_was_there(here):
@@ -286,8 +286,8 @@ def test_a_plan_that_is_refused_leaves_no_manifest_and_what_was_there(here):
     assert len(open("SIZES").readlines()) == 2
 
 
-def test_a_batch_stops_where_nothing_succeeds(here, capsys):
-    """One that is whole, or kept, lets it go on to the end."""
+def test_a_batch_stops_if_nothing_succeeds(here, capsys):
+    """One instance that is made, or that an earlier run made, lets the batch continue to the end."""
     for name in ("two", "three", "four"):
         (here / f"{name}.plan").write_text("refused\n")
     bad = [f"{name}.plan 'six blocks.csv'\n" for name in ("two", "three", "four")]
@@ -305,7 +305,7 @@ def test_a_batch_stops_where_nothing_succeeds(here, capsys):
     assert calls() == ["one"] and main([*words[:-1], "0"]) == 2
 
 
-def test_an_input_that_changes_behind_its_compile_is_told(here):
+def test_an_input_that_changes_after_its_compile_is_reported(here):
     open("changing", "w").close()
     batch, whole = run_batch(ONE)
     assert not whole and batch.failed == ["one.plan: six blocks.csv was changed while the instance "
@@ -314,7 +314,7 @@ def test_an_input_that_changes_behind_its_compile_is_told(here):
 
 
 @pytest.mark.parametrize("name", ["six blocks.csv", "one.plan", "LIST"])
-def test_an_input_that_changes_between_two_instances_is_told(here, name):
+def test_an_input_that_changes_between_two_instances_is_reported(here, name):
     def engine(step, entries):
         for found in in_turn(step, entries):
             yield found
@@ -326,7 +326,7 @@ def test_an_input_that_changes_between_two_instances_is_told(here, name):
             and not os.path.exists("MANIFEST"))
 
 
-def test_a_program_that_is_replaced_meanwhile_is_told(here):
+def test_a_program_that_is_replaced_meanwhile_is_reported(here):
     def engine(step, entries):
         yield from in_turn(step, entries)
         with open("pitc", "a") as file:
@@ -340,12 +340,12 @@ def test_a_program_that_is_replaced_meanwhile_is_told(here):
 
 @pytest.mark.parametrize("most, begins", [(200, False), (700, True), (900, True)])
 def test_a_disk_that_takes_no_more_leaves_no_manifest(here, most, begins):
-    """Where not even RECORD can be begun, nothing is changed, and the manifest of the batch before
-    stays."""
+    """If not even RECORD can be begun, nothing is changed, and the manifest of the batch
+    before stays."""
     run_batch()
     before = read()
     words = [sys.executable, "-m", "pit_tools", "batch", "LIST", "--pitc", "./pitc"]
-    # Without compiled modules: Python would leave halves of these.
+    # Without compiled modules: Python would leave half-written ones.
     done = subprocess.run(words, env={**environment(), "PYTHONDONTWRITEBYTECODE": "1"},
                           capture_output=True, text=True,
                           preexec_fn=lambda: resource.setrlimit(resource.RLIMIT_FSIZE,
@@ -381,7 +381,7 @@ def test_two_batches_in_one_folder_are_refused(here, capsys):
     assert main(["batch", "LIST", "--pitc", "./pitc"]) == 0
 
 
-def test_parts_run_beside_one_another_and_none_twice(here, capsys):
+def test_parts_run_in_parallel_and_none_twice(here, capsys):
     (here / "LIST").write_text(ONE + TWO)
     with held(how=fcntl.LOCK_SH), held(f"{LOCK}-1-of-2"):
         assert main(["batch", "LIST", "--pitc", "./pitc", "--part",
@@ -392,10 +392,10 @@ def test_parts_run_beside_one_another_and_none_twice(here, capsys):
             and not os.path.exists("MANIFEST"))
 
 
-# Going on
+# Continuing
 
 
-def test_what_is_whole_is_kept_by_its_sums(here, capsys):
+def test_what_is_complete_is_kept_by_its_sums(here, capsys):
     run_batch()
     before = read()
     calls()
@@ -413,7 +413,7 @@ def test_what_is_whole_is_kept_by_its_sums(here, capsys):
     assert whole and calls() == ["one"] and read() != before and is_accepted()
 
 
-def test_what_a_killed_batch_left_beside_its_tables_goes(here):
+def test_what_a_killed_batch_left_next_to_its_tables_goes(here):
     for name in ("MANIFEST.unfinished-7", "SIZES.before-7.12", "RECORD.unfinished-7", "notes",
                  "MANIFESTO.unfinished-7", "MANIFEST.unfinished-x", "RECORD-1-of-2.unfinished-7"):
         (here / name).write_text("x")
@@ -430,7 +430,7 @@ def test_what_another_build_made_is_made_anew(here):
 
 
 def begun(words):
-    """A process of its own that runs a command."""
+    """A new process that runs a command."""
     process = os.fork()
     if process == 0:
         status = 99
@@ -442,13 +442,13 @@ def begun(words):
 
 
 def ended(process):
-    """The status of a process, below 0 where a signal ended it."""
+    """Returns the status of a process, below 0 if a signal ended it."""
     return os.waitstatus_to_exitcode(os.waitpid(process, 0)[1])
 
 
 @pytest.mark.parametrize("jobs", [1, 3])
-def test_a_batch_that_is_killed_goes_on_to_the_same_sums(pitc, here, jobs):
-    """Ended at random moments, and once more while it goes on: no manifest stands of less than
+def test_a_batch_that_is_killed_continues_to_the_same_sums(pitc, here, jobs):
+    """Ended at random moments, and again while it continues: no manifest remains of less than
     all."""
     names = [f"mine{number}" for number in range(8)]
     for name in names:
@@ -482,8 +482,8 @@ def begin_anew(names):
 
 
 def with_patience(words):
-    """The status of a command, tried again for as long as what is left of a killed one holds the
-    folder."""
+    """Returns the status of a command, tried again for as long as the remains of a killed one
+    hold the folder."""
     for _ in range(600):
         status = ended(begun(words))
         if status != 2:
@@ -506,7 +506,7 @@ def test_several_at_a_time_make_the_same(here):
 
 
 def test_a_batch_ends_in_a_program_that_has_used_a_solver(here):
-    """HiGHS keeps threads, which a copy of this process would wait for and not have."""
+    """HiGHS has threads, which a copy of this process would wait for and not have."""
     mine = read_instance(mines.six_blocks(here))
     assert programs._solved(program_of(mine.cpit, mine.precedence), None, 0.0, None).status == "best"
     (here / "pickle.py").write_text("raise SystemExit(7)\n")
@@ -516,8 +516,8 @@ def test_a_batch_ends_in_a_program_that_has_used_a_solver(here):
 
 
 def test_processes_end_though_one_ended_with_a_lock(here, monkeypatch):
-    """Told to end while it makes an instance, a process would go on to wait for the next one; where
-    another one had ended with the lock of the queue, for ever."""
+    """When a process gets TERM while it makes an instance, it would continue and wait for the
+    next one; if another one had ended with the lock of the queue, for ever."""
     (here / "pitc").write_text((here / "pitc").read_text().replace(
         'elif words[0] == "compile"', 'elif __import__("time").sleep(60) or words[0] == "compile"'))
     monkeypatch.setattr(engines, "PATIENCE", 1)
@@ -544,7 +544,7 @@ def test_processes_end_though_one_ended_with_a_lock(here, monkeypatch):
     assert not os.path.exists("MANIFEST") and left_of() == []
 
 
-def test_a_process_that_is_ended_from_outside_is_told(here):
+def test_a_process_that_is_ended_from_outside_is_reported(here):
     (here / "pitc").write_text((here / "pitc").read_text().replace(
         'elif words[0] == "compile"', 'elif os.kill(os.getppid(), 9) or words[0] == "compile"'))
     with pytest.raises(UserError, match="a process of the batch was ended from outside"):
@@ -553,8 +553,7 @@ def test_a_process_that_is_ended_from_outside_is_told(here):
 
 
 def parts_of(here, count, folder_of):
-    """Makes the parts of LIST, each in a folder of its own that has LIST and the inputs, or all in
-    one."""
+    """Makes the parts of LIST, each in its own folder with LIST and the inputs, or all in one."""
     for number in range(1, count + 1):
         folder = here / folder_of(number)
         folder.mkdir(exist_ok=True)
@@ -591,7 +590,7 @@ def test_parts_are_joined_to_the_batch_that_one_run_makes(here, folder_of, capsy
                            "two.plan: part2/two.upit is not the one"),
                           (lambda: shutil.copy("one.plan", "two.plan"),
                            "two.plan: two.plan is not the one that part2/RECORD-2-of-2 names")])
-def test_parts_that_lack_something_are_not_joined(here, capsys, damage, told):
+def test_parts_that_are_incomplete_are_not_joined(here, capsys, damage, told):
     (here / "LIST").write_text(ONE + TWO)
     parts_of(here, 2, "part{}".format)
     damage()

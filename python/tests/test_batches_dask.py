@@ -19,19 +19,19 @@ NAMES = [f"mine{number}" for number in range(12)]
 
 LIST = "".join(f"{name}.plan 'six blocks.csv'\n" for name in NAMES)
 
-#: Of a program that waits, so that a worker is killed while it makes an instance.
+#: With a program that waits, so that a worker is killed while it makes an instance.
 SLOW = 'elif words[0] == "compile" or is_thin:\n    import time\n    time.sleep(0.5)\n'
 
 
 def begun(command, *words):
-    """A process of distributed that hears on this machine alone."""
+    """A process of distributed that listens on this machine alone."""
     words = [sys.executable, "-m", f"distributed.cli.dask_{command}", "--host", "127.0.0.1", *words]
     return subprocess.Popen(words, env=environment(), stdout=subprocess.DEVNULL,
                             stderr=subprocess.DEVNULL)
 
 
 def waited(is_so, seconds=600):
-    """Waits until something is so."""
+    """Waits until a condition holds."""
     end = time.monotonic() + seconds
     while not is_so():
         assert time.monotonic() < end
@@ -90,7 +90,7 @@ def test_a_worker_that_is_killed_loses_nothing(cluster):
                  "--continue"]) == 0 and left_of() == [] and read() == wanted
 
 
-def test_a_scheduler_that_is_not_there_is_told(here, capsys):  # noqa: F811
+def test_a_scheduler_that_is_missing_is_reported(here, capsys):  # noqa: F811
     pytest.importorskip("distributed")
     with open("LIST", "w") as file:
         file.write("one.plan 'six blocks.csv'\n")
@@ -99,7 +99,7 @@ def test_a_scheduler_that_is_not_there_is_told(here, capsys):  # noqa: F811
             and not os.path.exists("MANIFEST"))
 
 
-def test_a_python_without_distributed_is_told(monkeypatch):
+def test_a_python_without_distributed_is_reported(monkeypatch):
     monkeypatch.setitem(sys.modules, "distributed", None)
     with pytest.raises(UserError, match="apt-get install --no-install-recommends python3-distributed"):
         engines.by_dask("tcp://127.0.0.1:1")

@@ -1,4 +1,4 @@
-"""Solvers over a list of instances: their limits, what is judged, and a bench that goes on."""
+"""Solvers over a list of instances: their limits, what is checked, and a bench that continues."""
 import csv
 import os
 import shutil
@@ -25,13 +25,13 @@ MARK = "PIT_TOOLS_TEST_MARK"
 
 @pytest.fixture
 def marked(monkeypatch):
-    """Marks what is started, so that what is left of it is found."""
+    """Marks what is started, so that what remains of it is found."""
     monkeypatch.setenv(MARK, f"{os.getpid()}-{time.monotonic()}")
     return os.environ[MARK]
 
 
 def left_of(mark):
-    """Processes with this mark, but for this one and the interpreters of a test."""
+    """Returns the processes with this mark, except this one and the interpreters of a test."""
     found = []
     for name in filter(str.isdigit, os.listdir("/proc")):
         try:
@@ -81,7 +81,7 @@ def test_a_program_that_ends_at_once_is_seen():
         assert child.stdout.read() == "status 0\n"
 
 
-# A process in a session of its own that heeds no TERM, of a parent that has ended.
+# A process in its own session that ignores TERM, whose parent has ended.
 HIDDEN = ("import os, signal, time\n"
           "if os.fork() == 0:\n"
           "    os.setsid()\n"
@@ -165,7 +165,8 @@ def test_places_are_filled_without_a_shell():
     ('cat "{cpit}" > {out}', "cpit"), ("cat {cpit} > '{out}'", "out"),
     ("sh -c 'cat {out}'", "out"), ('cat {out} > "a {out}"', "out")])
 def test_a_place_within_quotes_of_a_shell_is_refused(text, place):
-    """Its file would have quotes in its name, or the command would break, if a path has a blank."""
+    """Its file would have quotes in its name, or the command would fail, if a path has a
+    blank."""
     with pytest.raises(UserError, match=rf"\{{{place}\}} stands within quotes"):
         read_solver(text, by_shell=True)
     read_solver(text)
@@ -201,7 +202,7 @@ def instance(folder, name, values=(5.0, -1.0, 3.0)):
                             replace(cpit, kind="PCPSP"), cpit), os.path.join(folder, name))
 
 
-#: What a solver writes for an instance, by a letter of its name, and what becomes of that.
+#: What a solver writes for an instance, by a letter of its name, and the outcome.
 SOLVER = """
 import os, sys, time
 name, out = sys.argv[1:3]
@@ -277,7 +278,7 @@ def test_what_solvers_find_is_judged(here, capsys):
             "bench.csv", "bench.svg", "LIST", "a1.cpit", "a1.prec"}
 
 
-def test_a_bench_goes_on_where_it_was_cut(here, capsys):
+def test_a_bench_continues_from_its_cut(here, capsys):
     assert bench() == 0
     whole = open("bench.csv").read()
     assert calls() == NAMES and bench("--continue") == 0 and not os.path.exists("calls")
@@ -301,7 +302,7 @@ def test_what_was_changed_is_run_again(here, capsys):
     assert "other limits" in capsys.readouterr().err
 
 
-def test_a_killed_worker_and_a_bench_that_goes_on(here, capsys):
+def test_a_killed_worker_and_a_bench_that_continues(here, capsys):
     assert bench() == 0
     wanted = rows()
     for name in ("bench.runs", "bench.csv", "calls"):
@@ -327,7 +328,7 @@ def test_parts_are_joined(here, capsys):
     assert names < set(os.listdir("."))
 
 
-def test_a_bench_stops_where_nothing_succeeds(here, capsys):
+def test_a_bench_stops_if_nothing_succeeds(here, capsys):
     with open("LIST", "w") as file:
         file.write("c1\nd1\ne1\n")
     assert bench("--stop-at", "2") == 1 and calls() == ["c1", "d1"]
@@ -380,13 +381,13 @@ def test_the_pit_that_bounds_is_of_the_values_of_the_problem(here, monkeypatch):
     assert [(row["bound"], row["bound_of"]) for row in rows()] == [("7.00", "pit")]
 
 
-def test_a_file_that_a_solver_changes_is_told(here, capsys):
+def test_a_file_that_a_solver_changes_is_reported(here, capsys):
     command = f"bad={sys.executable} -c 'open(\"{{cpit}}\", \"a\").write(\"\\n\")' {{out}}"
     assert main(["bench", "LIST", "--solver", command, "--bounds", "0"]) == 1
     assert "bad on a1: a file of the instance was changed meanwhile" in capsys.readouterr().err
 
 
-def test_profiles_are_by_the_least_seconds():
+def test_profiles_are_by_the_fewest_seconds():
     def cells(seconds, worth, ended="status 0", schedule="feasible"):
         return {"ended": ended, "schedule": schedule, "worth": worth, "seconds": seconds}
 

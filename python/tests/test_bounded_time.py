@@ -1,5 +1,5 @@
-"""Readers take time in proportion to what they read: padded, repeated and nested text of growing
-size, by processor time, with a wide margin."""
+"""Readers take time in proportion to what they read: padded, repeated and nested text of
+growing size, by processor time, with a wide margin."""
 import contextlib
 import gzip
 import io
@@ -39,7 +39,7 @@ from pit_tools.texts.lines import Told
 # size takes 256 times as long for the large one, and by the margin it may take 80 times.
 SMALL, LARGE = 1 << 13, 1 << 17
 MARGIN = 80
-# Seconds below which a clock says little, and after which a run is broken off.
+# Seconds below which a clock is inaccurate, and after which a run is stopped.
 LEAST, MOST = 0.01, 20.0
 
 #: What is repeated up to the size, some within two others.
@@ -58,7 +58,7 @@ def repeated(name, size):
 
 
 def seconds_of(step, *words):
-    """The processor time of a step, which may refuse what it reads."""
+    """Returns the processor time of a step, which may reject what it reads."""
     def broken_off(*_):
         raise AssertionError(f"it takes more than {MOST:g} s of processor time")
     before = signal.signal(signal.SIGVTALRM, broken_off)
@@ -75,7 +75,7 @@ def seconds_of(step, *words):
 
 
 def tried(step, *words):
-    """Takes a step, which may refuse what it reads."""
+    """Runs a step, which may reject what it reads."""
     with contextlib.suppress(UserError):
         step(*words)
 
@@ -94,7 +94,7 @@ ROWS = "".join(f"{x},{y},{z},1000,{x % 3}.5,a\n" for x in (0, 10, 20) for y in (
                for z in (0, 10))
 WORDS = ["--x", "X", "--y", "Y", "--z", "Z", "--tonnes", "T", "--grade", "AU", "--zone", "ZONE"]
 
-#: An export around a hostile text, and the texts that what is read there may take long over.
+#: An export around a hostile text, and the texts that its reader may take long over.
 EXPORTS = {
     "row": (HEAD + ROWS + "{}\n", "blanks digits commas quotes quoted lines ends comments"),
     "cell": (HEAD + ROWS + "0,0,20,1000,{},a\n",
@@ -220,7 +220,7 @@ def test_a_list_of_plans_has_lines_of_measure(tmp_path):
         read_list(str(tmp_path / "LIST"))
 
 
-# Files of lines, which are read whole
+# Files of lines, which are read as a whole
 
 HEADER = ("NAME: a\nTYPE: {}\nNBLOCKS: 1\nNPERIODS: 2\nNDESTINATIONS: 1\nDISCOUNT_RATE: 0.1\n"
           "NRESOURCE_SIDE_CONSTRAINTS: 1\nNGENERAL_SIDE_CONSTRAINTS: 0\nOBJECTIVE_FUNCTION:\n0 1\n"
@@ -242,7 +242,7 @@ def published(kind):
                                                       Told())
 
 
-#: What reads a file of lines, and what stands around a hostile text.
+#: What reads a file of lines, and what surrounds a hostile text.
 READERS = {
     "blocks": (files.read_blocks, "{}", "0 0 0 0 1 {} 0\n", "% {}\n0 0 0 0 1 1 0\n"),
     "prec": (files.read_precedence, "{}", "0 0\n1 1 {}\n"),
@@ -334,7 +334,7 @@ def test_a_file_of_json_has_a_measure(tmp_path, text):
         read_imported(str(path))
 
 
-def test_a_vast_file_beside_is_not_read_as_a_record(tmp_path):
+def test_a_vast_file_next_to_it_is_not_read_as_a_record(tmp_path):
     path = tmp_path / "a.sums"
     with open(path, "wb") as file:
         file.truncate(1 << 32)

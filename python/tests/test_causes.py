@@ -1,5 +1,5 @@
-"""Each cause of a fault has a line of its own: words, files and tables that once ended in a fault of
-the program, in a file that lacked something, or in an answer to another question."""
+"""Each cause of an error has its own line: arguments, files and tables that once ended in a
+failure of the program, in an incomplete file, or in a result for another question."""
 import csv
 import io
 import json
@@ -26,7 +26,7 @@ EXPORT = "X,Y,Z,T,AU,ZONE\n" + "".join(f"{x},{y},{z},2700,{x % 3}.5,{'west' if x
 
 WORDS = ["--x", "X", "--y", "Y", "--z", "Z", "--tonnes", "T", "--grade", "AU"]
 
-#: Files that words below name, beside the mine of six blocks.
+#: Files that the arguments below name, besides the mine of six blocks.
 FILES = {
     "LIST": "mine.plan mine-0.csv\n", "export.csv": EXPORT, "two": "²\n", "long": "9" * 5000 + "\n",
     "ids": "0 1\n1 99999999999999999999\n", "inf.schedule": "0 0 0 1\n3 0 0 inf\n",
@@ -53,7 +53,7 @@ def files_of(folder):
 
 
 def refused(words, capsys):
-    """The line in which a command refuses its words."""
+    """Returns the line with which a command rejects its arguments."""
     assert main(words) == 2
     error = capsys.readouterr().err
     assert error.startswith(f"pit-tools {words[0]}: ") and error.count("\n") == 1
@@ -113,7 +113,7 @@ REFUSED = [
 
 
 @pytest.mark.parametrize("words, told", REFUSED, ids=[" ".join(words)[:60] for words, _ in REFUSED])
-def test_words_that_cannot_be_right_are_told_in_a_line(here, capsys, words, told):
+def test_words_that_cannot_be_right_are_reported_in_a_line(here, capsys, words, told):
     before = files_of(here)
     assert told in refused(words, capsys)
     assert files_of(here) == before
@@ -137,7 +137,7 @@ def test_a_number_of_an_option_has_digits_of_ascii(here, capsys, option, number)
     assert f"argument {option}: invalid" in capsys.readouterr().err
 
 
-def test_a_cell_of_a_plan_that_is_too_long_is_told(monkeypatch, tmp_path):
+def test_a_cell_of_a_plan_that_is_too_long_is_reported(monkeypatch, tmp_path):
     (tmp_path / "a.plan").write_text('name,"' + "x" * 2000)
     before = csv.field_size_limit(1000)
     try:
@@ -186,7 +186,7 @@ TABLES = {"one-column": "zone\nwest\n", "short-row": "ZONE,zone\nwest,left\neast
 
 @pytest.mark.parametrize("words, told", REFUSED_IMPORTS,
                          ids=[" ".join(words)[:50] for words, _ in REFUSED_IMPORTS])
-def test_what_import_cannot_read_so_is_told_in_a_line(here, capsys, words, told):
+def test_what_import_cannot_read_so_is_reported_in_a_line(here, capsys, words, told):
     for name, text in TABLES.items():
         (here / name).write_bytes(text.encode("utf-8", "surrogateescape"))
     assert told in refused(["import", "export.csv", *WORDS, *words], capsys)
@@ -222,7 +222,7 @@ def test_a_text_of_another_encoding_than_is_named_is_not_read_with_holes(here, c
 
 
 def test_an_encoding_goes_by_any_of_its_names(here, capsys, monkeypatch):
-    """Where pieces of bytes were cut behind an LF, each further piece of UTF-16 was garbled."""
+    """If chunks of bytes were cut after an LF, each further chunk of UTF-16 was garbled."""
     monkeypatch.setattr(source, "PIECE", 512)
     text = EXPORT.replace("west", '"west"')
     for name in ("UTF16", "utf_16_le", "UTF-16BE", "utf-32"):
@@ -231,7 +231,7 @@ def test_an_encoding_goes_by_any_of_its_names(here, capsys, monkeypatch):
         assert "16 rows read" in capsys.readouterr().out
 
 
-def test_lines_that_end_with_cr_alone_are_read_in_pieces(here, capsys, monkeypatch):
+def test_lines_that_end_with_cr_alone_are_read_in_chunks(here, capsys, monkeypatch):
     monkeypatch.setattr(source, "PIECE", 100)
     monkeypatch.setattr(source, "MOST_LINE", 60)
     (here / "mac.csv").write_bytes(EXPORT.replace("\n", "\r").encode())
@@ -244,7 +244,7 @@ def test_lines_that_end_with_cr_alone_are_read_in_pieces(here, capsys, monkeypat
                                         ("\n" * 30 + EXPORT.replace("AU", "CU"), "no column `AU`"),
                                         ("a title\n" + "9" * 5000 + "\nX\n1\n2\n", "no column `Y`")],
                          ids=["blank", "blank, then another", "a long number"])
-def test_lines_before_a_header_that_is_not_there(here, capsys, text, told):
+def test_lines_before_a_header_that_is_missing(here, capsys, text, told):
     (here / "other.csv").write_text(text)
     assert told in refused(["import", "other.csv", *WORDS], capsys)
 
@@ -278,7 +278,7 @@ def test_a_workbook_of_any_name_is_read(here, capsys):
         assert main(["import", name, *WORDS]) == 0 and "16 rows read" in capsys.readouterr().out
 
 
-def test_a_damaged_workbook_is_read_or_told_in_a_line(here, capsys):
+def test_a_damaged_workbook_is_read_or_reported_in_a_line(here, capsys):
     content, chances = book_of(EXPORT), random.Random(7)
     cut = [content[:at] for at in chances.sample(range(4, len(content)), 12)]
     places = [*chances.sample(range(4, len(content)), 28), *range(len(content) - 20, len(content), 5)]
@@ -291,7 +291,7 @@ def test_a_damaged_workbook_is_read_or_told_in_a_line(here, capsys):
         assert status == 0 or "a.xlsx" in error
 
 
-def test_a_cell_far_from_all_others_is_told_and_an_empty_one_is_none(here, capsys, monkeypatch):
+def test_a_cell_far_from_all_others_is_reported_and_an_empty_one_is_none(here, capsys, monkeypatch):
     monkeypatch.setattr(workbook, "LEAST_PLACES", 1000)
     (here / "a.xlsx").write_bytes(book_of(EXPORT, XFD3=1.0))
     assert "reaches XFD3, and most of it is empty: clear" in refused(["import", "a.xlsx", *WORDS], capsys)
@@ -306,7 +306,7 @@ def test_a_workbook_that_grows_beyond_all_measure_is_refused(here, capsys, monke
     assert "a.xlsx: the workbook unpacks to more than" in refused(["import", "a.xlsx", *WORDS], capsys)
 
 
-# What import keeps
+# What import stores
 
 
 @pytest.mark.parametrize("key, value", [
@@ -316,7 +316,7 @@ def test_a_workbook_that_grows_beyond_all_measure_is_refused(here, capsys, monke
     ("grid", {"origin": ["0", "0", "0"], "size": ["1", "0", "1"], "blocks": [1, 1, 1]}),
     ("grid", {"origin": ["0", "0", "0"], "size": ["1", "1", "1"], "blocks": ["a", 1, 1]}),
     ("frame", {"lengths": [1, 1], "turn": None, "unit": "m"}), ("told", 7)])
-def test_a_record_of_an_import_that_was_changed_is_told(here, capsys, key, value):
+def test_a_record_of_an_import_that_was_changed_is_reported(here, capsys, key, value):
     assert main(["import", "export.csv", *WORDS, "--out", "from"]) == 0
     told = json.loads((here / "from.json").read_text())
     told[key] = value
@@ -392,7 +392,7 @@ def test_a_mine_in_which_all_grades_pay_or_none_is_surveyed(here, capsys, old, n
     assert "LOOK AT" in capsys.readouterr().out
 
 
-def test_a_model_whose_header_says_no_number_is_told_by_the_survey(here, capsys):
+def test_a_model_whose_header_says_no_number_is_reported_by_the_survey(here, capsys):
     text = (here / "mine.pcpsp").read_text()
     (here / "mine.pcpsp").write_text(text.replace("DISCOUNT_RATE: 0.08", "DISCOUNT_RATE: x"))
     told = refused(["survey", "mine.plan", "mine", "mine-0.csv"], capsys)
@@ -401,7 +401,7 @@ def test_a_model_whose_header_says_no_number_is_told_by_the_survey(here, capsys)
 
 @pytest.mark.parametrize("name, text", [("TABLE", "a b\n1 2\n"), ("TABLE", ""), ("FOUND", "\xff\0"),
                                         ("TABLE", " ".join(library.COLUMNS) + "\n" + "x " * 10 + "x")])
-def test_a_table_of_a_library_that_is_none_is_told(tmp_path, name, text):
+def test_a_table_of_a_library_that_is_none_is_reported(tmp_path, name, text):
     (tmp_path / name).write_bytes(text.encode("latin-1"))
     with pytest.raises(UserError, match=f"{name}: it is no {name} of a library"):
         library.table_of(str(tmp_path), name)

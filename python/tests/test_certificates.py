@@ -1,4 +1,5 @@
-"""Bounds of CPIT and PCPSP with their certificates: beside HiGHS, and wrong ones refused."""
+"""Bounds of CPIT and PCPSP with their certificates: compared with HiGHS, and wrong ones
+rejected."""
 import itertools
 import json
 import os
@@ -29,12 +30,12 @@ pytestmark = pytest.mark.skipif(compiled.compiler() is None, reason="no C++ comp
 
 
 def by_highs(problem, precedence):
-    """The value of the relaxation, None where limits cannot be met."""
+    """Returns the value of the relaxation, None if limits cannot be met."""
     return _solved(program_of(problem, precedence, relaxed=True), None, 0.0, None).value
 
 
 def random_problem(seed, blocks=7, lower=True):
-    """A small CPIT or PCPSP and its arcs. Limits are met where nothing is mined, but for lower
+    """A small CPIT or PCPSP and its arcs. Limits are met if nothing is mined, except lower
     ends."""
     random = np.random.default_rng(seed)
     periods, resources = int(random.integers(1, 5)), int(random.integers(0, 3))
@@ -74,7 +75,7 @@ def random_certificate(seed, problem, arcs):
                    later_flows=[random.integers(0, 10**6, count) for count in later])
 
 
-# Beside HiGHS
+# Compared with HiGHS
 
 
 @pytest.mark.parametrize("deposit", library.DEPOSITS, ids=lambda deposit: deposit.name)
@@ -99,7 +100,8 @@ def test_bounds_of_a_few_blocks_are_those_of_highs(seed):
 
 @pytest.mark.parametrize("seed", range(150))
 def test_any_prices_and_flows_prove_a_bound(seed):
-    """What the check makes of a certificate is never below what some schedule is worth."""
+    """The value that the check returns for a certificate is never below the worth of a
+    schedule."""
     problem, arcs = random_problem(seed, blocks=5, lower=seed % 2 == 0)
     value = by_highs(problem, arcs)
     if value is None or not arcs.nnz:
@@ -179,8 +181,8 @@ def test_a_hundred_periods_end_in_time():
 
 @pytest.fixture(name="proved", scope="module")
 def fixture_proved(tmp_path_factory):
-    """An instance, and its certificate for the PCPSP. Limits are so tight that pits of periods are
-    not nested by themselves: there are flows from a period to the next."""
+    """An instance, and its certificate for the PCPSP. Limits are so tight that pits of periods
+    are not nested by themselves: there are flows from a period to the next."""
     mine = read_instance(mines.deposit(tmp_path_factory.mktemp("mine"), 1, (10, 8, 6), "pipe"))
     limits = [Limit.of(limit.resource, limit.period, "L", [limit.most / (1 + limit.resource)])
               for limit in mine.pcpsp.limits]
@@ -248,7 +250,7 @@ def test_a_wrong_certificate_is_refused(proved, wrong):
 
 
 def test_a_certificate_of_another_instance_is_refused(proved):
-    """A value, a use, a limit, the rate or an arc that is another makes it another instance."""
+    """Another value, use, limit, rate or arc makes it another instance."""
     mine, one = proved
     problem, arcs = mine.pcpsp, mine.precedence
     in_pit = int(np.flatnonzero(one.first == 0)[0])
@@ -321,7 +323,7 @@ def test_factors_are_rounded_up_and_by_less_than_a_unit_each(seed):
 
 @pytest.mark.parametrize("sign", [1, -1])
 def test_discounts_are_rounded_so_that_no_factor_becomes_smaller(sign):
-    """Values whose factor lies so close to a whole unit that 64 bits of the discount decide."""
+    """Values whose factor is so close to an integer unit that 64 bits of the discount decide."""
     bits, numerator, denominator = 3, 10**18, 1333333**3
     numbers = [2**52 + at for at in range(200_000)]
     close = [number for number in numbers
@@ -388,7 +390,7 @@ def test_the_command_refuses_certificates_of_other_files(tmp_path, capsys):
     ("CPIT-header.npy", b'{"form": 1}'), ("CPIT-arcs.npy", 3), ("CPIT-header.npy", None),
     ("CPIT-later.npy", None)])
 def test_files_that_are_no_certificates_are_refused(tmp_path, capsys, name, content):
-    """Members that are damaged, too long, of another form, or lacking."""
+    """Members that are damaged, too long, of another form, or missing."""
     base = mines.six_blocks(tmp_path)
     assert main(["bounds", base, "--out", base + ".bound"]) == 0
     with zipfile.ZipFile(base + ".bound") as archive:
@@ -407,7 +409,7 @@ def test_files_that_are_no_certificates_are_refused(tmp_path, capsys, name, cont
     assert "certificates" in capsys.readouterr().err
 
 
-def test_certificates_that_would_not_end_or_not_be_told_are_refused(tmp_path, capsys):
+def test_certificates_that_would_not_end_or_not_be_reported_are_refused(tmp_path, capsys):
     """A device without an end, a pipe, members packed in another way, and numbers of any size."""
     base = mines.six_blocks(tmp_path)
     assert main(["bounds", base, "--out", base + ".bound"]) == 0

@@ -1,4 +1,4 @@
-"""How the command ends: no traceback, each fault with its name, and no code of the current
+"""How the command ends: no traceback, each error with its name, and no code of the current
 folder."""
 import errno
 import os
@@ -24,7 +24,7 @@ def ran(*words, **how):
 
 @pytest.fixture()
 def failing(monkeypatch):
-    """A function that makes `bounds` fail so."""
+    """Returns a function that makes `bounds` fail so."""
     def make(error):
         def fail(_):
             raise error
@@ -42,7 +42,7 @@ def failing(monkeypatch):
      "standard output: No space left on device\n"),
     (ImportError("no openpyxl"), 2, "a package of Python is lacking or damaged: no openpyxl\n"),
     (KeyboardInterrupt(), 130, ""), (BrokenPipeError(), 1, "")], ids=lambda one: type(one).__name__)
-def test_a_fault_is_told_in_a_line(failing, capsys, error, status, told):
+def test_a_fault_is_reported_in_a_line(failing, capsys, error, status, told):
     failing(error)
     assert main(["bounds", "mine"]) == status
     err = capsys.readouterr().err
@@ -76,7 +76,7 @@ def test_closed_and_full_streams(closes, told):
     assert (done.returncode, done.stderr) == (2 if told else 0, told)
 
 
-def test_what_is_printed_goes_into_no_file_where_output_is_closed(tmp_path):
+def test_what_is_printed_goes_into_no_file_if_output_is_closed(tmp_path):
     done = subprocess.run(["sh", "-c", f'"{PIT_TOOLS}" deposit --size 2,2,2 2>&- <&-'],
                           cwd=tmp_path, check=False)
     assert done.returncode == 0
@@ -133,7 +133,7 @@ def test_ctrl_c_is_quiet():
     assert run.communicate() == (b"", b"") and run.returncode == 130
 
 
-def test_each_status_and_command_stands_in_the_help():
+def test_each_status_and_command_is_in_the_help():
     lines = cli.whole_parser().format_help()
     assert all(f"{status} " in lines for status in (0, 1, 2, 3, 130))
     assert re.findall(r"(?m)^    ([a-z-]+)", lines) == [*cli.COMMANDS, "help"]
@@ -166,7 +166,7 @@ def test_words_that_print_the_same(words, same):
     "minelib --publish a --out b --immediate > minelib --publish a --out b --fewer-arcs",
     "library --build a > library --seek all --out a", "library --write a > library --out a",
     "deposit --folder a > deposit --out a", "vary a.plan --folder a > vary a.plan --out a")])
-def test_a_former_name_is_told_what_to_write(capsys, words, today):
+def test_a_former_name_shows_what_to_write(capsys, words, today):
     found = former.renewed(words.split())
     assert " ".join(found) == today and cli.parser_of(found[0]).parse_args(found[1:])
     assert capsys.readouterr().err == f"pit-tools: names of the last version: write `pit-tools {today}`\n"
@@ -195,14 +195,14 @@ def test_help_of_a_command_is_its_own(capsys):
     (["checkschedule"], "; did you mean `check-schedule`? "),
     (["sruvey"], "; did you mean `survey`? "), (["xyzzy"], ": "), (["--colour"], ": ")],
     ids=" ".join)
-def test_a_mistyped_command_is_told_the_nearest_one(capsys, words, told):
+def test_a_mistyped_command_shows_the_nearest_one(capsys, words, told):
     assert main(words) == 2
     assert capsys.readouterr().err == (f"pit-tools: no command `{words[-1]}`{told}`pit-tools "
                                        "--help` lists all\n")
 
 
 @pytest.mark.parametrize("status, words", [(0, []), (2, []), (0, ["--debug"]), (2, ["--debug"])])
-def test_what_packages_warn_of_is_told_once_and_never_before_an_error(monkeypatch, capfd, status,
+def test_what_packages_warn_of_is_reported_once_and_never_before_an_error(monkeypatch, capfd, status,
                                                                       words):
     def run(_):
         import logging
@@ -228,8 +228,8 @@ def test_what_packages_warn_of_is_told_once_and_never_before_an_error(monkeypatc
     (0, 0o755, True), (65534, 0o755, False), (0, 0o777, False), (0, 0o775, True)])
 @pytest.mark.parametrize("of_file", [False, True])
 def test_the_launcher_runs_no_code_of_another_owner(tmp_path, owner, mode, is_run, of_file):
-    """The folder above is the test's own; a `.pth` in it, or the folder of users' packages in HOME,
-    is another's, or others may write there."""
+    """The folder above belongs to the test; a `.pth` in it, or the folder of users' packages
+    in HOME, belongs to another, or others may write there."""
     env = {**os.environ, "HOME": str(tmp_path), "PATH": "/usr/bin:/bin"}
     where = subprocess.run(["/usr/bin/python3", "-c", "import site; print(site.getusersitepackages())"],
                            env=env, text=True, capture_output=True).stdout.strip()

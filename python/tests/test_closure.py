@@ -35,7 +35,7 @@ def is_closed(in_pit, precedence):
 
 
 def greatest(values, precedence):
-    """The greatest value of all closed sets of a few blocks."""
+    """Returns the largest value of all closed sets of a few blocks."""
     sets = (np.array(bits, dtype=bool) for bits in itertools.product([0, 1], repeat=len(values)))
     return max(int(cents(values)[bits].sum()) for bits in sets if is_closed(bits, precedence))
 
@@ -79,7 +79,7 @@ def test_arcs_that_others_imply_change_no_pit(tmp_path, make):
 
 
 def reaches(precedence):
-    """All that each block waits for, by way of others too."""
+    """Returns all that each block waits for, directly or through others."""
     far = precedence.toarray().astype(bool)
     for block in range(len(far) - 1, -1, -1):
         for other in np.flatnonzero(far[block]):
@@ -87,7 +87,7 @@ def reaches(precedence):
     return far
 
 
-def test_arcs_that_are_left_imply_all_others(tmp_path):
+def test_arcs_that_are_retained_imply_all_others(tmp_path):
     mine = read_instance(mines.deposit(tmp_path, K=5))
     fewer = closure.immediate(mine.precedence)
     assert fewer.nnz < mine.precedence.nnz
@@ -103,7 +103,8 @@ def test_values_beyond_32_bits_are_counted_to_the_cent():
 
 @pytest.mark.parametrize("scale", [0.0205, 0.004, 0.000001, 1.23])
 def test_values_finer_than_cents_count_exactly(tmp_path, capsys, scale):
-    """A block of value pays for one that costs just less, and not for one that costs just more."""
+    """A block of value pays for one that costs just less, and not for one that costs just
+    more."""
     step = 10.0 ** -(len(f"{scale}".partition(".")[2]) if scale > 1e-5 else 6)
     values = np.round([scale, step - scale, scale, -step - scale, scale], 6)
     arcs = sparse.csr_matrix(([1, 1], ([0, 2], [1, 3])), shape=(5, 5))
@@ -134,7 +135,7 @@ def test_values_that_cannot_be_counted_exactly_are_refused(values, told):
         cents(np.array([0.0205]))
 
 
-#: What arcs may be given as: each format of scipy, and arrays.
+#: The formats of arcs: each format of scipy, and arrays.
 FORMATS = {"csr": sparse.csr_matrix, "csc": sparse.csc_matrix, "coo": sparse.coo_matrix,
            "lil": sparse.lil_matrix, "dok": sparse.dok_matrix, "bsr": sparse.bsr_matrix,
            "csr array": sparse.csr_array, "csc array": sparse.csc_array,
@@ -186,14 +187,14 @@ def test_the_command_finds_the_pit_of_the_deposit(tmp_path, capsys):
     assert len(read_pit(out + "9.pit")) == 2337
 
 
-def test_a_pit_is_told_in_whole_cents(tmp_path):
+def test_a_pit_is_reported_in_integer_cents(tmp_path):
     mine = read_instance(mines.six_blocks(tmp_path))
     in_pit = np.array([True, False, False, True, True, False])
     assert told(in_pit, mine.blocks, mine.upit.values) == "3 blocks, 8000.000 t, worth 241285.00"
 
 
 @pytest.mark.parametrize("home", ["cache", "file"])
-def test_the_program_is_made_where_the_cache_is_or_in_a_folder_of_the_run(tmp_path, monkeypatch,
+def test_the_program_is_made_in_the_cache_or_in_a_folder_of_the_run(tmp_path, monkeypatch,
                                                                           home):
     (tmp_path / "file").write_text("no folder")
     monkeypatch.setenv("XDG_CACHE_HOME", str(tmp_path / home))
@@ -214,7 +215,7 @@ def made(tmp_path_factory):
 
 @pytest.fixture()
 def kept(tmp_path, monkeypatch, made):
-    """A cache that keeps a program which is none of ours, and answers 1 to each call."""
+    """A cache that has another program than ours, which returns 1 for each call."""
     monkeypatch.setattr(compiled, "made", lambda path: bool(shutil.copy(made, path)))
     monkeypatch.setenv("XDG_CACHE_HOME", str(tmp_path / "cache"))
     monkeypatch.setenv("TMPDIR", str(tmp_path))
@@ -239,7 +240,7 @@ def is_ours():
         return False
 
 
-def test_a_program_in_the_cache_is_run_where_it_is_the_users_own(kept):
+def test_a_program_in_the_cache_is_run_if_it_is_the_users_own(kept):
     assert not is_ours()
 
 
@@ -276,10 +277,10 @@ def test_a_program_of_another_user_is_never_run(kept):
 
 
 @pytest.mark.parametrize("is_whole", [True, False])
-def test_a_program_that_was_packed_beside_the_module_is_run_unless_it_is_damaged(
+def test_a_program_that_was_packed_next_to_the_module_is_run_unless_it_is_damaged(
         kept, tmp_path, monkeypatch, is_whole):
-    """It answers 1 to each call, as `kept` does, so that one of ours is told from it; the cache has
-    none, and gets none but where the packed one is damaged."""
+    """It returns 1 for each call, like `kept`, so that ours is distinguished from it; the
+    cache has none, and gets none unless the packed one is damaged."""
     package = tmp_path / "package"
     package.mkdir()
     shutil.copy(compiled.SOURCE, package)
@@ -311,7 +312,7 @@ def test_without_a_compiler_it_is_said_once(tmp_path, monkeypatch, capsys):
     assert told.count("no C++ compiler is there") == 1 and "takes minutes" in told
 
 
-def test_without_a_compiler_highs_finds_small_pits_and_great_ones_are_told(monkeypatch):
+def test_without_a_compiler_highs_finds_small_pits_and_large_ones_are_reported(monkeypatch):
     monkeypatch.setattr(closure, "is_compiled", lambda: False)
     monkeypatch.setattr(closure, "MOST_ARCS_OF_HIGHS", 1)
     arcs = sparse.csr_matrix(np.array([[0, 1, 0], [0, 0, 0], [0, 0, 0]], np.int8))

@@ -1,5 +1,5 @@
-"""Deposits by seed are those that stand in batches and papers: the sums are of files that another
-program of the same rule made, examples/deposit.awk up to version 0.2.0, by mawk."""
+"""Deposits by seed are those in published batches and papers: the sums are of files that
+another program with the same rule made, examples/deposit.awk up to version 0.2.0, by mawk."""
 import hashlib
 
 import pytest
@@ -47,7 +47,7 @@ def test_what_is_no_deposit_is_refused(wrong):
         Deposit(**wrong)
 
 
-def test_the_command_tells_in_a_line_what_is_wrong(capsys):
+def test_the_command_prints_in_a_line_what_is_wrong(capsys):
     assert main(["deposit", "--seed", "x"]) == 2
     told = capsys.readouterr().err
     assert told.startswith("pit-tools deposit: a seed is a whole number") and told.count("\n") == 1

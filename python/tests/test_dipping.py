@@ -1,4 +1,4 @@
-"""A model that dips, spread over level blocks: its tonnes, metal and middle stay what they are."""
+"""A model that dips, spread over level blocks: its tonnes, metal and middle stay unchanged."""
 from __future__ import annotations
 
 import math
@@ -62,7 +62,7 @@ def test_tonnes_metal_and_the_middle_stay(tmp_path, points, sizes, more):
 
 
 @pytest.mark.parametrize("rotation", ["z 40, x -20", "z -40, x 20", "x 20, z 40"])
-def test_turns_by_which_blocks_do_not_lie_side_by_side_are_refused(tmp_path, rotation):
+def test_turns_by_which_blocks_are_not_side_by_side_are_refused(tmp_path, rotation):
     path = written(tmp_path / "a.csv", level(OWN), True)
     with pytest.raises(UserError, match="of a block beside the others along the model's"):
         import_export([path], Words(**{**WORDS, "rotation": rotation}))

@@ -1,4 +1,4 @@
-"""Each export is right, told, or refused with its cause: `tools/exports` prints which."""
+"""Each export is right, reported, or refused with its cause: `tools/exports` prints which."""
 from __future__ import annotations
 
 import pytest
@@ -9,7 +9,7 @@ EXPORTS = [export for made in KINDS.values() for export in made()]
 
 
 @pytest.mark.parametrize("export", EXPORTS, ids=lambda export: export.name)
-def test_an_export_is_right_told_or_refused_with_its_cause(export, tmp_path, monkeypatch):
+def test_an_export_is_right_reported_or_refused_with_its_cause(export, tmp_path, monkeypatch):
     monkeypatch.chdir(tmp_path)
     verdict = verdict_of(export)
     assert verdict.outcome in ("right", "told", "refused"), verdict.line

@@ -1,4 +1,4 @@
-"""What `import` stops at, and what it tells without stopping, one fault at a time in a small
+"""What `import` stops at, and what it reports without stopping, one error at a time in a small
 export."""
 from __future__ import annotations
 
@@ -132,7 +132,7 @@ DOUBTS = [(lambda: mapped(3, lambda text: "2.7"), {}, "are they densities"),
 
 @pytest.mark.parametrize("lines, changed, told", DOUBTS,
                          ids=[told or "depths" for _, _, told in DOUBTS])
-def test_what_may_be_wrong_is_told(tmp_path, lines, changed, told):
+def test_what_may_be_wrong_is_reported(tmp_path, lines, changed, told):
     doubts = imported(tmp_path, lines(), **changed).report.doubts
     pattern = told or "is z a depth"
     assert len(doubts) == 1 and re.search(pattern, doubts[0]), doubts
@@ -165,7 +165,7 @@ def test_marks_that_may_mean_two_things_are_refused(cells, told):
     ("2.75", Marks(",", "."), None), ("2,75", Marks(".", ","), None), ("N/A", Marks(), ""),
     ("0x1A", Marks(), None), ("1_000", Marks(), None), ("nan", Marks(), ""),
     ("inf", Marks(), None)])
-def test_a_cell_is_spelled_plainly_or_is_no_number(cell, marks, plain):
+def test_a_cell_is_written_plainly_or_is_no_number(cell, marks, plain):
     assert marks.plain(cell) == plain
 
 
@@ -192,7 +192,7 @@ def test_a_missing_term_of_a_sum_adds_nothing_and_a_missing_factor_all():
     assert formula_of("a + b", ["a", "b"]).value(table).isna().tolist() == [False, False, True]
 
 
-def test_a_name_that_is_no_column_is_told_with_one_like_it():
+def test_a_name_that_is_no_column_is_reported_with_one_like_it():
     with pytest.raises(Lacking, match="no column `TONAGE`; is it `TONNAGE`"):
         formula_of("TONAGE", ["X", "TONNAGE"])
 
@@ -202,8 +202,8 @@ def test_a_filter_and_a_table_of_zones_go_by_texts_and_numbers(tmp_path):
     found = imported(tmp_path, rows(), where=['AU > 1.05 and ZONE in ["west", "east"]'], zone=[],
                      zones=str(tmp_path / "zones.csv"))
     assert found.zones == ["left", "right"]
-    # The grade is 1.0 where x is 0; of the highest bench 5 blocks are air where x is 1 or 2, and 9
-    # where it is 3 or 4.
+    # The grade is 1.0 where x is 0; of the highest bench 5 blocks are air where x is 1 or 2, and
+    # 9 where it is 3 or 4.
     assert found.axes[0].first == 10_000 and found.axes[0].places == 4
     assert [len(found.zone_rows(zone)) for zone in (0, 1)] == [2 * 20 - 5, 2 * 20 - 9]
 

@@ -1,4 +1,4 @@
-"""An instance as arrays, and back to the byte."""
+"""An instance as arrays, and back byte for byte."""
 import re
 import subprocess
 from dataclasses import replace
@@ -30,7 +30,7 @@ def test_an_instance_is_written_as_it_was_read(tmp_path, make):
         assert (tmp_path / f"copy.{text}").read_bytes() == open(f"{base}.{text}", "rb").read(), text
 
 
-def test_small_pieces_are_read_as_large_ones(tmp_path, monkeypatch):
+def test_small_chunks_are_read_as_large_ones(tmp_path, monkeypatch):
     base = mines.deposit(tmp_path, K=3)
     monkeypatch.setattr(published_lines, "_PIECE", 700)
     write_instance(read_instance(base), str(tmp_path / "copy"))
@@ -163,7 +163,7 @@ def test_a_damaged_file_is_refused_by_its_name(tmp_path, text, old, new, told):
     assert f"mine.{text}" in str(error.value) and "\n" not in str(error.value)
 
 
-def test_a_file_that_is_not_there_is_named(tmp_path):
+def test_a_file_that_is_missing_is_named(tmp_path):
     with pytest.raises(UserError, match="cannot open .*gone.blocks"):
         read_instance(str(tmp_path / "gone"))
 
@@ -205,12 +205,12 @@ def test_the_instance_that_a_plan_defines_is_that_of_the_plain_computation(tmp_p
 
 @pytest.mark.parametrize("case", range(12))
 def test_worths_are_exact_however_great_the_numbers_are(case):
-    """Beside whole numbers of Python, where floats would do and where they are off by cents."""
+    """Compared with integers of Python, where floats would do and where they differ by cents."""
     chances = np.random.default_rng(case)
     tonnes, grade = 10 ** chances.integers(1, 10), 10 ** chances.integers(1, 13)
     kilograms, grades = chances.integers(0, tonnes, 800), chances.integers(0, grade, 800)
     if case % 3 == 0:
-        # Round numbers, whose worths are whole cents, or less than one beside them.
+        # Round numbers, with worths of integer cents, or differing from them by less than one.
         kilograms, grades = kilograms // 1000 * 1000, grades // 10**6 * 10**6
     shares = [int(share) for share in chances.integers(0, 1001, 2)]
     price = int(chances.integers(0, 10**chances.integers(1, 9)))
@@ -272,6 +272,6 @@ def test_a_plain_program_overwrites_nothing_that_it_has_read(tmp_path):
     assert {path.name: path.read_bytes() for path in tmp_path.iterdir()
             if path.name in before} == before
     for _ in range(2):
-        # What it has written itself it may read, and write anew.
+        # What it has written itself it may read, and write again.
         write_instance(mine, str(tmp_path / "copy"))
         read_instance(str(tmp_path / "copy"))

@@ -72,7 +72,7 @@ def test_more_files_than_a_plan_has_zones_are_refused():
 
 
 @pytest.mark.skipif(not is_compiled(), reason="no C++ compiler is there")
-def test_the_pit_of_a_cut_zone_is_that_of_the_whole(here, monkeypatch):
+def test_the_pit_of_a_cut_zone_is_that_of_the_complete_zone(here, monkeypatch):
     """A slope is that of the lower block, and each file of a zone has the zone's slopes."""
     pits = []
     for base, most in (("cut", MOST), ("whole", 10 * len(MINE))):

@@ -1,5 +1,5 @@
 """The library's tables, sums and schedules are those of the deposits that its seeds make, and
-better ones come in."""
+better ones are accepted."""
 import os
 import re
 
@@ -37,7 +37,7 @@ def test_each_schedule_has_a_day_an_author_and_a_way(capsys):
 
 @pytest.fixture()
 def known(tmp_path):
-    """A library in a folder of its own."""
+    """A library in a folder made for it."""
     assert main(["library", "--out", str(tmp_path / "known")]) == 0
     return tmp_path / "known"
 
@@ -52,7 +52,7 @@ def set_cells(folder, **changes):
     table.to_csv(folder / "TABLE", sep=" ", index=False)
 
 
-def test_a_changed_schedule_is_told(known, capsys):
+def test_a_changed_schedule_is_reported(known, capsys):
     assert main(["library", "--check", "--library", str(known)]) == 0
     path = known / "lens1.cpit-schedule"
     path.write_text("".join(path.read_text().splitlines(True)[1:]))
@@ -61,7 +61,7 @@ def test_a_changed_schedule_is_told(known, capsys):
 
 
 def test_a_better_schedule_is_taken_with_its_day_and_author(known, tmp_path, capsys):
-    """The best one is handed in where the library has one without its last block."""
+    """The best one is submitted while the library has one without its last block."""
     best, path = cells(known)["cpit_best"], known / "lens6.cpit-schedule"
     text = path.read_text()
     (tmp_path / path.name).write_text(text)
@@ -84,7 +84,7 @@ def test_a_better_schedule_is_taken_with_its_day_and_author(known, tmp_path, cap
     (lambda text: text.splitlines(True)[0], "does not hold: block"),
     (lambda text: text + "9999 0\n", "no block below"),
 ])
-def test_a_schedule_that_does_not_hold_is_refused(known, tmp_path, capsys, change, told):
+def test_a_schedule_that_is_not_feasible_is_refused(known, tmp_path, capsys, change, told):
     given = tmp_path / "lens6.cpit-schedule"
     given.write_text(change((known / given.name).read_text()))
     set_cells(known, cpit_best="1.00")
@@ -95,7 +95,7 @@ def test_a_schedule_that_does_not_hold_is_refused(known, tmp_path, capsys, chang
     assert {name: (known / name).read_bytes() for name in os.listdir(known)} == before
 
 
-def test_a_value_above_its_bound_is_told(known, tmp_path, capsys):
+def test_a_value_above_its_bound_is_reported(known, tmp_path, capsys):
     set_cells(known, cpit_best="1.00", cpit_bound="2.00")
     assert main(["library", "--library", str(known), "--better", str(known / "lens6.cpit-schedule"),
                  "--by", "me", "--how", "so"]) == 2
@@ -108,7 +108,7 @@ def test_a_value_above_its_bound_is_told(known, tmp_path, capsys):
                                                          "me", "--how", "so"], "names no schedule"),
                           (["--better", "lens6.cpit-schedule"], "needs --by"),
                           (["--library", "gone", "--check"], "no library")])
-def test_what_names_nothing_is_told(tmp_path, monkeypatch, capsys, words, told):
+def test_what_names_nothing_is_reported(tmp_path, monkeypatch, capsys, words, told):
     monkeypatch.chdir(tmp_path)
     assert main(["library", *words]) == 2 and told in capsys.readouterr().err
 

@@ -1,5 +1,5 @@
-"""What an export must not do: stand half in its archive, grow beyond all measure, or have numbers
-that cannot be held."""
+"""What an export must not do: exist in part in its archive, grow without limit, or have
+numbers that cannot be represented."""
 import bz2
 import gzip
 import io
@@ -22,7 +22,7 @@ MEASURES = ["--tonnes", "T", "--grade", "AU"]
 
 
 def imported(folder, content, capsys, measures=(), name="export.csv"):
-    """The status of an import, and the line of its fault."""
+    """Returns the status of an import, and the line of its error."""
     path = folder / name
     path.write_bytes(content if isinstance(content, bytes) else content.encode())
     status = main(["import", str(path), *WORDS, *(measures or MEASURES)])
@@ -46,7 +46,7 @@ def test_a_number_of_many_digits_that_a_float_holds_is_read(tmp_path, capsys, ce
 
 @pytest.mark.parametrize("rows", [1, 500, 200_000])
 @pytest.mark.parametrize("encoding", ["utf-8", "cp1252", "utf-16"])
-def test_a_zero_byte_stops_with_its_line_wherever_it_stands(tmp_path, capsys, rows, encoding):
+def test_a_zero_byte_stops_with_its_line_wherever_it_is(tmp_path, capsys, rows, encoding):
     text = HEAD + ROWS * rows + "0,0,20,1000,27\0\n" + ("0,0,30,1000,1é\n" if encoding == "cp1252"
                                                          else "")
     status, told = imported(tmp_path, text.encode(encoding), capsys)
@@ -71,7 +71,7 @@ def test_a_division_by_nothing_is_missing_and_no_overflow(tmp_path, capsys):
 
 @pytest.mark.parametrize("pack, ending",
                          [(gzip.compress, "gz"), (bz2.compress, "bz2"), (lzma.compress, "xz")])
-def test_an_archive_that_was_cut_is_told_by_its_name(tmp_path, capsys, pack, ending):
+def test_an_archive_that_was_cut_is_reported_by_its_name(tmp_path, capsys, pack, ending):
     packed = pack((HEAD + ROWS).encode())
     assert imported(tmp_path, packed, capsys, name=f"a.{ending}")[0] == 0
     status, told = imported(tmp_path, packed[:-9], capsys, name=f"a.{ending}")
@@ -89,7 +89,7 @@ def zipped(text, damage=None):
     return bytes(content)
 
 
-def test_a_zip_that_is_damaged_is_told_by_its_name(tmp_path, capsys):
+def test_a_zip_that_is_damaged_is_reported_by_its_name(tmp_path, capsys):
     assert imported(tmp_path, zipped(HEAD + ROWS), capsys, name="a.zip")[0] == 0
     for content in (zipped(HEAD + ROWS, 60), zipped(HEAD + ROWS)[:80]):
         status, told = imported(tmp_path, content, capsys, name="a.zip")
@@ -116,7 +116,7 @@ def test_a_long_cell_in_quotes_is_read(tmp_path, capsys):
     assert imported(tmp_path, text, capsys)[0] == 0
 
 
-def test_a_quote_that_is_not_closed_and_a_line_without_end_are_told(tmp_path, capsys, monkeypatch):
+def test_a_quote_that_is_not_closed_and_a_line_without_end_are_reported(tmp_path, capsys, monkeypatch):
     monkeypatch.setattr("pit_tools.exports.source.MOST_LINE", 1 << 16)
     monkeypatch.setattr("pit_tools.exports.source.PIECE", 1 << 16)
     status, told = imported(tmp_path, HEAD + ROWS + '"' + ROWS * 2000, capsys)
@@ -125,7 +125,7 @@ def test_a_quote_that_is_not_closed_and_a_line_without_end_are_told(tmp_path, ca
     assert status == 2 and "export.csv: behind line 17 a line has more than" in told
 
 
-def test_a_first_line_without_end_is_told(tmp_path, capsys):
+def test_a_first_line_without_end_is_reported(tmp_path, capsys):
     status, told = imported(tmp_path, "X," * 600_000, capsys)
     assert status == 2 and "the first line has more than 1,048,576 signs" in told
 
@@ -155,7 +155,7 @@ def test_a_dollar_in_a_name_is_text_in_a_picture():
     assert png_of(drawn).startswith(b"\x89PNG")
 
 
-def test_two_blocks_far_apart_are_told_in_place_of_terabytes(tmp_path, capsys):
+def test_two_blocks_far_apart_are_reported_in_place_of_terabytes(tmp_path, capsys):
     (tmp_path / "mine.plan").write_text(
         "name,mine\ngrid,0,0,0,1,1,1\nzone,1,1,2\nmill,mill,900,6000000,1500\nperiods,1\n"
         "rate,0.1\n")

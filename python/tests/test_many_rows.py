@@ -1,5 +1,5 @@
-"""What is done once for many rows is what is done for each: numbers of texts that stand many times,
-and the lowest and highest block of a column."""
+"""What is done once for many rows is what is done for each: numbers of texts that occur many
+times, and the lowest and highest block of a column."""
 from __future__ import annotations
 
 import numpy as np
@@ -12,7 +12,7 @@ from pit_tools.texts.decimals import SHOWING, floats_of
 TEXTS = ["0.1", "-99", "1e400", "1e0310", "1E3", "x", "", None, "+7.", " 2.5", "0x10", "inf"]
 
 
-def test_texts_that_stand_many_times_are_the_numbers_of_each():
+def test_texts_that_occur_many_times_are_the_numbers_of_each():
     random = np.random.default_rng(1)
     many = pd.Series(random.choice(np.array(TEXTS, object), 3 * SHOWING))
     each = dict(zip(TEXTS, floats_of(pd.Series(TEXTS, dtype=object))))
@@ -21,13 +21,13 @@ def test_texts_that_stand_many_times_are_the_numbers_of_each():
     assert each["1E3"] == 1000 and each["0.1"] == 0.1 and np.isnan(each["x"]) and np.isnan(each[None])
 
 
-def test_texts_that_differ_behind_the_first_ones_are_read():
+def test_texts_that_differ_after_the_first_ones_are_read():
     many = pd.Series(["5"] * SHOWING + [f"{at}.5" for at in range(SHOWING)])
     assert np.array_equal(floats_of(many), [5.0] * SHOWING + [at + 0.5 for at in range(SHOWING)])
 
 
 @pytest.mark.parametrize("wide", [7, 5000])
-def test_ends_of_columns_are_the_least_and_the_greatest(wide):
+def test_ends_of_columns_are_the_smallest_and_the_largest(wide):
     """Few columns far apart are numbered by sorting, others by a table."""
     random = np.random.default_rng(2)
     x, y, z = random.integers(0, wide, 300), random.integers(0, wide, 300), random.integers(0, 10_000, 300)

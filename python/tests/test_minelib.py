@@ -1,5 +1,5 @@
-"""MineLib files of other programs, both ways. No file of the library was at hand: these are as they
-are remembered."""
+"""MineLib files of other programs, both ways. No file of the library was available: these are
+written from memory."""
 import random
 
 import numpy as np
@@ -18,10 +18,10 @@ def lines_of(path):
 
 
 def foreign(base, folder, first=0, order="bdr", turn=False):
-    """The files of an instance as another program may write them: sections and lines in another
-    order, exponents, `<=`, blanks in NAME, comments, EOF, identifiers from `first`, no line for
-    blocks without predecessors, words among the fields of a block; `turn` makes the last block the
-    first one."""
+    """The files of an instance as another program may write them: sections and lines in
+    another order, exponents, `<=`, blanks in NAME, comments, EOF, identifiers from `first`, no
+    line for blocks without predecessors, words among the fields of a block; `turn` makes the
+    last block the first one."""
     last = len(lines_of(f"{base}.blocks")) - 1
 
     def published(block):
@@ -187,7 +187,7 @@ def test_a_upit_alone(tmp_path):
     ("blocks", "5 2 0 1 2650 0 0", "5 2 0 1", "line 6: 4 fields, and a block line has at least 6"),
     ("blocks", "5 2 0 1", "EOF\n5 2 0 1", "line 7: it stands behind EOF"),
     ("blocks", "5 2 0 1", "5\0 2 0 1", "bytes of 0")])
-def test_what_cannot_be_brought_in_is_told_by_its_line(tmp_path, capsys, ending, old, new, told):
+def test_what_cannot_be_converted_is_reported_by_its_line(tmp_path, capsys, ending, old, new, told):
     base = mines.six_blocks(tmp_path)
     whole = (tmp_path / f"mine.{ending}").read_text()
     assert old in whole
@@ -229,7 +229,7 @@ def test_what_cannot_be_brought_in_is_told_by_its_line(tmp_path, capsys, ending,
      "line 4: AUTHOR is no key that is known, and was left out", "NBLOCKS: 6"),
     ("pcpsp", "NAME: mine", "NAME: my mine", "NAME is my_mine now", "NAME: my_mine"),
     ("prec", "3 0\n", "", "1 blocks had no line in the precedence file", "3 0")])
-def test_what_is_changed_or_left_out_is_told(tmp_path, capsys, ending, old, new, told, line):
+def test_what_is_changed_or_omitted_is_reported(tmp_path, capsys, ending, old, new, told, line):
     base = mines.six_blocks(tmp_path, ("name,pit", "name,mine"))
     whole = (tmp_path / f"mine.{ending}").read_text()
     assert old in whole
@@ -334,7 +334,7 @@ def test_the_only_order_that_fits_is_taken(tmp_path, capsys, order):
         assert lines_of(tmp_path / f"again.{ending}") == lines_of(f"{base}.{ending}"), ending
 
 
-def test_small_pieces_are_read_as_large_ones(tmp_path, monkeypatch):
+def test_small_chunks_are_read_as_large_ones(tmp_path, monkeypatch):
     base = mines.deposit(tmp_path, K=2)
     files = foreign(base, tmp_path)
     monkeypatch.setattr(published_lines, "_PIECE", 300)
@@ -360,7 +360,7 @@ def test_outward_and_back(tmp_path):
         assert lines_of(tmp_path / f"again.{ending}") == lines_of(f"{base}.{ending}"), ending
 
 
-def test_arcs_that_others_imply_may_stay_behind(tmp_path):
+def test_arcs_that_others_imply_may_be_dropped(tmp_path):
     base = mines.deposit(tmp_path, K=4)
     assert main(["minelib", "--publish", base, "--out", str(tmp_path / "fewer"),
                  "--fewer-arcs"]) == 0

@@ -1,8 +1,8 @@
-"""Mistakes that nothing refuses, and where a survey shows each.
+"""Mistakes that nothing rejects, and where a survey shows each.
 
 The mine is the example deposit with its corner at the origin and K = 9, in a model that is wide
-enough. A mistake is told where the survey of the mine with it has a line that matches and the sound
-one has none; it is drawn where an array that a picture shows is another.
+enough. A mistake is reported if the survey of the mine with it has a matching line and the sound
+one has none; it is drawn if an array that a picture shows differs.
 """
 import re
 from typing import Callable, NamedTuple, Optional
@@ -71,7 +71,7 @@ def sound() -> Mine:
 
 
 def facts_of(mine: Mine, of_plan: Optional[str] = None) -> Facts:
-    """The facts of a mine; those of an instance by another plan where it is given."""
+    """The facts of a mine, or of an instance by another plan if one is given."""
     plan = plan_of(mine.plan)
     rows = pd.DataFrame({axis: np.rint(mine.rows[axis] * 1000).astype(np.int64) for axis in "xyz"})
     rows["tonnes"], rows["grade"] = (np.rint(mine.rows.tonnes * 1000).astype(np.int64),
@@ -99,9 +99,9 @@ def columns_top(rows):
 
 
 class Told(NamedTuple):
-    """A mistake, how it is made, and what the survey says of it; whether that line alone stands
-    behind LOOK AT: of the others tests/test_import_words.py has mistakes where it does, or the line
-    says two things of one record."""
+    """A mistake, how it is made, and what the survey reports; whether that line alone comes
+    after LOOK AT: of the others tests/test_import_words.py has mistakes that do, or the line
+    states two things about one record."""
 
     name: str
     make: Callable[[Mine], Mine]
@@ -142,7 +142,7 @@ def share_of(mine, part):
                                           mine.rows.tonnes))
 
 
-#: The thirty-five of docs/causes.md, but those of files that are refused or are not of one run.
+#: The mistakes of docs/causes.md, except those of files that are refused or are not of one run.
 OF_THE_PAGE = [
     Told("a grade in percent", lambda m: m.with_rows(grade=m.rows.grade / 10000),
          "^- BEST FOR: no block is worth more than 0"),
@@ -220,7 +220,7 @@ OF_THE_PAGE = [
     Told("files of two runs", lambda m: m, "^- FILES: values that are not the plan's",
          MINE.plan.replace("5800000", "5000000"))]
 
-#: Twenty-six more.
+#: More mistakes.
 MORE = [
     Told("a model that ends too near the ore",
          lambda m: m.of(lambda rows: (rows.y <= 400) & (rows.x <= 560)),
@@ -283,7 +283,7 @@ MORE = [
 
 
 @pytest.mark.parametrize("mistake", OF_THE_PAGE + MORE, ids=lambda mistake: mistake.name)
-def test_a_mistake_is_told(mistake):
+def test_a_mistake_is_reported(mistake):
     wrong = mistake.make(MINE)
     told = survey_text(facts_of(wrong, mistake.of_plan)).splitlines()
     if mistake.of_plan and wrong == MINE and "values" not in mistake.line:
@@ -298,7 +298,7 @@ def test_a_mistake_is_told(mistake):
 
 
 def test_a_sound_mine_has_nothing_to_look_at():
-    """Whole blocks and a heap that is hardly used are told as notes."""
+    """Undiluted blocks and a heap that is hardly used are reported as notes."""
     odd, noted = (part.splitlines()[1:] for part in SURVEY.split("\n\n")[1:3])
     assert odd == ["- nothing odd was found; the parts below say what was understood"]
     assert [line.split(":")[0] for line in noted] == ["- SLOPES", "- BEST FOR"]
@@ -310,7 +310,7 @@ def test_a_sound_mine_has_nothing_to_look_at():
     ("turned by a quarter", lambda m: m.with_rows(x=m.rows.y, y=700 - m.rows.x)),
 ])
 def test_a_turned_model_is_drawn(name, make):
-    """The map of metal is another; that it is the wrong one, the planner sees beside the
+    """The map of metal differs; the planner sees that it is the wrong one by comparing the
     package."""
     shown, sound_map = facts_of(make(MINE)).metal_by_column(), FACTS.metal_by_column()
     assert (shown.shape != sound_map.shape
@@ -318,7 +318,7 @@ def test_a_turned_model_is_drawn(name, make):
 
 
 def test_mined_out_rock_is_drawn():
-    """The map of the ground shows a pit that was dug, or none where it should be."""
+    """The map of the ground shows a pit that was dug, or none if it should be there."""
     dug = facts_of(MINE.of(lambda rows: ~((rows.x.between(300, 400)) & (rows.y.between(200, 300))
                                           & (rows.z > 70))))
     assert (dug.ground() < FACTS.ground()).sum() > 20

@@ -1,4 +1,5 @@
-"""Nested pits: beside all closures of a small mine, and the pits of plans that `vary` writes."""
+"""Nested pits: compared with all closures of a small mine, and with the pits of plans that
+`vary` writes."""
 import csv
 import itertools
 from decimal import Decimal
@@ -24,7 +25,7 @@ GRADES = (1.8, 2.4, 0.7, 0.2, 0.45, 0)
 
 
 def value_by_hand(block: int, factor: float) -> float:
-    """What a block of the six is worth at best, at so many times 60,000 a kilogram."""
+    """What a block of the six is worth at best, at this multiple of 60,000 a kilogram."""
     tonnes, grade = TONNES[block], GRADES[block]
     mill = tonnes * (grade * 0.9 * 60 * factor - 15)
     share = 0.55 if grade >= 1 else 0.35 if grade >= 0.3 else 0
@@ -37,7 +38,7 @@ def worth_by_hand(blocks: set, factor: float) -> float:
 
 
 def best_by_hand(factor: float) -> set:
-    """The smallest closure of greatest value, of all sets of blocks."""
+    """The smallest closure of the largest value, of all sets of blocks."""
     sets = (set(some) for count in range(7) for some in itertools.combinations(range(6), count))
     closed = [some for some in sets if all(p in some for b in some for p in ABOVE.get(b, ()))]
     return max(closed, key=lambda some: (round(worth_by_hand(some, factor), 2), -len(some)))
@@ -45,7 +46,7 @@ def best_by_hand(factor: float) -> set:
 
 @pytest.mark.parametrize("is_compiled", [True, False])
 def test_the_six_blocks_at_each_price(tmp_path, monkeypatch, is_compiled):
-    """By the program of C++, and by HiGHS."""
+    """By the C++ program, and by HiGHS."""
     if not is_compiled:
         monkeypatch.setattr(closure, "is_compiled", lambda: False)
     base = mines.six_blocks(tmp_path)
@@ -82,7 +83,7 @@ def test_each_pit_is_that_of_a_plan_with_this_price(tmp_path, capsys, monkeypatc
         assert not (larger & ~in_pit).any()
         larger = in_pit
     capsys.readouterr()
-    # What is told of the pit at factor 1 is what `report` tells of it.
+    # The report on the pit at factor 1 is what `report` prints on it.
     assert main(["report", "mine.plan", "mine", "some1.pit"]) == 0
     report = capsys.readouterr().out.splitlines()
     whole = next(line for line in report if line.startswith("     all"))
@@ -120,7 +121,7 @@ def test_the_table_and_the_picture(tmp_path, monkeypatch, capsys):
     ("1,x", "`x` is no number"), ("", "`` is no number"), ("1,1.0", "has a factor twice"),
     ("0", "not above 0"), ("nan", "`nan` is no number"), ("1_0", "`1_0` is no number"), ("1e9", "up to 1000"),
     ("0.1234567", "more than 6 decimals")])
-def test_what_is_no_factor_is_told(text, told):
+def test_what_is_no_factor_is_reported(text, told):
     with pytest.raises(UserError, match=told):
         factors_of(text)
 
@@ -130,7 +131,7 @@ def test_what_is_no_factor_is_told(text, told):
     (("1500", "1400"), [], "values of the instance are not those of this plan"),
     (("1500", "1500"), ["--out", "mine.plan", "--out", "mine.plan"], "two files would have this name"),
 ])
-def test_what_is_wrong_is_told_in_a_line(tmp_path, monkeypatch, capsys, change, words, told):
+def test_what_is_wrong_is_reported_in_a_line(tmp_path, monkeypatch, capsys, change, words, told):
     monkeypatch.chdir(tmp_path)
     mines.six_blocks(tmp_path)
     plan = (tmp_path / "mine.plan").read_text()

@@ -1,5 +1,5 @@
-"""The door for all that is written: old or new files, all of them or none, and nothing that is
-read."""
+"""The module for all that is written: old or new files, all of them or none, and nothing that
+is read."""
 import errno
 import hashlib
 import os
@@ -57,8 +57,8 @@ def test_an_export_is_not_written_over(here, capsys, make):
     assert files_of(here) == before
 
 
-def test_a_dash_is_no_file_where_nothing_is_printed(here, capsys):
-    """Other commands print what is written to -, as lp."""
+def test_a_dash_is_no_file_if_nothing_is_printed(here, capsys):
+    """Other commands, such as lp, print what is written to -."""
     base = mines.six_blocks(here)
     before = files_of(here)
     for words in (["pit", base], ["bounds", base], ["solve", base + ".cpit", base + ".prec"],
@@ -87,7 +87,7 @@ def test_a_table_of_zones_is_not_written_over(here, capsys):
     assert files_of(here) == before
 
 
-def test_a_file_of_another_kind_is_kept_but_by_force(here, capsys):
+def test_a_file_of_another_kind_is_kept_unless_forced(here, capsys):
     (here / "export.csv").write_text(EXPORT)
     (here / "mine-all.csv").write_text("assays of 1998\n")
     assert main(["import", "export.csv", *WORDS, "--out", "mine"]) == 2
@@ -122,7 +122,7 @@ def test_several_files_come_together_or_none(here):
 
 
 @pytest.mark.parametrize("fails_at", [0, 1, 2])
-def test_the_old_files_come_back_where_a_rename_fails(here, monkeypatch, fails_at):
+def test_the_old_files_come_back_if_a_rename_fails(here, monkeypatch, fails_at):
     write("one", "1\n")
     write("three", "1\n")
     before, calls, replace = files_of(here), [], os.replace
@@ -225,7 +225,7 @@ def test_a_kill_leaves_the_old_files_and_names_that_say_what_they_are(here):
     assert files_of(here)["one"] == b"3\n"
 
 
-def test_a_full_disk_is_told_with_the_file(here, capsys):
+def test_a_full_disk_is_reported_with_the_file(here, capsys):
     assert main(["deposit", "--size", "2,2,2", "--list", "/dev/full"]) == 2
     assert capsys.readouterr().err == "pit-tools deposit: /dev/full: No space left on device\n"
     assert files_of(here) == {}
@@ -254,7 +254,8 @@ DEPOSIT = ["deposit", "--name", "a", "--size", "3,3,3", "--list", "LIST"]
 
 
 def counted(monkeypatch, name, nth, instead):
-    """The Nth call of a function of os does something else; answers how often it is called."""
+    """Makes the Nth call of a function of os do something else; returns how often it is
+    called."""
     real, calls = getattr(os, name), []
 
     def call(*words, **named):

@@ -1,5 +1,6 @@
-"""Exports in Parquet go the way of those in CSV. Where a package for Parquet is there it writes and
-reads the files; else they hold the frame that such a package gives to pandas, with its types."""
+"""Exports in Parquet are read like those in CSV. If there is a package for Parquet it writes
+and reads the files; otherwise they hold the frame that such a package gives to pandas, with
+its types."""
 from __future__ import annotations
 
 import datetime
@@ -26,7 +27,7 @@ HAS_ENGINE = any(map(importlib.util.find_spec, ("pyarrow", "fastparquet")))
 
 @pytest.fixture
 def here(tmp_path, monkeypatch):
-    """An empty folder; without a package for Parquet its files are frames behind the mark."""
+    """An empty folder; without a package for Parquet its files are frames after the mark."""
     monkeypatch.chdir(tmp_path)
     if not HAS_ENGINE:
         def read_parquet(path):
@@ -178,6 +179,6 @@ def test_rows_of_parquet_are_not_printed_nor_put_over_other_files(here, capsys):
     assert main([*again, "--out", "other.parquet"]) == 2
 
 
-def test_a_name_that_stands_twice_is_refused():
+def test_a_name_that_is_repeated_is_refused():
     with pytest.raises(UserError, match="the export has a column `mined` already"):
         bytes_of(pd.concat([mine().assign(mined=1), pd.DataFrame({"mined": [1]})], axis=1))

@@ -61,7 +61,7 @@ def test_a_plan_that_cannot_be_understood_names_its_record(edit, told):
         plan_of(PLAN.replace(*edit))
 
 
-# Where the nearest float lies on the other side of the middle, a rounding by floats is wrong.
+# If the nearest float is on the other side of the middle, a rounding by floats is wrong.
 @pytest.mark.parametrize("text, places, parts",
                          [("0.0005", 3, 1), ("1.0005", 3, 1001), ("2.6745", 3, 2675),
                           ("-0.0005", 3, -1), ("1.005", 2, 101), ("10935.537999900", 3, 10935538),
@@ -79,7 +79,7 @@ def test_a_number_whose_parts_no_float_holds_is_none_that_is_missing():
     assert found.tolist() == [10**18, -10**18, 10**18, 2_000_000] and not wrong.any()
 
 
-def test_what_is_no_number_is_told():
+def test_what_is_no_number_is_reported():
     found, wrong = parts_of(pd.Series(["1.5", "", None, "n/a", "inf"]), 3)
     assert wrong.tolist() == [False, True, True, True, True]
     assert found[0] == 1500

@@ -1,5 +1,5 @@
-"""`read_plan` refuses the plans that `pitc` refuses, with the same record and kind: all plans of the
-tables tools/rows/plans.py and pairs.py, on which the gate runs a built pitc too."""
+"""`read_plan` rejects the plans that `pitc` rejects, with the same record and kind: all plans
+of the tables tools/rows/plans.py and pairs.py, on which CI runs a built pitc too."""
 import subprocess
 from multiprocessing.pool import ThreadPool
 
@@ -13,7 +13,7 @@ TAKEN = "settings: Files"
 
 
 def rows():
-    """The bytes of each plan, and the line that pitc answers to it without a zone file."""
+    """Yields the bytes of each plan, and the line that pitc prints for it without a zone file."""
     for page in (plans, pairs):
         for trial in page.trials():
             line = trial.errors.decode()[len("pitc: "):-1] if trial.errors else ""
@@ -35,7 +35,7 @@ def answer(path):
     return TAKEN
 
 
-def test_read_plan_answers_what_the_tables_say(tmp_path):
+def test_read_plan_returns_what_the_tables_state(tmp_path):
     path, kinds = tmp_path / "a.plan", set()
     for plan, line in rows():
         path.write_bytes(plan)
@@ -45,7 +45,7 @@ def test_read_plan_answers_what_the_tables_say(tmp_path):
                      "TooMany", "Missing", "TooLong", "Files"}
 
 
-def test_pitc_answers_what_read_plan_does(pitc, tmp_path):
+def test_pitc_returns_what_read_plan_does(pitc, tmp_path):
     def lines_of(numbered):
         number, (plan, _) = numbered
         path = tmp_path / f"{number}.plan"

@@ -1,4 +1,4 @@
-"""Plans from words: each number is worked out by hand beside it."""
+"""Plans from arguments: each number is worked out manually in a comment."""
 from decimal import Decimal
 
 import pytest
@@ -25,7 +25,7 @@ def plan_text(**changed) -> str:
     return plan.text()
 
 
-def test_a_plan_has_the_numbers_of_its_words():
+def test_a_plan_has_the_numbers_of_its_arguments():
     # 1804 USD for 31.1034768 g are 57.99994.. USD a gram, so 5,799,995 cents a kilogram.
     # tan 56.3 degrees is 1.4994, so 1000 : 667; tan 51.3 is 1.2482, so 1000 : 802 is never steeper.
     assert plan_text() == """name,deposit
@@ -73,8 +73,8 @@ def test_a_short_ton_of_rock_is_less_than_a_tonne():
 
 
 def test_a_return_brings_what_it_says():
-    # A return of 30 a tonne, as grade 30: 1 t has 0.03 kg, which bring 3,000 cents at 100,000 cents
-    # a kilogram.
+    # A return of 30 a tonne, as grade 30: 1 t has 0.03 kg, which earn 3,000 cents at 100,000
+    # cents a kilogram.
     text = plan_text(price="", grade_unit="USD/t", mill=["cost 12 USD/t"], leach=[], limit=[])
     assert "mill,mill,1000,100000,1200\n" in text
 
@@ -154,7 +154,7 @@ def test_words_that_cannot_be_right_are_named(changed, told):
     ({"mill": ["recovery 100 %, cost 16.50 USD/t"]}, "mill recovers 100 %"),
     ({"K": 2}, "K is too small: zone oxide: K = 2 makes a pit of"),
 ])
-def test_what_may_be_wrong_is_told(changed, told):
+def test_what_may_be_wrong_is_reported(changed, told):
     _, explained = plan_from(Spoken(**{**WORDS, **changed}), GRID, ["oxide", "west"], 12)
     assert any(told in doubt for doubt in explained.doubts)
     _, sound = plan_from(Spoken(**{**WORDS, "K": None}), GRID, ["oxide", "west"], 12)
@@ -176,7 +176,7 @@ def test_what_is_taken_without_a_word_is_a_note():
     assert not any("not given" in note for note in sound.notes)
 
 
-def test_an_ore_in_percent_is_told_in_percent():
+def test_an_ore_in_percent_is_reported_in_percent():
     """A pound is 0.45359237 kg, so 4 USD/lb are 882 cents a kilogram, and 16.50 USD/t are paid by
     1,650 / (0.92 x 882) kg a tonne, 0.2033 %."""
     plan, explained = plan_from(Spoken(**{**WORDS, "price": "4 USD/lb", "grade_unit": "%",

@@ -1,4 +1,4 @@
-"""Bars of progress: on a terminal alone; and `compile`, which hands on what pitc says."""
+"""Progress bars: on a terminal alone; and `compile`, which passes on what pitc prints."""
 import errno
 import fcntl
 import os
@@ -24,7 +24,7 @@ WORDS = [sys.executable, "-m", "pit_tools"]
 ENVIRONMENT = {**os.environ, "COLUMNS": "200",
                "PYTHONPATH": os.pathsep.join(filter(None, [SOURCE, os.environ.get("PYTHONPATH")]))}
 
-#: What stands for pitc: it reads and writes slowly, tells a line, and ends as it is told.
+#: A substitute for pitc: it reads and writes slowly, prints a line, and ends as instructed.
 SLOW = """#!/bin/sh
 plan=$3 base=$5
 sleep 0.3
@@ -45,8 +45,8 @@ def terminal():
 
 
 def on_terminal(words, folder, is_printed_there=False, **more):
-    """Runs pit-tools with a terminal as its standard error; answers the status, what was printed,
-    and what stood on the terminal."""
+    """Runs pit-tools with a terminal as its standard error; returns the status, what was
+    printed, and what was on the terminal."""
     ours, theirs = terminal()
     output = theirs if is_printed_there else subprocess.PIPE
     child = subprocess.Popen([*WORDS, *words], cwd=folder, stdout=output, stderr=theirs,
@@ -75,7 +75,8 @@ def apart(words, folder, **more):
 
 
 def what_stays(shown: str) -> str:
-    """What is left to be read on a terminal: a carriage return goes back to the line's begin."""
+    """Returns what stays readable on a terminal: a carriage return moves to the start of the
+    line."""
     lines = []
     for line in shown.replace("\r\n", "\n").split("\n"):
         seen = ""
@@ -109,7 +110,7 @@ def test_a_bar_is_seen_on_a_terminal_alone_and_nothing_of_it_stays(folder, words
     assert status == 0 and all(text in shown for text in seen), shown
     assert f"{words[0]} |" in shown and what_stays(shown).strip() == ""
     assert apart(words, folder) == (0, told, "")
-    # What is printed on the same terminal stands there as it is elsewhere.
+    # What is printed on the same terminal appears there as it does elsewhere.
     status, _, shown = on_terminal(words, folder, is_printed_there=True)
     assert status == 0 and what_stays(shown) == told.rstrip("\n") + "\n"
 
@@ -126,7 +127,7 @@ def test_rows_that_are_printed_have_no_bar(folder):
     assert "back |" in on_terminal([*words, "--out", "rows.csv"], folder)[2]
 
 
-def test_a_fault_stands_alone_behind_the_bar(folder):
+def test_a_fault_is_alone_after_the_bar(folder):
     os.remove(folder / "mine.pcpsp")
     words = ["survey", "mine.plan", "mine"]
     status, _, shown = on_terminal(words, folder)
@@ -150,7 +151,7 @@ COMPILE = ["compile", "--plan", "mine.plan", "--out", "slow", "--pitc", "./pitc"
     ("", 0, "rows 7\n"),
     ("sink prec: SinkFailed", 3, "pitc: sink prec: SinkFailed\npit-tools compile: slow.prec: it cannot be "
      "written: is the disk full, or the folder not yours?\n")])
-def test_compile_shows_bytes_and_hands_on_line_and_status(folder, fault, status, line):
+def test_compile_shows_bytes_and_passes_on_line_and_status(folder, fault, status, line):
     wanted = (status, "" if fault else line, line if fault else "")
     assert apart(COMPILE, folder, FAULT=fault) == wanted
     os.remove(folder / "slow.prec")
@@ -163,7 +164,8 @@ def test_compile_shows_bytes_and_hands_on_line_and_status(folder, fault, status,
 
 
 def test_compile_reports_a_file_that_the_system_does_not_store(folder, monkeypatch, capfd):
-    """pitc ends with 0 there, since it does not hear it; no record says that the files are whole."""
+    """pitc ends with 0 there, since it does not notice; no record says that the files are
+    complete."""
     def refused(descriptor):
         if os.readlink(f"/proc/self/fd/{descriptor}").endswith("slow.prec"):
             raise OSError(errno.EDQUOT, "Disk quota exceeded")
@@ -202,8 +204,8 @@ def test_a_signal_ends_pitc_too(folder, number, is_seen):
         os.close(theirs)
 
 
-def test_compile_says_what_pitc_says(tmp_path, pitc):
-    """A plan, a faulty plan, no zone file, and no plan at all."""
+def test_compile_prints_what_pitc_prints(tmp_path, pitc):
+    """A plan, an invalid plan, no zone file, and no plan at all."""
     mines.six_blocks(tmp_path)
     (tmp_path / "bad.plan").write_text("nothing\n")
     for words in (["--plan", "mine.plan", "--out", "a", "mine-0.csv"],

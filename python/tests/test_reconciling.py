@@ -1,8 +1,9 @@
-"""A resource report beside an import: what agrees, what stops with which cause, and what is refused.
+"""A resource report compared with an import: what agrees, what stops with which cause, and what
+is rejected.
 
-The mine has two zones of cubes of 10 m. In `west` 60 blocks have 2,700 t at 2.0 g/t; in `east` 40
-blocks have 2,500 t at 1.0 g/t. So the truth, by hand: west 162,000 t, 324 kg of gold; east 100,000 t,
-100 kg; in all 262,000 t at 1.618321 g/t."""
+The mine has two zones of cubes of 10 m. In `west` 60 blocks have 2,700 t at 2.0 g/t; in `east`
+40 blocks have 2,500 t at 1.0 g/t. So the true values, worked out manually, are: west 162,000
+t, 324 kg of gold; east 100,000 t, 100 kg; in all 262,000 t at 1.618321 g/t."""
 from __future__ import annotations
 
 import json
@@ -47,7 +48,7 @@ def written(folder, rows, name="export.csv"):
 
 
 def reconciled(folder, report, rows=None, expected=(), tolerance=1.0, **words):
-    """The import of rows beside a report."""
+    """The import of rows with a report."""
     written(folder, rows or rows_of())
     reports = []
     if report:
@@ -59,7 +60,7 @@ def reconciled(folder, report, rows=None, expected=(), tolerance=1.0, **words):
 
 
 def refusal(folder, report, rows=None, **more):
-    """What `judge` says, and that nothing is written."""
+    """What `judge` prints, and that nothing is written."""
     found = reconciled(folder, report, rows, **more)
     with pytest.raises(UserError) as stopped:
         found.write("from")
@@ -96,7 +97,8 @@ def scaled(at, factor, zone=None):
                         for number, cell in enumerate(row)]
 
 
-#: A mistake, how the export or the words have it, and what is said of it. The truth is TRUE.
+#: A mistake, its form in the export or the arguments, and the report on it. The true values are
+#: TRUE.
 WRONG = [
     ("kilotonnes", scaled(3, 0.001), {}, "kilotonnes read as tonnes: --tonnes 'COLUMN kt'"),
     ("short tons", scaled(3, 1 / 0.90718474), {}, "short tons read as tonnes: --tonnes 'COLUMN st'"),
@@ -131,18 +133,18 @@ def test_a_wrong_mine_stops_with_its_zone_and_cause(change, words, message, tmp_
     assert told.startswith("report.csv: line ")
 
 
-def test_a_report_in_kilotonnes_is_told(tmp_path):
+def test_a_report_in_kilotonnes_is_reported(tmp_path):
     told = refusal(tmp_path, "zone,tonnes\nwest,162\n")
     assert "west has tonnes of 162 t, and the model 162,000, x 1,000: that is 1,000 times" in told
     assert "or a report in kilotonnes" in told
 
 
-def test_blocks_of_another_size_are_told_by_their_volume(tmp_path):
+def test_blocks_of_another_size_are_reported_by_their_volume(tmp_path):
     report = "zone,tonnes,volume (m3)\nwest,162000,120000\n"
     assert "half of the rows, or blocks of half the size" in refusal(tmp_path, report)
 
 
-def test_a_mirrored_mine_is_told_by_its_extents(tmp_path):
+def test_a_mirrored_mine_is_reported_by_its_extents(tmp_path):
     report = "zone,tonnes,xmin,xmax,ymin,ymax\nwest,162000,0,40,0,50\n"
     reconciled(tmp_path, report).reconciliation.judge()
     told = refusal(tmp_path, report, x="Y", y="X")
@@ -220,7 +222,8 @@ def test_without_a_report_the_table_is_printed_and_what_was_not_compared_is_said
 
 
 def test_parents_are_compared_by_the_zones_of_their_sub_blocks(tmp_path):
-    """Each parent of 20 m has cubes of `thin` and of `west` to equal parts, and is of the first."""
+    """Each parent of 20 m has equal parts of cubes of `thin` and of `west`, and is of the
+    first."""
     rows = rows_of(lambda row: [*row[:6], "thin" if row[1] == 0 else row[6]])
     report = "zone,tonnes,grade\nthin,27000,2\nwest,135000,2\ntotal,262000,1.618\n"
     found = reconciled(tmp_path, report, rows, parents="20,20,10", corner="-5,-5,-5",
@@ -242,8 +245,8 @@ def doubled(row):
     ({"parents": "20,20,10", "corner": "-5,-5,-5", "volume": "1000 + 0*T"}, rows_of(), (60, 40)),
     ({}, rows_of(), (60, 40))], ids=["cut", "cut by volume", "summed up", "in several files"])
 def test_blocks_of_a_report_are_rows_of_the_export(words, rows, blocks, tmp_path, monkeypatch):
-    """A package counts each of its blocks once, of whatever size; parts of it are none, and what
-    the instance has after summing up or cutting is not laid beside that."""
+    """A package counts each of its blocks once, of whatever size; their parts do not count,
+    and what the instance has after summing up or cutting is not compared with that."""
     monkeypatch.setattr(placing, "cut_zones", partial(cut_zones, most=8))
     report = (f"zone,tonnes,blocks\nwest,162000,{blocks[0]}\neast,100000,{blocks[1]}\n"
               f"total,262000,{sum(blocks)}\n")
@@ -276,7 +279,7 @@ def planned(folder, capsys):
     return capsys.readouterr().out
 
 
-def test_plan_compares_and_tells_what_zones_are_worth(tmp_path, monkeypatch, capsys):
+def test_plan_compares_and_prints_what_zones_are_worth(tmp_path, monkeypatch, capsys):
     monkeypatch.chdir(tmp_path)
     text = planned(tmp_path, capsys)
     # A tonne of west is worth 2 x 0.92 x 58 - 16 = 90.72, of east 0.92 x 58 - 16 = 37.36.

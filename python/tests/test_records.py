@@ -1,5 +1,5 @@
-"""Files that belong together are tied by a record: of two runs, or changed, they are refused by
-whoever reads them."""
+"""Files that belong together are tied by a record: if they are of two runs, or changed, their
+readers reject them."""
 import errno
 import fcntl
 import json
@@ -55,7 +55,7 @@ COMPILE = ["compile", "--plan", "mine.plan", "--out", "mine", *ZONES, "--pitc", 
 
 
 def refusal(words, capsys):
-    """What a command is refused with, in one line."""
+    """Returns the one line with which a command fails."""
     assert main(words) == 2
     told = capsys.readouterr().err
     assert told.count("\n") == 1
@@ -170,7 +170,7 @@ def test_an_edited_file_passes_with_an_instance_in_another_folder(here, capsys, 
     assert f"{name}: it is not the file" in refusal(other[1], capsys)
 
 
-def test_whole_runs_that_do_not_belong_together_are_refused(here, capsys):
+def test_complete_runs_that_do_not_belong_together_are_refused(here, capsys):
     change(here / "export.csv", ",0.5,", ",0.75,")
     assert main(["back", "mine.plan", "mine", "mine.cpit", "--onto", "from.json"]) == 2
     assert main(IMPORT) == 0
@@ -194,7 +194,7 @@ def test_files_without_a_record_pass(here, capsys):
 
 
 @pytest.mark.parametrize("text", ["# {\"tool\": \"pit-tools 0.2.0\"}\n", None, "cut"])
-def test_a_damaged_record_is_told_and_replaced(here, capsys, text):
+def test_a_damaged_record_is_reported_and_replaced(here, capsys, text):
     whole = (here / "from.json.sums").read_text()
     (here / "from.json.sums").write_text(
         whole[:-20] if text is None else whole.replace("  from-west", " from-west")
@@ -211,7 +211,7 @@ def test_a_record_that_cannot_be_read_is_named(here, capsys):
     assert main(["pit", "mine"]) == 0
 
 
-def test_names_are_spelled_as_sha256sum_does(tmp_path, monkeypatch):
+def test_names_are_written_as_sha256sum_does(tmp_path, monkeypatch):
     monkeypatch.chdir(tmp_path)
     names = ["a b", "a\\b", "a\nb", "\\n", "a\\\nb"]
     for name in names:
@@ -275,7 +275,7 @@ def test_files_of_another_command_stay_where_its_record_has_the_name(here):
     assert (here / "mine2.blocks").exists()
 
 
-def test_a_record_names_its_inputs_where_a_link_leads_to_its_folder(here):
+def test_a_record_names_its_inputs_if_a_link_leads_to_its_folder(here):
     (here / "far" / "away").mkdir(parents=True)
     (here / "link").symlink_to(here / "far" / "away")
     assert main(["link/mine" if word == "mine" else word for word in COMPILE]) == 0
@@ -291,14 +291,14 @@ def test_compile_refuses_sums_of_the_user_before_it_replaces_files(here, capsys)
     assert (here / "mine.blocks").read_text() == "old\n"
 
 
-def test_compile_names_the_base_where_its_folder_cannot_be_written(here, capsys):
+def test_compile_names_the_base_if_its_folder_cannot_be_written(here, capsys):
     told = refusal(["nowhere/mine" if word == "mine" else word for word in COMPILE], capsys)
     assert told == ("pit-tools compile: nowhere/mine: its folder cannot be written (No such file "
                     "or directory), where the lock and the record of sums are: let it be written, "
                     "or name another place; `pitc compile` itself has neither\n")
 
 
-def test_compile_replaces_no_file_where_it_can_write_files_but_not_their_folder(
+def test_compile_replaces_no_file_if_it_can_write_files_but_not_their_folder(
         here, capsys, monkeypatch):
     before, real = {name: (here / name).read_bytes() for name in os.listdir(here)}, os.open
 
@@ -428,7 +428,7 @@ def test_a_file_system_without_locks_is_written_all_the_same(here, monkeypatch, 
     assert os.path.exists("mine.blocks") and not os.path.exists(".mine.lock")
 
 
-def test_a_lock_that_never_goes_is_told(here, monkeypatch, capsys):
+def test_a_lock_that_never_goes_is_reported(here, monkeypatch, capsys):
     monkeypatch.setattr("pit_tools.files.renames.SECONDS_OF_A_PUT", 0.1)
     descriptor = os.open(".", os.O_RDONLY)
     fcntl.flock(descriptor, fcntl.LOCK_EX)
@@ -438,7 +438,7 @@ def test_a_lock_that_never_goes_is_told(here, monkeypatch, capsys):
     assert sorted(os.listdir(".")) == before and main(PLAN) == 0
 
 
-def test_an_input_that_changes_meanwhile_is_told(here, monkeypatch, capsys):
+def test_an_input_that_changes_meanwhile_is_reported(here, monkeypatch, capsys):
     real = records.Reading.inputs
 
     def later(*words):
@@ -449,7 +449,7 @@ def test_an_input_that_changes_meanwhile_is_told(here, monkeypatch, capsys):
     assert "export.csv: it was changed while this command ran" in refusal(IMPORT, capsys)
 
 
-# Disks that refuse
+# Disks that fail
 
 
 def refusing_from(monkeypatch, name, nth, number=errno.EIO, last=10 ** 6):
@@ -480,7 +480,7 @@ def test_without_links_the_old_files_come_back(here, monkeypatch, capsys, nth):
 
 @pytest.mark.parametrize("nth", [2, 3, 4])
 @pytest.mark.parametrize("has_links", [True, False])
-def test_a_disk_that_fails_from_a_call_on_has_its_mixture_told(here, monkeypatch, capsys, nth,
+def test_a_disk_that_fails_from_a_call_on_has_its_mixture_reported(here, monkeypatch, capsys, nth,
                                                                has_links):
     before = {name: (here / name).read_bytes() for name in os.listdir(here)}
     for old, new in ((",0.5,", ",0.75,"), (",1.5,", ",1.25,")):

@@ -1,4 +1,4 @@
-"""What `pit-tools compile` says of a line in which pitc refuses an input."""
+"""What `pit-tools compile` adds to a line in which pitc rejects an input."""
 import os
 
 import pytest
@@ -35,14 +35,14 @@ def test_a_refusal_is_explained(here, line, told):
 
 
 def test_a_pipe_is_not_opened_again(tmp_path):
-    """Nobody writes to it any more, so that a reader would wait for ever."""
+    """Nobody writes to it any more, so a reader would wait for ever."""
     pipe = str(tmp_path / "pipe")
     os.mkfifo(pipe)
     assert list(reasons("pitc: file 0 row 3 column x: TooFine", "", [pipe], "")) == [
         f"{pipe}: row 3: round it: coordinates and tonnes have 3 decimals, grades 6"]
 
 
-def test_compile_says_where_and_what_behind_the_line_of_pitc(monkeypatch, tmp_path, capfd, pitc):
+def test_compile_says_where_and_what_after_the_line_of_pitc(monkeypatch, tmp_path, capfd, pitc):
     monkeypatch.chdir(tmp_path)
     mines.six_blocks(tmp_path)
     plan = (tmp_path / "mine.plan").read_text().replace("rate,0.08", "rate,8")

@@ -1,4 +1,4 @@
-"""Models without a mistake: `import`, `plan` and `survey` have nothing to look at of them."""
+"""Models without a mistake: `import`, `plan` and `survey` report nothing to look at."""
 from __future__ import annotations
 
 from typing import NamedTuple
@@ -17,11 +17,11 @@ WIDE, HIGH = 26, 8
 
 
 class Right(NamedTuple):
-    """A model: sizes of its blocks, its zones by x and z, slopes, and words of `import` and `plan`.
-    `richest` is the grade of its core in the unit of the export, `digits` are those of grades. Some
-    of the rock is void, with a grade and no tonnes; the ground is level in a box without air; blocks
-    are two sub-blocks each, of which the ground cuts the upper one; limits have `spare` times what
-    the pit takes, or are none."""
+    """A model: sizes of its blocks, its zones by x and z, slopes, and arguments of `import`
+    and `plan`. `richest` is the grade of its core in the unit of the export, `digits` are the
+    digits of grades. Some of the rock is void, with a grade and no tonnes; the ground is level
+    in a box without air; blocks are two sub-blocks each, of which the ground cuts the upper
+    one; limits have `spare` times what the pit takes, or are none."""
 
     name: str
     size: tuple[int, int, int] = (20, 20, 10)
@@ -111,7 +111,7 @@ def limits_for(plan_path: str, files: list[str], periods: int, right: Right) -> 
 
 
 def looked_at(text: str) -> list[str]:
-    """The lines behind LOOK AT."""
+    """Returns the lines after LOOK AT."""
     behind = text.partition("LOOK AT\n")[2].split("\n\n")[0]
     return [line
             for line in behind.splitlines() if line.startswith("- ") and "nothing odd" not in line]

@@ -1,4 +1,4 @@
-"""What is written is read back, and what a reader takes it can write, of made and of changed
+"""What is written is read back, and what a reader accepts it can write, of made and of changed
 files."""
 import functools
 import os
@@ -34,11 +34,11 @@ NAMES = st.text("abcXYZ019_.-", min_size=1, max_size=64)
 
 
 def decimals(places, most):
-    """Floats nearest to decimals of so many places, as a reader has them."""
+    """Floats nearest to decimals of this number of places, as a reader has them."""
     return st.integers(-most * 10**places, most * 10**places).map(lambda whole: whole / 10**places)
 
 
-# Values of few and of many places, and such as are too great for more than two.
+# Values of few and of many places, and some that are too large for more than two.
 VALUES = st.one_of(st.sampled_from([0.0, -0.01, 9e9 + 0.25, -9e13 + 0.5]), decimals(2, 10**9),
                    decimals(6, 10**6))
 
@@ -118,7 +118,7 @@ def six_blocks():
 
 
 def changed(folder, text, place, cell):
-    """Writes the six blocks with one field of one text changed; answers the base."""
+    """Writes the six blocks with one field of one text changed; returns the base."""
     texts = dict(six_texts())
     fields = texts[text].split(" ")
     fields[place % len(fields)] = cell
@@ -142,8 +142,8 @@ def test_an_instance_that_is_written_is_read_back(mine):
        st.sampled_from(["", "0", "-1", "7", "0.5", "300", "1e3", "1e15", "nan", "inf", "x", ".",
                         "4294967296", "5.0000001", "1 2", ":", "%", "\n", '"', "NAME: a b"]))
 def test_what_a_reader_takes_it_can_write(text, place, cell):
-    """One field of one file is another one: it is refused in one line, or what is read is written
-    and read back."""
+    """With one field of one file changed, it is rejected in one line, or what is read is
+    written and read back."""
     with tempfile.TemporaryDirectory() as folder:
         base = changed(folder, text, place, cell)
         try:
@@ -159,7 +159,7 @@ def test_what_a_reader_takes_it_can_write(text, place, cell):
 @SOME
 @given(instances(), st.sampled_from(["bdr", "brd", "rbd"]))
 def test_published_files_are_read_back(mine, order):
-    """Those of an instance whose numbers `pitc check` takes."""
+    """The texts of an instance whose numbers `pitc check` accepts."""
     with tempfile.TemporaryDirectory() as folder:
         base = os.path.join(folder, "mine")
         write_published(mine, base, order)
@@ -217,7 +217,7 @@ def test_a_schedule_is_read_back(lines, is_pcpsp):
        st.sampled_from(["", "0", "-1", "7", "0.5", "300", "1e3", "1e15", "nan", "inf", "x", ".",
                         "4294967296", "5.0000001", "1 2", ":", "%", "\n", '"', "EOF"]))
 def test_a_changed_published_file_is_taken_or_refused_in_a_line(text, place, cell):
-    """What is brought in is an instance that the reader takes."""
+    """What is converted is an instance that the reader accepts."""
     with tempfile.TemporaryDirectory() as folder:
         base = changed(folder, text, place, cell)
         words = [word for ending in files.TEXTS for word in (f"--{ending}", f"{base}.{ending}")]
@@ -228,7 +228,7 @@ def test_a_changed_published_file_is_taken_or_refused_in_a_line(text, place, cel
             assert read_instance(os.path.join(folder, "again")).blocks is not None
 
 
-#: What may stand in a cell or a field, and does not belong there.
+#: What may occur in a cell or a field, and does not belong there.
 ODD = st.sampled_from(["", "0", "-1", "7", "0.5", "1e3", "1e999999999", "9" * 5000, "nan", "inf",
                        "x", ".", "²", "٣", "é", '"', '"a\n', "1 2", "\r", "\0", "a,b", "name", "L"])
 

@@ -1,5 +1,5 @@
-"""A search for schedules: its start from shells, and what it finds of programs whose best is
-known."""
+"""A search for schedules: its start from shells, and what it finds for programs whose best
+schedule is known."""
 import itertools
 import os
 import select
@@ -97,14 +97,14 @@ def test_a_part_never_makes_a_schedule_worse_and_leaves_what_it_holds(tmp_path):
     assert check(search.best, mine.cpit, mine.precedence).holds
 
 
-def test_a_schedule_that_does_not_hold_is_not_taken():
+def test_a_schedule_that_is_not_feasible_is_not_taken():
     problem, blocks, arcs = columns([100, 30, 5, -10, -10, -10])
     search = Search(problem, blocks, arcs, 10)
     alone = Schedule(np.array([0]), np.array([0]), np.array([0]), np.ones(1))
     assert alone.worth(problem) == 100 and not search._take(alone, "given") and search.best is None
 
 
-# Steps of a process of their own, which it finds in this module.
+# Steps of a separate process, which it finds in this module.
 
 
 def sleeping(*_):
@@ -161,7 +161,7 @@ def test_what_a_step_in_a_process_raises_is_raised():
 
 
 def test_a_solver_ends_in_a_program_that_has_used_it(tmp_path):
-    """HiGHS keeps threads, which a copy of this process would wait for and not have."""
+    """HiGHS has threads, which a copy of this process would wait for and not have."""
     base = mines.six_blocks(tmp_path)
     mine = read_instance(base)
     program = program_of(mine.cpit, mine.precedence)

@@ -1,5 +1,5 @@
 """Programs and schedules of CPIT and PCPSP against all schedules of small mines, and known
-answers."""
+results."""
 import itertools
 import re
 import shutil
@@ -32,7 +32,7 @@ def one_block_of_mill(folder):
 
 @pytest.mark.parametrize("make, kind, relaxed, value", [
     (two_blocks_of_mill, "cpit", False, 221940 - 5300 + 24645 + (309420 + 61560 - 5300) / 1.08),
-    # as cbc and glpsol have them, and all schedules of whole blocks
+    # as cbc and glpsol have them, and all schedules of complete blocks
     (one_block_of_mill, "cpit", False, 322498.333333),
     (one_block_of_mill, "pcpsp", False, 455889.166667),
     (one_block_of_mill, "pcpsp", True, 474119.625468),  # the relaxation, as cbc has it
@@ -79,7 +79,7 @@ def random_problem(random, kind):
 
 
 def all_schedules(problem):
-    """Every schedule of whole blocks: where each goes, and when."""
+    """Yields every schedule of complete blocks: the destination and period of each."""
     choices = [(None, 0)] + [(period, at) for period in range(problem.periods)
                              for at in range(problem.destinations)]
     for choice in itertools.product(choices, repeat=len(problem.values)):
@@ -90,7 +90,7 @@ def all_schedules(problem):
 
 
 def plainly_holds(schedule, problem, arcs):
-    """The rules of docs/formats.md for whole blocks, one by one."""
+    """The rules of docs/formats.md for complete blocks, one by one."""
     when = {block: period
             for block, period in zip(schedule.block.tolist(), schedule.period.tolist())}
     for block, other in zip(*arcs.nonzero()):
@@ -125,7 +125,7 @@ def test_programs_and_checks_against_all_schedules(kind, seed):
 
 BEST = "0 0 0;1 1 0;2 2 0;3 0 2;4 0 1;5 1 2"
 
-# Lines of schedules of the PCPSP, by `;`, which hold.
+# Lines of schedules of the PCPSP, by `;`, which are feasible.
 RIGHT = [
     BEST,
     "",
@@ -145,7 +145,7 @@ RIGHT = [
     "3 0 1;4 0 0;5 0 2;0 1 0;1 2 0",
 ]
 
-# Lines which break something, and the first things that they break.
+# Lines which violate something, and the first things that they violate.
 WRONG = [
     (BEST.replace("1 1 0", "1 0 0"),
      ["block 1 is mined in period 0, before block 5", "resource 0, period 0: 5400.000 t of L 2700",
@@ -181,7 +181,7 @@ WRONG = [
     ("3 2 0;4 2 0", ["resource 0, period 2: 5300.000 t of L 2700"]),
     ("3 0 2;4 0 2;5 0 2;0 0 2", ["resource 1, period 0: 10650.000 t of I 0 8100"])]
 
-# Lines that state no schedule, the second of a file, and how they are refused.
+# Lines that state no schedule, the second of a file, and how they are rejected.
 REFUSED = [("9 0 0", "no block below 6"), ("-1 0 0", "no block below 6"),
            ("0.5 0 0", "no block below 6"), ("0 3 0", "no period below 3"),
            ("0 -1 0", "no period below 3"), ("0 0 3", "no destination below 3"),
@@ -193,7 +193,7 @@ REFUSED = [("9 0 0", "no block below 6"), ("-1 0 0", "no block below 6"),
 
 
 def told_of(folder, lines):
-    """What the check of a schedule's lines finds broken."""
+    """Returns what the check of a schedule's lines finds violated."""
     mine = read_instance(one_block_of_mill(folder))
     (folder / "schedule").write_text(lines.replace(";", "\n") + "\n", newline="")
     return check(read_schedule(str(folder / "schedule"), mine.pcpsp), mine.pcpsp, mine.precedence)
@@ -273,7 +273,7 @@ def test_what_solvers_answer_is_read(tmp_path, text):
 
 
 def lp_by_hand(text):
-    """A reader of the LP format: the objective, rows and whole variables, by names."""
+    """A reader of the LP format: the objective, rows and integer variables, by names."""
     objective, rows, whole, part = {}, [], set(), None
     for line in text.splitlines():
         if line in ("Maximize", "Subject To", "Bounds", "Binary", "End"):

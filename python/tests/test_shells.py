@@ -44,12 +44,13 @@ def random_pit(seed: int) -> np.ndarray:
 
 
 def volume_of(corners: np.ndarray) -> float:
-    """What triangles (t, 3, 3) enclose, by their tetrahedra from a point apart."""
+    """Returns what triangles (t, 3, 3) enclose, by their tetrahedra from a separate point."""
     return float(np.linalg.det(corners - np.array([500050, 7200050, 0])).sum() / 6)
 
 
 def ends_of(blocks: Blocks, in_pit: np.ndarray) -> np.ndarray:
-    """The least and the greatest coordinates of the blocks of a pit, by hand."""
+    """Returns the smallest and the largest coordinates of the blocks of a pit, worked out
+    here."""
     origin = np.array([500000.5, 7200000.25, -50])
     middles = origin + np.stack([blocks.x, blocks.y, blocks.z], axis=1)[in_pit] * SIZE
     return np.stack([middles.min(axis=0) - SIZE / 2, middles.max(axis=0) + SIZE / 2])
@@ -67,7 +68,7 @@ def test_the_surface_is_closed_and_encloses_the_blocks(seed):
     key = len(shell.points)
     there, back = edges[:, 0] * key + edges[:, 1], edges[:, 1] * key + edges[:, 0]
     assert np.array_equal(np.sort(there), np.sort(back))
-    # An area of the model's faces: what the blocks' places say.
+    # An area of the model's faces: from the blocks' positions.
     place = np.zeros(SHAPE, dtype=int)
     place[blocks.x, blocks.y, blocks.z] = in_pit
     faces = [np.abs(np.diff(np.pad(place, 1), axis=axis)).sum() for axis in range(3)]
@@ -84,7 +85,7 @@ def test_edges_at_which_blocks_touch_alone_are_counted():
 
 
 def test_the_turn_and_the_unit_of_an_export_are_undone():
-    """A block of 20 x 25 m at the turned place of an export in feet."""
+    """A block of 20 x 25 m at the turned position of an export in feet."""
     blocks = blocks_of_box()
     turn = Turn(30, (1_000_000, 2_000_000))
     shell = shell_of("one", GRID, blocks, (blocks.x == 2) & (blocks.y == 1) & (blocks.z == 0),
@@ -119,7 +120,7 @@ def read_vtk(path):
 
 
 def read_obj(path):
-    """The triangles of each object; and meshio reads as many."""
+    """The triangles of each object; and meshio reads the same number."""
     points, found, name = [], {}, None
     for words in (line.split() for line in open(path, encoding="utf-8")):
         if words[0] == "o":
@@ -169,7 +170,8 @@ def test_files_that_are_read_back_have_the_pits(mine, capsys, ending, read, name
         assert f": {in_pit.sum()} blocks, {volume}, {len(corners):,} triangles; " in told
     with open(f"pits.{ending}", "rb") as file:
         before = file.read()
-    # The same words make the same file, in place of it, and none in place of another kind.
+    # The same arguments make the same file again in its place, but never replace another kind of
+    # file.
     assert main(words) == 0
     with open(f"pits.{ending}", "rb") as file:
         assert file.read() == before
@@ -192,7 +194,7 @@ def test_layers_have_names_that_differ(mine):
     (["early.pit", "--turned", "mine.plan", "--out", "pit.obj"],
      "not what `pit-tools import` writes"),
 ])
-def test_what_is_wrong_is_told_in_a_line(mine, tmp_path, capsys, words, told):
+def test_what_is_wrong_is_reported_in_a_line(mine, tmp_path, capsys, words, told):
     (tmp_path / "none.pit").write_text("")
     assert main([*SHELL, *words]) == 2
     error = capsys.readouterr().err
@@ -200,7 +202,7 @@ def test_what_is_wrong_is_told_in_a_line(mine, tmp_path, capsys, words, told):
 
 
 @pytest.mark.parametrize("module, ending", [("ezdxf.addons.r12writer", "dxf"), ("meshio", "vtk")])
-def test_a_package_that_is_lacking_is_named(mine, capsys, monkeypatch, module, ending):
+def test_a_package_that_is_missing_is_named(mine, capsys, monkeypatch, module, ending):
     monkeypatch.setitem(sys.modules, module, None)
     assert main([*SHELL, "early.pit", "--out", f"pit.{ending}"]) == 2
     assert f"apt-get install --no-install-recommends python3-{module.split('.')[0]}" in capsys.readouterr().err
@@ -217,7 +219,8 @@ def turned_export() -> str:
 
 @pytest.mark.parametrize("unit", ["m", "ft"])
 def test_a_turned_export_has_its_pit_at_its_own_coordinates(tmp_path, monkeypatch, capsys, unit):
-    """By the note of the plan, or by what `import` left, where the note fits the plan no more."""
+    """By the sidecar file of the plan, or by what `import` left, if the sidecar no longer fits
+    the plan."""
     monkeypatch.chdir(tmp_path)
     (tmp_path / "export.csv").write_text(turned_export())
     words = ["--x", f"X {unit}", "--y", f"Y {unit}", "--z", f"Z {unit}", "--tonnes", "T",

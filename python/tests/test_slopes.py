@@ -1,4 +1,5 @@
-"""Slopes beside closures that are made here by trying, from the words of docs/formats.md alone."""
+"""Slopes compared with closures that are found here by trying, from the words of
+docs/formats.md alone."""
 from __future__ import annotations
 
 import math
@@ -27,9 +28,9 @@ CASES = [
 
 
 def closure_of(size, sides, K: int, benches: int) -> list[set[tuple[int, int]]]:
-    """The places that have to be dug for one block, by benches above it: those of the cones of its
-    cones, where (dx, dy) is in a cone so many benches up if (dx Sx / (h q/p of x))^2 + (dy Sy / (h
-    q/p of y))^2 is at most 1, h being the height."""
+    """Returns the positions that must be dug for one block, by benches above it: those of the
+    cones of its cones. (dx, dy) is in a cone at a number of benches up if (dx Sx / (h q/p of
+    x))^2 + (dy Sy / (h q/p of y))^2 is at most 1, h being the height."""
     width, height = size
     cones = []
     for up in range(1, K + 1):
@@ -49,8 +50,8 @@ def closure_of(size, sides, K: int, benches: int) -> list[set[tuple[int, int]]]:
 
 
 def measured_apart(size, sides, K: int, benches: int) -> float:
-    """By how many degrees a wall of a pit of so many benches is too steep in the worst of 360
-    bearings, by the places that are dug."""
+    """Returns by how many degrees a wall of a pit of this number of benches is too steep in
+    the worst of 360 bearings, by the positions that are dug."""
     rise, worst = benches - 1, 0.0
     out = np.array(sorted(closure_of(size, sides, K, rise)[rise])) * size[0]
     for degrees in range(360):
@@ -77,7 +78,7 @@ def test_straight_walls_are_as_steep_as_those_of_closures(size, sides, K):
 
 
 @pytest.mark.parametrize("size, sides, K", CASES)
-def test_the_pit_of_one_block_is_as_flat_as_told(size, sides, K):
+def test_the_pit_of_one_block_is_as_flat_as_printed(size, sides, K):
     grid = Grid((Decimal(0),) * 3, (Decimal(size[0]), Decimal(size[0]), Decimal(size[1])))
     walls = measured(grid, Zone(tuple(Slope(*pair) for pair in sides), K))
     dug = closure_of(size, sides, K, 12)
@@ -90,7 +91,7 @@ def test_the_pit_of_one_block_is_as_flat_as_told(size, sides, K):
         assert walls.given[K][45 * number] >= walls.asked[45 * number] - 1e-6
 
 
-def test_a_straight_wall_between_unlike_sides_is_asked_by_its_own_formula():
+def test_a_straight_wall_between_different_sides_is_computed_by_a_separate_formula():
     slopes = [math.tan(math.radians(angle)) for angle in (60, 35, 35, 60)]
     zone = Zone(tuple(Slope(round(1000 * tangent), 1000) for tangent in slopes), 9)
     # North-east: 1 / sqrt(1/2 / tan^2 60 + 1/2 / tan^2 35), where the ellipse of a single block's
@@ -110,8 +111,8 @@ TOLD = [
 
 @pytest.mark.parametrize("size, degrees, K, found", TOLD)
 def test_the_K_to_take_is_the_height_of_the_mine(size, degrees, K, found):
-    """A smaller one may be as good for the greatest height, and is far too steep for others: LOOK
-    AT tells the worst of them."""
+    """A smaller one may be as good for the greatest height, and is far too steep for others:
+    LOOK AT reports the worst of them."""
     slopes = tuple(map(slope_of, degrees))
     sides = [(slope.rise, slope.run) for slope in slopes]
     for benches, (with_K, with_all) in found.items():
@@ -150,7 +151,7 @@ def test_walls_that_no_K_makes_better_are_a_note():
 
 
 def test_a_zone_below_a_steeper_one_ends_at_the_contact():
-    """Its K is right where its cones end at the steeper rock, and no greater one is asked for."""
+    """Its K is right if its cones end at the steeper rock, and no larger one is requested."""
     flat, steep = Zone((Slope(1, 2),) * 4, 2), Zone((Slope(2, 1),) * 4, 20)
     judged = judge(square(20, 10), [flat, steep], ["flat", "steep"], 20, contacts=Contacts({0: 2}))
     assert judged.K == (2, 20) and not judged.look_at
@@ -163,9 +164,9 @@ def test_a_zone_below_a_steeper_one_ends_at_the_contact():
 
 
 def test_contacts_with_steeper_rock_are_counted():
-    """Two benches of flat rock below four of steep rock, 5 x 5 blocks: as one zone its 50 blocks
-    have cones that go on through the steep rock; as a zone for each bench, with K up to the
-    contact, none has."""
+    """Two benches of flat rock below four of steep rock, 5 x 5 blocks: as one zone its 50
+    blocks have cones that continue through the steep rock; as a zone for each bench, with K up
+    to the contact, none has."""
     z, y, x = (axis.ravel().astype(np.int32) for axis in np.mgrid[0:6, 0:5, 0:5])
     flat, steep = (Slope(1, 2),) * 4, (Slope(2, 1),) * 4
     for of_bench, zones, begins, below in (
@@ -187,8 +188,8 @@ def square(width: int, height: int) -> Grid:
 
 
 def test_plan_slopes_and_survey_say_the_same(tmp_path, capsys, monkeypatch):
-    """Of one model below two benches of air: whole blocks are the same note for all, and a small K the
-    same line to look at."""
+    """For one model below two benches of air: undiluted blocks give the same note for all, and
+    a small K the same line to look at."""
     monkeypatch.chdir(tmp_path)
     rows = [f"{20 * x},{20 * y},{10 * z},10800,{3 if (x, y, z) == (4, 4, 0) else 0},{x // 5}"
             for x in range(9) for y in range(9) for z in range(7)]
@@ -221,7 +222,7 @@ def test_plan_slopes_and_survey_say_the_same(tmp_path, capsys, monkeypatch):
     assert len(told["right"][0]) == 1 and len(told["small"][0]) == 2
 
 
-def test_the_command_tells_all_of_it(tmp_path, capsys):
+def test_the_command_prints_all_of_it(tmp_path, capsys):
     plan = tmp_path / "one.plan"
     plan.write_text("grid,0,0,0,20,20,10\nzone,1,1,9\n")
     assert main(["plan", "--walls", str(plan), "--benches", "12"]) == 0

@@ -1,4 +1,5 @@
-"""The survey's numbers beside those of another program of the same rules, and its page."""
+"""The survey's numbers compared with those of another program with the same rules, and its
+page."""
 import base64
 import json
 import os
@@ -28,7 +29,7 @@ DATA = os.path.join(os.path.dirname(__file__), "data")
 
 @pytest.fixture(scope="module")
 def surveyed(tmp_path_factory):
-    """The example deposit with K = 9, 13 and 9: its folder and the words of its survey."""
+    """The example deposit with K = 9, 13 and 9: its folder and the arguments of its survey."""
     folder = tmp_path_factory.mktemp("survey")
     plan = (Deposit().plan().replace("zone,1,1,2", "zone,1,1,9").replace("4,5,4,3", "4,5,4,13")
             .replace("zone,3,2,3", "zone,3,2,9"))
@@ -41,7 +42,8 @@ def surveyed(tmp_path_factory):
 
 
 def test_numbers_are_those_of_the_awk_survey(surveyed):
-    """tests/data/survey-deposit.txt is what examples/survey.awk of version 0.2.0 told of it."""
+    """tests/data/survey-deposit.txt is what examples/survey.awk of version 0.2.0 printed for
+    it."""
     base, zones = surveyed
     told = survey_text(read_facts(base + ".plan", base, zones))
     with open(os.path.join(DATA, "survey-deposit.txt")) as file:
@@ -64,7 +66,7 @@ def test_what_leaves_the_model_and_the_pit_at_its_sides(surveyed):
     assert (np.any(list(facts.at_side().values()), axis=0) & facts.pit).sum() == 158
 
 
-def test_the_six_blocks_by_hand(tmp_path):
+def test_the_six_blocks_worked_out_manually(tmp_path):
     facts = read_facts(mines.six_blocks(tmp_path) + ".plan", str(tmp_path / "mine"))
     tonnes, metal = above_cut_offs(facts, np.array([0, 0.45, 1.8, 3]))
     assert tonnes.tolist() == [16050, 10750, 5400, 0]
@@ -75,7 +77,7 @@ def test_the_six_blocks_by_hand(tmp_path):
     assert facts.strange_values == 0
 
 
-def test_straight_walls_by_hand():
+def test_straight_walls_worked_out_manually():
     """Cubes and 1 : 1: at K = 1 the cone has the five blocks above, so a straight wall to the
     north-east goes one block of the four along x or y a bench, 1 / sqrt(2) of a block in its
     bearing."""
@@ -90,7 +92,7 @@ def test_spans_of_periods():
     assert spans([0, 1, 2, 3, 5]) == "0 to 3, 5" and spans([4]) == "4"
 
 
-def test_the_page_stands_alone_and_has_its_pictures(surveyed, tmp_path):
+def test_the_page_is_self_contained_and_has_its_pictures(surveyed, tmp_path):
     base, zones = surveyed
     page = survey_page(read_facts(base + ".plan", base, zones), Inputs(base + ".plan", base, zones))
     pictures = re.findall(r'src="data:image/png;base64,([^"]+)"', page)
@@ -100,7 +102,7 @@ def test_the_page_stands_alone_and_has_its_pictures(surveyed, tmp_path):
     assert "at a side of the model" in page and "<pre>deposit: 3 zones" in page
 
 
-def test_the_page_begins_with_what_is_handed_on(surveyed):
+def test_the_page_begins_with_what_is_passed_on(surveyed):
     """The pit's sums by the arrays themselves, and the sums of the files by another program of
     them."""
     base, zones = surveyed
@@ -138,7 +140,8 @@ WAYS = ((1, 0, 0), (-1, 0, 0), (0, 1, 0), (0, -1, 0), (0, 0, 1), (0, 0, -1))
 
 
 def test_the_ore_to_turn_has_each_face_with_its_grade(surveyed, monkeypatch):
-    """The faces between a block of ore of the pit and what is none, by the places of the blocks."""
+    """The faces between a block of ore of the pit and one that is not, by the positions of the
+    blocks."""
     base, zones = surveyed
     facts = read_facts(base + ".plan", base, zones)
     page = view(facts)
@@ -158,7 +161,7 @@ def test_the_ore_to_turn_has_each_face_with_its_grade(surveyed, monkeypatch):
     assert {tuple(face) for face in ore["faces"]} == wanted
     assert len(ore["faces"]) == len(wanted) > 500
     assert "0.309 to 0.5" in page and "pays nowhere" not in page
-    # Where there are too many, cells of several blocks have about the same volume.
+    # If there are too many, cells of several blocks have about the same volume.
     monkeypatch.setattr(survey_view, "MOST_FACES", 300)
     ore = json.loads(re.search(r"const d = (\{.*?\}), canvas", view(facts))[1])["ore"]
     step = ore["size"][0] // 20
@@ -189,7 +192,7 @@ def test_sections_that_cannot_be_drawn_are_named(tmp_path, capsys, word, told):
     assert told in capsys.readouterr().err
 
 
-def test_a_section_that_is_asked_for_stands_on_the_page(tmp_path):
+def test_a_section_that_is_requested_is_on_the_page(tmp_path):
     base = mines.six_blocks(tmp_path)
     facts = read_facts(base + ".plan", base)
     names = [name for name, _, _ in all_of_them(facts, [plane_at(facts, "x", 12),
@@ -214,7 +217,7 @@ def test_the_first_shade_of_grades_is_what_pays_nowhere(surveyed):
     (["{base}.plan", "{base}/gone"], "cannot open {base}/gone.blocks"),
     (["{base}.plan", "{base}", "{base}-9.csv"], "{base}-9.csv"),
 ])
-def test_what_cannot_be_read_is_told_in_a_line(tmp_path, capsys, words, told):
+def test_what_cannot_be_read_is_reported_in_a_line(tmp_path, capsys, words, told):
     base = mines.six_blocks(tmp_path)
     assert main(["survey", *(word.format(base=base) for word in words)]) == 2
     error = capsys.readouterr().err

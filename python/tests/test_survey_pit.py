@@ -1,5 +1,5 @@
-"""What a survey tells of the pit by zone, bench and nested pit: beside sums by hand, and by pandas
-over the files."""
+"""What a survey reports on the pit by zone, bench and nested pit: compared with manual sums,
+and with pandas over the files."""
 import re
 
 import numpy as np
@@ -20,7 +20,7 @@ from test_nested import best_by_hand, worth_by_hand
 
 
 def part(told: str, name: str) -> list[str]:
-    """The lines of a part of a survey below its heads."""
+    """Returns the lines of a part of a survey below its headers."""
     found = re.search(f"(?ms)^{name}.*?(?=^$|\\Z)", told)
     return found[0].splitlines() if found else []
 
@@ -29,7 +29,7 @@ def numbers(line: str) -> list[float]:
     return [float(cell.replace(",", "")) for cell in line.split()[1:]]
 
 
-def test_the_six_blocks_by_hand(tmp_path):
+def test_the_six_blocks_worked_out_manually(tmp_path):
     """The pit is all six: above, 0.45 g/t goes to the mill, and the others are waste at 2 a tonne;
     below all three do, at 54 a gram of what is 90 % recovered, less 15 a tonne."""
     told = survey_text(read_facts(mines.six_blocks(tmp_path) + ".plan", str(tmp_path / "mine")))
@@ -47,7 +47,7 @@ def test_the_six_blocks_by_hand(tmp_path):
 
 @pytest.mark.parametrize("is_compiled", [True, False])
 def test_nested_pits_by_all_closures(tmp_path, monkeypatch, is_compiled):
-    """At a quarter of the price, where each factor has a pit of its own or that before it."""
+    """At a quarter of the price, at which each factor has its own pit or the one before it."""
     if not is_compiled:
         monkeypatch.setattr(closure, "is_compiled", lambda: False)
         monkeypatch.setattr(survey_facts, "is_compiled", lambda: False)
@@ -85,7 +85,7 @@ def _lens(tmp_path_factory):
 
 
 def noted(base, *names, measures=Measures()):
-    """The facts of an instance whose note has these zones."""
+    """The facts of an instance whose sidecar file has these zones."""
     read = read_facts(base + ".plan", base)
     note = PlanNote(True, measures, [ZoneSeen(name, "file") for name in names])
     return Facts(read.plan, read.blocks, read.arcs, read.outline, note=note)
@@ -120,7 +120,7 @@ def test_zones_and_benches_by_pandas(lens):
 
 
 def test_nested_pits_add_up_to_those_of_nested(lens, capsys):
-    """The sums down to each line are the values that `nested` tells of whole pits."""
+    """The sums down to each line are the values that `nested` prints for complete pits."""
     base, _ = lens
     assert main(["nested", base + ".plan", base, "--factors", "0.4,0.6,0.8,1"]) == 0
     whole = {line.split()[0]: numbers(line)[-1] for line in
@@ -155,7 +155,7 @@ def test_pictures_show_the_numbers_and_pits_are_sought_once(lens, monkeypatch):
         assert total.lines[0].get_xdata()[-1] * 1e6 == pytest.approx(pit["value"].sum())
 
 
-def test_nested_pits_that_are_left_out_say_why(lens, monkeypatch):
+def test_nested_pits_that_are_omitted_say_why(lens, monkeypatch):
     base, _ = lens
     given = survey_text(read_facts(base + ".plan", base, pit_path=base + ".pit"))
     assert part(given, "NESTED PITS") == [

@@ -20,14 +20,14 @@ from pit_tools.plans.zone_files import read_zone_files
 
 
 def fewer_by_hand(precedence: sparse.csr_matrix) -> sparse.csr_matrix:
-    """Of each list, those that stand in the list of no other one of it."""
+    """Returns for each list the blocks that are predecessors of no other one of it."""
     whole = precedence.toarray().astype(bool)
     left = [waits & ~whole[waits].any(axis=0) for waits in whole]
     return sparse.csr_matrix(np.array(left, dtype=np.int8))
 
 
 def with_thin(folder: Path, **words) -> tuple[str, str]:
-    """The base of a deposit and its thin file; the precedence file stands no more."""
+    """The base of a deposit and its thin file; the precedence file is removed."""
     base = mines.deposit(folder, 1, (6, 5, 4), "lens", **{"K": 3, **words})
     whole = read_precedence(base + ".prec")
     fewer = fewer_by_hand(whole)
@@ -37,7 +37,7 @@ def with_thin(folder: Path, **words) -> tuple[str, str]:
 
 
 def told(capsys, *words: str) -> str:
-    """What a command prints, which has to end with 0."""
+    """Returns what a command prints, which must end with 0."""
     assert main(list(words)) == 0
     return capsys.readouterr().out
 
@@ -75,7 +75,7 @@ def test_a_thin_file_changes_no_best_schedule_and_no_relaxation(tmp_path, capsys
         answer = told(capsys, "solve", f"{base}.{kind}", arcs, "--all-arcs", *options, "--out",
                       base + ".schedule")
         worth.append(float(re.match(r"best: worth (\S+),", answer)[1]))
-        # What was found by the one file holds by the other.
+        # What was found with one file is feasible with the other.
         for other in (base + ".prec", thin):
             told(capsys, "check-schedule", f"{base}.{kind}", other, base + ".schedule", *options)
     assert worth[0] == pytest.approx(worth[1], abs=0.02) and worth[0] > 0
@@ -122,12 +122,12 @@ def test_a_thin_file_that_is_none_is_refused_by_its_name(tmp_path, capsys, comma
     assert capsys.readouterr().err.endswith("gone.thin: No such file or directory\n")
 
 
-#: How many models of unlike cones `immediate` is compared on.
+#: How many models of different cones `immediate` is compared on.
 MODELS = 300
 
 
 def cones_of(seed: int) -> tuple[str, list[str]]:
-    """A plan and zone files of up to four zones whose cones are unlike."""
+    """A plan and zone files of up to four zones with different cones."""
     chance = np.random.default_rng(seed)
     zones, wide, high = int(chance.integers(1, 5)), chance.choice([5, 10, 20]), chance.choice([5, 10])
     records = ["name,m", f"grid,0,0,0,{wide},10,{high}"]
@@ -152,7 +152,7 @@ def all_arcs_of(base: str, plan: str, zones: list[str]) -> sparse.csr_matrix:
 
 
 @pytest.mark.skipif(compiled.compiler() is None, reason="no C++ compiler is here")
-def test_immediate_drops_what_the_rule_says_on_models_of_unlike_cones(tmp_path):
+def test_immediate_drops_what_the_rule_says_on_models_of_different_cones(tmp_path):
     dropped = 0
     for seed in range(MODELS):
         whole = all_arcs_of(str(tmp_path / "m"), *cones_of(seed))
@@ -162,7 +162,7 @@ def test_immediate_drops_what_the_rule_says_on_models_of_unlike_cones(tmp_path):
     assert dropped > 100 * MODELS
 
 
-def test_immediate_drops_what_pitc_thin_drops_on_models_of_unlike_cones(pitc_thin, tmp_path):
+def test_immediate_drops_what_pitc_thin_drops_on_models_of_different_cones(pitc_thin, tmp_path):
     base = str(tmp_path / "m")
     for seed in range(MODELS):
         plan, zones = cones_of(seed)

@@ -1,4 +1,5 @@
-"""`try`, the command with which a newcomer begins, in a copy of the tree that has a space in its path."""
+"""`try`, the command with which a newcomer begins, in a copy of the tree that has a space in
+its path."""
 from __future__ import annotations
 
 import os
@@ -15,13 +16,13 @@ from pit_tools.instances.files import TEXTS
 
 MARK = "computed by the Python definition, not by pitc: no proof covers it"
 
-#: Programs that the system brings; the toolchain and an installed pitc are elsewhere.
+#: Programs that the system has; the toolchain and an installed pitc are elsewhere.
 SYSTEM = "/usr/bin:/bin"
 
 
 @pytest.fixture(name="top")
 def a_tree(tmp_path):
-    """A tree as a clone has it, in which nothing is built."""
+    """A tree like a clone, in which nothing is built."""
     top = tmp_path / "a clone"
     top.mkdir()
     shutil.copy(os.path.join(TOP, "try"), top / "try")
@@ -31,13 +32,13 @@ def a_tree(tmp_path):
 
 
 def ended(top: Path, *words: str, folder: Path | None = None, path: str = SYSTEM):
-    """How `try` of a tree ends, called from a folder with a PATH."""
+    """Returns how `try` of a tree ends, called from a folder with a PATH."""
     return subprocess.run([top / "try", *words], cwd=folder or top, env={**os.environ, "PATH": path},
                           capture_output=True, text=True, check=False)
 
 
 def refused_in_a_line(done) -> str:
-    """The one line with which a run was refused, with status 2 and nothing printed."""
+    """Returns the one line with which a run was refused, with status 2 and no output."""
     assert (done.returncode, done.stdout, done.stderr.count("\n")) == (2, "", 1), done
     return done.stderr
 
@@ -58,7 +59,7 @@ def test_a_tree_without_examples_is_refused(top):
 
 @pytest.fixture(name="other")
 def another_program(tmp_path):
-    """A folder with a program that is called pitc and is another one."""
+    """A folder with another program that is called pitc."""
     (tmp_path / "pitc").write_text("#!/bin/sh\necho pit-cake 3\n")
     (tmp_path / "pitc").chmod(0o755)
     return tmp_path
@@ -156,7 +157,7 @@ def test_recipes_that_cannot_begin_leave_the_shell_unchanged(tmp_path, pitc_stat
     assert not (tmp_path / "work").exists()
 
 
-def test_recipes_begin_beside_no_older_work(tmp_path):
+def test_recipes_begin_without_older_work(tmp_path):
     (tmp_path / "examples").symlink_to(os.path.join(TOP, "examples"))
     (tmp_path / "python").symlink_to(os.path.join(TOP, "python"))
     (tmp_path / "bin").mkdir()

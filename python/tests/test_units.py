@@ -1,5 +1,5 @@
-"""Units from the words of `plan` to what `survey`, `pit` and `report` tell: the note beside the
-plan."""
+"""Units from the arguments of `plan` to what `survey`, `pit` and `report` print: the sidecar
+file of the plan."""
 import json
 import re
 from dataclasses import replace
@@ -19,7 +19,8 @@ EXPORT = ("x,y,z,t,cu,zone\n"
 
 @pytest.fixture
 def planned(tmp_path, monkeypatch, capsys):
-    """Imports the export, plans and makes the instance in a folder, where the test then is."""
+    """Imports the export, plans and makes the instance in a folder, which is then the current
+    one."""
     monkeypatch.chdir(tmp_path)
     (tmp_path / "export.csv").write_text(EXPORT)
     assert main("import export.csv --x x --y y --z z --tonnes t --grade".split()
@@ -38,10 +39,10 @@ def told(capsys, *words: str) -> str:
     return capsys.readouterr().out
 
 
-def test_money_and_grades_are_told_as_the_planner_said_them(planned, capsys):
-    """2,700 t of 2 % at 90 % hold 48,600 kg that are recovered; a pound is 0.45359237 kg, so 88,185
-    hundredths of a cent a kilogram are 428,579.10 dollars; costs 18 dollars a tonne, 48,600. Five
-    blocks of waste stand above, of which each costs 5,400."""
+def test_money_and_grades_are_reported_as_the_planner_wrote_them(planned, capsys):
+    """2,700 t of 2 % at 90 % hold 48,600 kg that are recovered; a pound is 0.45359237 kg, so
+    88,185 hundredths of a cent a kilogram are 428,579.10 dollars; costs 18 dollars a tonne,
+    48,600. There are five blocks of waste above, of which each costs 5,400."""
     pit = told(capsys, "pit", "mine", "--out", "mine.pit")
     worth = 48600 * 88185 / 10000 - 18 * 2700 - 5 * 5400
     assert pit == f"6 blocks, 16200.000 t, worth {worth:.2f} USD\n"
@@ -57,7 +58,7 @@ def test_money_and_grades_are_told_as_the_planner_said_them(planned, capsys):
             and "g/t" not in report)
 
 
-def test_a_note_that_no_longer_fits_is_told_and_not_used(planned, capsys):
+def test_a_note_that_no_longer_fits_is_reported_and_not_used(planned, capsys):
     plan = (planned / "mine.plan").read_text()
     (planned / "mine.plan").write_text(plan.replace("rate,0.08", "rate,0.1"))
     assert main(["survey", "mine.plan", "mine", "from-por.csv"]) == 2
@@ -80,7 +81,7 @@ def test_a_note_that_no_longer_fits_is_told_and_not_used(planned, capsys):
         assert "is not what `pit-tools plan` writes" in read_note("mine.plan").why_not
 
 
-def test_zone_files_that_are_not_those_of_the_plan_are_told(planned, capsys):
+def test_zone_files_that_are_not_those_of_the_plan_are_reported(planned, capsys):
     text = (planned / "from-por.csv").read_text()
     (planned / "from-por.csv").write_text(text + "\n")
     assert main(["survey", "mine.plan", "mine", "from-por.csv"]) == 2

@@ -51,7 +51,7 @@ def test_a_cell_is_changed_and_no_other(cell, value, old, new):
                          [(["cost=3"], "no record of the plan has the cell `cost`"),
                           (["mill.heap.cost=3"], "no record"), (["K"], "no CELL=VALUE"),
                           (["K=2,2"], "comes twice"), (["rate=" + "0" * 70], "longer than 64")])
-def test_what_is_no_cell_is_told(sets, told):
+def test_what_is_no_cell_is_reported(sets, told):
     with pytest.raises(UserError, match=told):
         list(variations(PLAN, "deposit", [Change.of(text) for text in sets]))
 

@@ -30,7 +30,7 @@ def test_an_export_of_the_deposit_compiles_to_the_same_instance(pitc, tmp_path, 
             "0", sound.split()[:5]) and float(sound.split()[5]) < 0.002
 
 
-def test_a_plan_of_words_is_one_of_pitc(pitc, tmp_path, monkeypatch, capsys):
+def test_a_plan_from_arguments_is_one_of_pitc(pitc, tmp_path, monkeypatch, capsys):
     monkeypatch.chdir(tmp_path)
     assert main(["deposit"]) == 0 and main(["deposit", "--export", *ZONES]) == 0
     (tmp_path / "export.csv").write_text(capsys.readouterr().out, newline="")

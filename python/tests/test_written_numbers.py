@@ -10,13 +10,13 @@ from pit_tools import Program, Schedule, write_lp, write_schedule
 from pit_tools.schedules.programs import Names
 from pit_tools.texts.spelling import ROWS, NotHeld, float_parts, joined, lines_of, shortest
 
-#: Whole numbers at the ends of groups of digits, and of types.
+#: Integers at the ends of groups of digits, and of types.
 EDGES = [0, 1, 9, 10, 99, 9_999, 10_000, 10_001, 100_000, 99_999_999, 100_000_000, 2**31, 2**32 - 1,
          2**32, 10**12, 10**12 - 1, 120_034_005_600, 2**53, 10**16, 999_999_999_999_999_999]
 
 
 def plain(multiple, decimals):
-    """A decimal by its whole multiple, as its shortest text."""
+    """A decimal by its integer multiple, as its shortest text."""
     return format(Decimal(int(multiple)).scaleb(-decimals).normalize() + 0, "f")
 
 
@@ -31,7 +31,7 @@ def test_lines_of_numbers(decimals):
     assert one_by_one.decode().split() == [plain(one, decimals) for one in multiples]
 
 
-def test_lines_go_on_where_a_piece_ends():
+def test_lines_continue_where_a_chunk_ends():
     count = 2 * ROWS + 3
     ends = np.where(np.arange(count) % 3, ord(" "), ord("\n")).astype(np.uint8)
     text = b"".join(lines_of([(np.arange(count), 0)], ends))
@@ -68,7 +68,7 @@ def in_lines(terms):
 
 
 def lp_by_terms(program):
-    """The text of a program, a term after the other."""
+    """The text of a program, term after term."""
     names = program.names.list()
     text = f"\\ {program.title}\nMaximize\n value:\n"
     terms = [term(factor, name, 6) for factor, name in zip(program.objective, names) if factor]
@@ -115,7 +115,7 @@ def test_a_program_is_written_term_for_term(names, seed):
     assert file.getvalue() == lp_by_terms(program)
 
 
-def test_rows_of_more_terms_than_a_piece():
+def test_rows_of_more_terms_than_a_chunk():
     count = ROWS + 100
     matrix = sparse.csr_matrix(np.vstack([np.full(count, 2.5), np.eye(1, count)[0],
                                           np.arange(count) - 5.0]))

@@ -1,5 +1,5 @@
-"""More kinds of exports of the mine of `exports`: ways to write a text, numbers, places, masses and
-zones; files that are no export; and what a resource report alone can tell."""
+"""More kinds of exports of the mine of `exports`: ways to write a text, numbers, positions,
+masses and zones; files that are no export; and what a resource report alone can show."""
 from __future__ import annotations
 
 import io
@@ -23,7 +23,7 @@ def of_rows(rows: Iterable[Iterable[str]], header: str = HEAD, end: str = "\n") 
 
 
 def with_cell(at: int, change: Callable[[str], str]) -> list[list[str]]:
-    """The rows with a column changed where it is known."""
+    """The rows with a column changed if it is known."""
     return [[*row[:at], change(row[at]) if row[at] != "-99" else "-99", *row[at + 1:]]
             for row in ROWS]
 
@@ -212,7 +212,7 @@ def leaning(at: tuple) -> tuple:
 
 
 def mass_exports() -> Iterable[Export]:
-    """Masses, and what a report tells of them."""
+    """Masses, and what a report shows of them."""
     metal = sum(b.kilograms * (b.grade or 0) for b in ROCK) / 1e9
     expected = (f"{TONNES:.0f} t at {metal / TONNES:.5f} g/t",)
 
