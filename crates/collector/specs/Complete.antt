@@ -6,7 +6,7 @@ use Rattle.rows.specs.declared.item.Item.TheVariants.{Row, End}
 use Rattle.collector.specs.Found.{is_row_at, is_end_of}
 use Rattle.plan_parts.specs.declared.ranges.TheConstants.{MAX_ROWS}
 
--- the item is of one of these files: a row below its count, or an end mark with its count
+-- the item belongs to one of these files: a row whose place is below the file's count, or an end mark with this count
 abbrev pub Fits : ℕ → (ℕ → ℕ) → Item → Type 0
 Fits files counts (Row v) = (v.file < files) × (v.place < counts v.file)
 Fits files counts (End file count) = (file < files) × (count ≡ counts file)

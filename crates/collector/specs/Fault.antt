@@ -1,4 +1,4 @@
--- Which items are refused where others are held.
+-- The items that a collector refuses.
 use Rattle.std.specs.Prelude.{ℕ, Bool, false, if◌then◌else◌, ◌||◌, nat_le, nat_lt, is_some, List, Option, Some, None}
 use Rattle.rows.specs.declared.item.Item.{Item}
 use Rattle.rows.specs.declared.item.Item.TheVariants.{Row, End}
@@ -12,7 +12,7 @@ abbrev pub is_after : Option ℕ → ℕ → Bool
 is_after None place = false
 is_after (Some count) place = nat_le count place
 
--- the first fault of an item, where these were added before it
+-- the first fault of an item after these items were added
 abbrev pub fault : ℕ → List Item → Item → Option AddFault
 fault files held (Row v) =
     if is_some (row_at v.file v.place held) then Some Double

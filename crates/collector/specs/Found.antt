@@ -1,4 +1,4 @@
--- What a list of items holds of a file.
+-- The items of a file in a list of items.
 use Rattle.std.specs.Prelude.{ℕ, Bool, false, if◌then◌else◌, ◌&&◌, ◌||◌, ◌==◌, nat_le, List, [], ◌∷◌, Option, Some, None}
 use Rattle.rows.specs.declared.item.Item.{Item}
 use Rattle.rows.specs.declared.item.Item.TheVariants.{Row, End}
@@ -26,7 +26,7 @@ end_at file [] = None
 end_at file (Row v ∷ items) = end_at file items
 end_at file (End f n ∷ items) = if f == file then Some n else end_at file items
 
--- some row of this file is at this place or past it
+-- some row of this file is at this place or a later one
 abbrev pub has_past : ℕ → ℕ → List Item → Bool
 has_past file place [] = false
 has_past file place (Row v ∷ items) = ((v.file == file) && nat_le place v.place) || has_past file place items

@@ -1,4 +1,4 @@
--- The lists of rows that a list of items gives, or the first row that it lacks.
+-- The lists of rows that a list of items gives, or the first row that is missing.
 use Rattle.std.specs.Prelude.{◌≡◌, ℕ, ◌<◌, true, is_some, List, length, slice_get, Option, Some, None}
 use Rattle.std.specs.List.{flat_map}
 use Rattle.rows.specs.declared.item.Item.{Item}
@@ -8,7 +8,7 @@ use Rattle.pit_units.specs.declared.or_memory.OrMemory.{OrMemory}
 use Rattle.pit_units.specs.declared.or_memory.OrMemory.TheVariants.{Fault, OutOfMemory}
 use Rattle.collector.specs.Found.{row_at, end_at}
 
--- one list a file: as long as its end mark says, with the row of each place
+-- one list for each file: the length is the count of the end mark, and each place has its row
 pub record AreLists (files : ℕ) (held : List Item) (lists : List (List Valued)) : Type 0 where
   pub count : length lists ≡ files
   pub ends : (file : ℕ) (rows : List Valued) → slice_get lists file ≡ Some rows → end_at file held ≡ Some (length rows)
@@ -24,7 +24,7 @@ abbrev pub IsOpen : Option ℕ → ℕ → Type 0
 IsOpen None place = Unit {0}
 IsOpen (Some count) place = place < count
 
--- the least file that is not full, and its least place with no row
+-- the first file that is not full, and its first place without a row
 pub record IsMissing (files : ℕ) (held : List Item) (file place : ℕ) : Type 0 where
   pub within : file < files
   pub before : (other : ℕ) → other < file → IsFull held other
@@ -32,11 +32,11 @@ pub record IsMissing (files : ℕ) (held : List Item) (file place : ℕ) : Type 
   pub none : row_at file place held ≡ None
   pub least : (other : ℕ) → other < place → is_some (row_at file other held) ≡ true
 
--- the fault names what is missing
+-- the error names the missing row
 abbrev pub IsFinishFault : ℕ → List Item → OrMemory Missing → Type 0
 IsFinishFault files held (Fault missing) = IsMissing files held missing.file missing.place
 IsFinishFault files held OutOfMemory = Unit {0}
 
--- the rows of all files: those of each file in order of place, behind those of the file before it
+-- the rows of all files: file after file, and in each file in order of place
 abbrev pub AreRows : ℕ → List Item → List Valued → Type 0
 AreRows files held rows = (lists : List (List Valued)) × AreLists files held lists × (rows ≡ flat_map (λ list. list) lists)

@@ -6,10 +6,10 @@ ghost use Rattle.collector.specs.declared.add_fault.AddFault.TheVariants.{OutOfM
 use std::alloc::AllocError;
 use thiserror::Error;
 
-/// Why an item was not added. Of several reasons the first one here is meant. The collector holds what it held before.
+/// Why an item was not added: the first reason in this order. The collector is unchanged.
 #[derive(Clone, Copy, Debug, Error, PartialEq, Eq)]
 pub enum AddFault {
-    /// A row whose file and place are held.
+    /// A row whose file and place the collector already holds.
     #[error("a second row of one place")]
     Double,
     /// A row or an end mark of a file that is not expected, or a row whose place is not below 1,000,000.
@@ -18,10 +18,10 @@ pub enum AddFault {
     /// A row whose place is not below the count of its file's end mark.
     #[error("a row past the end of its file")]
     AfterEnd,
-    /// An end mark of a file whose end mark is held.
+    /// An end mark of a file whose end mark the collector already holds.
     #[error("a second end of one file")]
     SecondEnd,
-    /// An end mark whose count is above 1,000,000, or not above the place of a row of its file that is held.
+    /// An end mark whose count is above 1,000,000, or not above the place of a row of its file that the collector holds.
     #[error("a file that ends before its last row")]
     BadCount,
     /// Memory was refused.

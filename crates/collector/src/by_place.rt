@@ -6,8 +6,8 @@ ghost use Rattle.collector.specs.inner.WithAt.{with_at};
 use std::alloc::{AllocError, Global};
 use std::marker::Model;
 
-/// An item for each place of a file, up to the last one that an item was put at. For a place before it that none was put at, that of a
-/// later place stands in.
+/// An item for each place of a file, up to the last place that has an item. A place before it without an item holds the item of a later
+/// place.
 #[derive(Drop)]
 pub struct ByPlace<T> {
     items: Vec<T>,
@@ -22,7 +22,7 @@ impl<T> Model for ByPlace<T> {
 }
 
 impl<T: Copy> ByPlace<T> {
-    /// No places.
+    /// Makes an empty list.
     pub fn new(alloc: Global) -> ByPlace<T>
         ensures { result ≡ [] }
     {
@@ -31,7 +31,7 @@ impl<T: Copy> ByPlace<T> {
         }
     }
 
-    /// Puts an item at its place. Where memory is refused all is as it was.
+    /// Puts an item at its place. If memory is refused, nothing changes.
     pub fn store(&mut self, place: u32, item: T) -> Result<(), AllocError>
         ensures ok { OnOk result (self.new ≡ with_at self.old place item) }
         ensures err { OnErr result (self.new ≡ self.old) }
@@ -45,14 +45,14 @@ impl<T: Copy> ByPlace<T> {
         }
     }
 
-    /// The items, in the order of the places.
+    /// Returns the items, in the order of the places.
     pub fn as_slice(&self) -> &[T]
         ensures { result.now ≡ self.now }
     {
         self.items.as_slice()
     }
 
-    /// The same, handed over.
+    /// Returns the items, in the order of the places.
     pub fn into_vec(self) -> Vec<T>
         ensures { result.items ≡ self }
     {

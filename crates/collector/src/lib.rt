@@ -1,5 +1,5 @@
-//! The last stop of the rows of a model: valued rows and end marks in any order of arrival become one list a file, or are refused
-//! as doubles and strangers.
+//! Collects the rows of a model: valued rows and end marks, in any order of arrival, become one list for each file. Duplicates and items that
+//! do not belong are refused.
 #![tactic(auto)]
 
 mod add_fault;

@@ -1,4 +1,4 @@
--- The words that show why a run is refused.
+-- The text of each error of a run.
 use Rattle.std.specs.Prelude.{ℕ, List, ◌++◌, codes, decimal}
 use Rattle.minelib_lines.specs.TextNames.{ending_of}
 use Rattle.zone_csv.specs.FaultText.{row_fault_text}
@@ -18,7 +18,8 @@ settings_name settings.Destinations = codes "Destinations"
 abbrev pub row_text : RowAt → List ℕ
 row_text at = codes "file " ++ (decimal at.file ++ (codes " row " ++ decimal at.row))
 
--- a faulty row by its file and its own words; a repeated block by its second row and then its first; a sink by the ending of its file
+-- the text of an error: for a faulty row its file and the text of its fault; for a repeated cell the later row and then the earlier one; for a
+-- sink the extension of its file
 abbrev pub refusal_text : Refusal → List ℕ
 refusal_text (refusal.Settings kind) = codes "settings: " ++ settings_name kind
 refusal_text refusal.NoThread = codes "NoThread"

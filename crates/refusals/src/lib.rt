@@ -1,4 +1,4 @@
-//! Why a run is refused.
+//! The errors of a run.
 #![tactic(auto)]
 
 pub mod refusal;

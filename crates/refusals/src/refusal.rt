@@ -1,4 +1,4 @@
-//! Why a run is refused.
+//! The errors of a run.
 
 ghost use Rattle.std.specs.Prelude.{◌≡◌};
 ghost use Rattle.refusals.specs.declared.refusal.Refusal.TheVariants.{Settings as OfSettings, OutOfMemory};
@@ -15,7 +15,7 @@ use zone_csv::row_fault::RowFault;
 pub struct RowAt {
     /// The number of the file, from 0.
     pub file: u8,
-    /// The number of the record, the header being record 1.
+    /// The number of the record; the header is record 1.
     pub row: u32,
 }
 
@@ -31,7 +31,7 @@ impl fmt::Display for RowAt {
     }
 }
 
-/// Why a run is refused. Files are numbered from 0, in the order of the feeds.
+/// Why a run returned an error. Files are numbered from 0, in the order of the feeds.
 #[derive(Clone, Copy, Debug, Error, PartialEq, Eq)]
 pub enum Refusal {
     /// The settings do not fit the plan.
@@ -40,13 +40,13 @@ pub enum Refusal {
     NoThread,
     /// The feed of a zone file failed.
     FeedFailed { file: u8 },
-    /// A zone file has more bytes than a zone file may have.
+    /// A zone file has more than `MAX_FILE_BYTES` bytes.
     TooLong { file: u8 },
     /// A zone file has a faulty row.
     Row { file: u8, fault: RowFault },
-    /// A block stands twice: the first row of all that repeats another one (`again`), and that other (`first`).
+    /// Two blocks are in the same cell: `again` is the first row in the cell of an earlier row, and `first` is that row.
     Same { first: RowAt, again: RowAt },
-    /// The sink of this text refused a call.
+    /// The sink of this file refused a call.
     SinkFailed { which: TextName },
     /// Memory was refused.
     OutOfMemory,

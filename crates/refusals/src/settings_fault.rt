@@ -3,16 +3,16 @@
 use std::fmt;
 use thiserror::Error;
 
-/// What is wrong with the settings of a run. Of several kinds the first one here is meant.
+/// What is wrong with the settings of a run: the first that applies, in this order.
 #[derive(Clone, Copy, Debug, Error, PartialEq, Eq)]
 pub enum SettingsFault {
-    /// There are not as many zone files as the plan has zones.
+    /// The number of zone files is not the plan's number of zones.
     Files,
     /// The number of valuers is not 1 to 64.
     Valuers,
     /// The capacity is not 1 to 4096.
     Capacity,
-    /// The destinations' formulas are not the plan's, in order.
+    /// The destinations do not have the plan's formulas, in order.
     Destinations,
 }
 

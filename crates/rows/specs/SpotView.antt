@@ -1,4 +1,4 @@
--- Where a row stands among several lists of packed items.
+-- The position of a row among several lists of packed items.
 use Rattle.std.specs.Prelude.{ℕ}
 
 -- the number of the list, and the position in it, each from 0

@@ -1,4 +1,4 @@
-//! What a valuer hands on of the messages that it took.
+//! The items that a valuer makes from the messages that it took.
 
 use crate::worths::Worths;
 use plan_parts::block::Block;
@@ -15,7 +15,7 @@ pub struct Valued {
     pub worths: Worths,
 }
 
-/// A message of a file, as a valuer hands it on.
+/// A message of a file, as a valuer returns it.
 #[derive(Clone, Copy, Debug, PartialEq, Eq)]
 pub enum Item {
     /// A row, with its worths.
@@ -24,5 +24,5 @@ pub enum Item {
     End { file: u8, rows: u32 },
 }
 
-/// Rows in their order, as those of a file.
+/// Rows in order, such as the rows of a file.
 pub type Rows = Listed<Valued>;

@@ -1,12 +1,12 @@
-//! What one valuer hands on, as it is.
+//! The items of one valuer, unpacked.
 
 ghost use Rattle.std.specs.Prelude.{◌≡◌, ◌-◌, vec_len, vec_capacity};
 
 use crate::item::Item;
 use std::marker::Model;
 
-/// What one valuer hands on: the rows and end marks that it took, in order. Contracts see the list of them, and for how many more
-/// there is room.
+/// The items of one valuer: the rows and end marks that it took, in order. Contracts see the list of the items, and the capacity that is
+/// left.
 #[derive(Debug, Drop)]
 pub struct Items {
     items: Vec<Item>,
@@ -25,7 +25,7 @@ impl Model for Items {
 }
 
 impl Items {
-    /// These items, in their order. It takes no memory.
+    /// Makes a list of these items. Allocates no memory.
     pub fn new(items: Vec<Item>) -> Items
         ensures items { result.items ≡ items.items }
         ensures room { result.room ≡ vec_capacity items - vec_len items }
@@ -33,7 +33,7 @@ impl Items {
         Items { items }
     }
 
-    /// The items, in their order.
+    /// Returns the items in order.
     pub fn as_slice(&self) -> &[Item]
         ensures { result.now ≡ self.now.items }
     {

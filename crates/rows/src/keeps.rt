@@ -1,4 +1,4 @@
-//! Lists that a valuer keeps items in.
+//! Lists in which a valuer stores its items.
 
 ghost use Rattle.std.specs.Prelude.{◌≡◌, ◌≤◌, ◌++◌, [], ◌∷◌, ℕ, List, OnOk, OnErr, vec_len, vec_capacity};
 ghost use Rattle.rows.specs.Packed.{AreWorths};
@@ -11,18 +11,18 @@ use crate::worths::Worths;
 use plan_parts::block::Block;
 use std::alloc::{AllocError, Allocator};
 
-/// A list that keeps items: as they are, or without the room that a row does not use.
+/// A list that stores items: unchanged, or packed without the space that a row does not use.
 pub trait Keeps {
-    /// The items, in their order.
+    /// The items in order.
     ghost held: { Self → List AnItem };
 
-    /// That it is for rows of so many worths.
+    /// The list is for rows with this number of worths.
     ghost is_for: { Self → ℕ → Type 0 };
 
-    /// That it has no room left for a row of so many worths.
+    /// The list has no capacity left for a row with this number of worths.
     ghost is_full: { Self → ℕ → Type 0 };
 
-    /// Appends a row of as many worths as it is for. Memory is refused only where the list has no room left for one.
+    /// Appends a row with the list's number of worths. Memory is refused only if the list has no capacity left for it.
     fn keep_row(
         &mut self,
         file: u8,
@@ -38,7 +38,7 @@ pub trait Keeps {
         ensures full { OnErr result ((width : ℕ) → is_for self.new width
             → is_full self.new width) };
 
-    /// Appends the end mark of a file that sent so many rows. Memory is refused as for a row.
+    /// Appends the end mark of a file that sent `rows` rows. Memory is refused as for a row.
     fn keep_end(&mut self, file: u8, rows: u32) -> Result<(), AllocError>
         ensures appended { OnOk result (held self.new ≡ held self.old ++ AnEnd file rows ∷ []) }
         ensures kept { OnErr result (held self.new ≡ held self.old) }

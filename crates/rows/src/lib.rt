@@ -1,4 +1,4 @@
-//! Rows with their worths, as valuers hand them on, and the lists that keep those of a file and of all files.
+//! Rows with their worths, as valuers return them, and the lists that hold the rows of a file and of all files.
 #![tactic(auto)]
 
 mod item;

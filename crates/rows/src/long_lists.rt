@@ -1,17 +1,17 @@
-//! Room for long lists.
+//! Capacity for long lists.
 
 ghost use Rattle.std.specs.Prelude.{◌≡◌, ◌+◌, ◌<◌, ◌≤◌, OnOk, OnErr, vec_len, vec_capacity};
 
 use std::alloc::{AllocError, Allocator};
 
-// How many rows a list has when it counts as long.
+// The number of rows from which a list counts as long.
 const FEW: usize = 4_096;
 
-// For how many more items a long list gets room. Room that is not used takes no memory but addresses.
+// The capacity, in items, by which a long list grows. Unused capacity takes addresses, but no memory.
 const MANY: usize = 262_144;
 
-/// Takes room for so many more items; where a long list lacks it, for many more. Fails only where the list has no room
-/// left for them.
+/// Reserves capacity for `count` more items; a long list that has to grow reserves many more. Fails only if the list has no
+/// capacity left for them.
 pub fn make_room_for<T, A: Allocator>(list: &mut Vec<T, A>, count: usize) -> Result<(), AllocError>
     ensures items { list.new.items ≡ list.old.items }
     ensures room { OnOk result (vec_len list.new + count ≤ vec_capacity list.new) }

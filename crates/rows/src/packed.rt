@@ -1,4 +1,4 @@
-//! Items as a valuer packs them: entries, and their worths in one list beside.
+//! Items as a valuer packs them: entries, and one list of their worths.
 
 pub mod entry;
 pub mod items;

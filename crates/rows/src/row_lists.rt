@@ -16,8 +16,8 @@ use plan_parts::block::Block;
 use std::alloc::{AllocError, Global};
 use std::marker::Model;
 
-/// The rows of several files, where the valuers put them, and their order. The order takes 4 bytes a row. Contracts see one list: the
-/// rows in this order.
+/// The rows of several files, stored in the lists of the valuers, and their order. The order takes 4 bytes for each row. Contracts see one
+/// list: the rows in this order.
 #[derive(Debug, Drop)]
 pub struct RowLists {
     lists: Vec<PackedItems>,
@@ -38,7 +38,7 @@ impl Model for RowLists {
 }
 
 impl RowLists {
-    /// The rows at these spots of the lists, which are not copied.
+    /// Makes a list of the rows at these positions of the lists, without copying them.
     pub fn new(lists: Vec<PackedItems>, spots: Vec<Spot>) -> RowLists
         requires { All (HasRow (items_in lists.items)) spots.items }
         ensures { result ≡ filter_map (row_on (items_in lists.items)) spots.items }
@@ -46,7 +46,7 @@ impl RowLists {
         RowLists { lists, spots }
     }
 
-    /// The number of rows.
+    /// Returns the number of rows.
     #[tactic(auto, using(crate::proofs::Found::found))]
     pub fn len(&self) -> usize
         ensures { result ≡ length self.now }
@@ -54,7 +54,7 @@ impl RowLists {
         self.spots.len()
     }
 
-    /// The row at a position, from 0.
+    /// Returns the row at a position, from 0.
     #[tactic(auto, using(crate::proofs::Found::found))]
     pub fn at(&self, position: usize) -> Valued
         requires { position < length self.now }
@@ -64,7 +64,7 @@ impl RowLists {
         row_on(&self.lists, spot)
     }
 
-    /// The block of the row at a position, from 0.
+    /// Returns the block of the row at a position, from 0.
     #[tactic(auto, using(crate::proofs::Found::found))]
     pub fn block_at(&self, position: usize) -> Block
         requires { position < length self.now }
@@ -74,8 +74,8 @@ impl RowLists {
         block_on(&self.lists, spot)
     }
 
-    /// The worths of the rows, which stay where they are; all else of the rows is given up. Fails only where memory for the number of
-    /// lists is refused.
+    /// Returns the worths of the rows without moving them, and drops everything else. Fails only if memory for one entry for each list is
+    /// refused.
     pub fn into_worths(self, alloc: Global) -> Result<RowWorths, AllocError>
         ensures { IfOk result (λ worths. worths ≡ map (λ row. row.worths) self) }
     {
@@ -100,7 +100,7 @@ fn block_on(lists: &[PackedItems], spot: Spot) -> Block
     lists[spot.list()].block_at(spot.position()).unwrap()
 }
 
-// The worths of each of these lists of items, which are given up.
+// Returns the worths of each of these lists of items, and drops the remainder.
 fn worths_of(alloc: Global, lists: Vec<PackedItems>) -> Result<Vec<PackedWorths>, AllocError>
     ensures { IfOk result (λ worths. AllZip HasWorths (items_in lists.items) worths.items) }
 {

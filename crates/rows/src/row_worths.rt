@@ -7,8 +7,8 @@ use crate::packed::worths::PackedWorths;
 use crate::spot::Spot;
 use std::marker::Model;
 
-/// The worths of the rows of several files, where the valuers put them, and the order of the rows. In memory a row takes 4 bytes, and 8
-/// for each of its worths. Contracts see the list of each row's worths.
+/// The worths of the rows of several files, stored in the lists of the valuers, and the order of the rows. In memory a row takes 4 bytes, and 8
+/// bytes for each of its worths. Contracts see the list of each row's worths.
 #[derive(Debug, Drop)]
 pub struct RowWorths {
     lists: Vec<PackedWorths>,
@@ -27,7 +27,7 @@ impl Model for RowWorths {
 }
 
 impl RowWorths {
-    // The worths at these spots of the lists.
+    // Makes a list of the worths at these positions of the lists.
     pub(crate) fn new(lists: Vec<PackedWorths>, spots: Vec<Spot>) -> RowWorths
         requires { All (HasOwn lists.items) spots.items }
         ensures { result ≡ map (own_on lists.items) spots.items }
@@ -35,14 +35,14 @@ impl RowWorths {
         RowWorths { lists, spots }
     }
 
-    /// The number of rows.
+    /// Returns the number of rows.
     pub fn len(&self) -> usize
         ensures { result ≡ length self.now }
     {
         self.spots.len()
     }
 
-    /// The worths of the row at a position, from 0.
+    /// Returns the worths of the row at a position, from 0.
     pub fn at(&self, position: usize) -> &[i64]
         requires { position < length self.now }
         ensures { result.now ≡ slice_index_or self.now position [] }
@@ -52,7 +52,7 @@ impl RowWorths {
     }
 }
 
-// The worths at a spot of these lists.
+// Returns the worths at a position of these lists.
 fn own_on(lists: &[PackedWorths], spot: Spot) -> &[i64]
     requires { HasOwn lists.now spot }
     ensures { result.now ≡ own_on lists.now spot }

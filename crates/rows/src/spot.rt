@@ -1,20 +1,20 @@
-//! Where a row stands among packed items.
+//! The position of a row among packed items.
 
 ghost use Rattle.std.specs.Prelude.{◌≡◌, ◌<◌};
 ghost use Rattle.rows.specs.declared.spot.TheConstants.{LISTS, POSITIONS};
 
 use std::marker::Model;
 
-/// How many lists spots tell apart: one of each valuer that there can be.
+/// The number of lists that a spot can distinguish: one for each valuer that there can be.
 pub const LISTS: u8 = 64;
 
-/// How many positions of a list they tell apart. All zone files that there can be have 64,000,064 rows and end marks.
+/// The number of positions of a list that a spot can distinguish. The largest model has 64,000,064 rows and end marks.
 pub const POSITIONS: u32 = 67_108_864;
 
-/// Which of several lists of packed items has a row, and at which position: 6 bits and 26. Contracts see the two numbers.
+/// The position of a row among several lists of packed items: the list in 6 bits, and the position in it in 26. Contracts see the two numbers.
 #[derive(Clone, Copy, Debug)]
 pub struct Spot {
-    // the positions of the lists before it, and its own in its list
+    // the list times `POSITIONS`, plus the position in the list
     number: u32,
 }
 
@@ -34,7 +34,7 @@ impl Model for Spot {
 }
 
 impl Spot {
-    /// The spot at a position of a list, both from 0.
+    /// Makes the spot for a position of a list, both from 0.
     pub fn new(list: u8, position: u32) -> Spot
         requires list { list < LISTS }
         requires position { position < POSITIONS }
@@ -45,14 +45,14 @@ impl Spot {
         }
     }
 
-    /// The number of the list.
+    /// Returns the number of the list.
     pub fn list(self) -> usize
         ensures { result ≡ self.list }
     {
         (self.number / POSITIONS) as usize
     }
 
-    /// The position in the list.
+    /// Returns the position in the list.
     pub fn position(self) -> usize
         ensures { result ≡ self.position }
     {

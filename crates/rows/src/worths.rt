@@ -1,4 +1,4 @@
-//! The worths of a block, one a destination.
+//! The worths of a block, one for each destination.
 
 ghost use Rattle.std.specs.Prelude.{◌≡◌, ◌≤◌, ◌↔◌, length, IsSome, IfSome};
 ghost use Rattle.plan_parts.specs.declared.ranges.TheConstants.{MAX_DESTINATIONS};
@@ -6,7 +6,7 @@ ghost use Rattle.plan_parts.specs.declared.ranges.TheConstants.{MAX_DESTINATIONS
 use plan_parts::ranges::MAX_DESTINATIONS;
 use std::marker::Model;
 
-/// The most worths of a block: one for each destination of a plan.
+/// The largest number of worths of a block: one for each destination of a plan.
 pub const MAX_WORTHS: usize = MAX_DESTINATIONS as usize;
 
 /// 1 to 8 worths in cents, one for each destination, in the order of the plan. Allocates no memory. Contracts see the list of
@@ -35,7 +35,7 @@ impl Model for Worths {
 }
 
 impl Worths {
-    /// These worths, in their order, or `None` where they are not 1 to 8.
+    /// Makes worths from this list, or returns `None` if there are not 1 to 8.
     pub fn new(worths: &[i128]) -> Option<Worths>
         ensures valid { IsSome result
             ↔ ((1 ≤ length worths.now) × (length worths.now ≤ MAX_DESTINATIONS)) }
@@ -50,7 +50,7 @@ impl Worths {
         Some(Worths { cells, count })
     }
 
-    /// These 1 to 8 worths, in their order.
+    /// Makes worths from this list of 1 to 8 cents.
     pub fn of_cents(cents: &[i64]) -> Worths
         requires some { 1 ≤ length cents.now }
         requires few { length cents.now ≤ MAX_DESTINATIONS }
@@ -63,7 +63,7 @@ impl Worths {
         Worths::new(&cells[..cents.len()]).unwrap()
     }
 
-    /// The worths, in the order of the destinations.
+    /// Returns the worths, in the order of the destinations.
     pub fn as_slice(&self) -> &[i128]
         ensures value { result.now ≡ self.now }
         ensures count { (1 ≤ length self.now) × (length self.now ≤ MAX_DESTINATIONS) }

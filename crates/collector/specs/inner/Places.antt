@@ -1,4 +1,4 @@
--- Where the rows of each file stand, place by place, while lists of items are gone through.
+-- The positions of the rows of each file, by place, while lists of items are processed.
 use Rattle.std.specs.Prelude.{◌≡◌, ℕ, ◌<◌, ◌≤◌, ◌==◌, if◌then◌else◌, List, [], length, slice_get, slice_index_or, Some}
 use Rattle.std.specs.Option.{option_and_then, unwrap_or}
 use Rattle.rows.specs.Packed.{row_on}
@@ -14,28 +14,28 @@ use Rattle.rows.specs.SpotView.{SpotView}
 abbrev pub items_on : List (List Item) → ℕ → List Item
 items_on lists list = slice_index_or lists list []
 
--- the spots of a file
+-- the positions of a file's rows
 abbrev pub spots_in : List (List SpotView) → ℕ → List SpotView
 spots_in places file = unwrap_or (slice_get places file) []
 
--- the file has the spot at the place, and all else is as before
+-- the file has this position at the place, and nothing else changed
 abbrev pub IsStored : ℕ → ℕ → SpotView → List (List SpotView) → List (List SpotView) → Type 0
 IsStored file place spot old new =
     (other : ℕ) → spots_in new other ≡ (if file == other then with_at (spots_in old other) place spot else spots_in old other)
 
--- at the place of the row stands a row of its file and place
+-- the position stored for the row's file and place holds a row of this file and place
 abbrev pub IsPlaced : List (List Item) → List (List SpotView) → Item → Type 0
 IsPlaced lists places (Row v) =
     (w : Valued) × (option_and_then (row_on lists) (slice_get (spots_in places v.file) v.place) ≡ Some w)
     × (w.file ≡ v.file) × (w.place ≡ v.place)
 IsPlaced lists places (End file count) = Unit {0}
 
--- the row that is marked so has the spot at its place, and all else is as before
+-- the row with this mark has this position at its place, and nothing else changed
 abbrev pub IsStoredAs : Mark → SpotView → List (List SpotView) → List (List SpotView) → Type 0
 IsStoredAs (mark.Row file place) spot old new = IsStored file place spot old new
 IsStoredAs (mark.End file count) spot old new = (other : ℕ) → spots_in new other ≡ spots_in old other
 
--- the file of a row is one of so many
+-- the number of a row's file is below this
 abbrev pub IsOfFile : ℕ → Mark → Type 0
 IsOfFile files (mark.Row file place) = file < files
 IsOfFile files (mark.End file count) = Unit {0}

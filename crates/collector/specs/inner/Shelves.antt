@@ -1,4 +1,4 @@
--- How the shelves of a collector keep the items that it holds.
+-- How the shelves of a collector, one for each file, hold its items.
 use Rattle.std.specs.Prelude.{◌≡◌, ℕ, ◌<◌, ◌≤◌, ◌==◌, ◌||◌, if◌then◌else◌, nat_le, nat_lt, is_some, true, List, [], length, slice_get, Option, Some, None}
 use Rattle.std.specs.Option.{option_and_then, unwrap_or, option_map}
 use Rattle.rows.specs.declared.item.Item.{Item}
@@ -16,11 +16,11 @@ use Rattle.collector.specs.inner.WithAt.{with_at}
 use Rattle.collector.specs.Found.{row_at, end_at, has_past}
 use Rattle.plan_parts.specs.declared.ranges.TheConstants.{MAX_ROWS}
 
--- the row itself, if it is of this place
+-- the row itself, if it has this place
 abbrev pub if_at : ℕ → Valued → Option Valued
 if_at place v = if v.place == place then Some v else None
 
--- the row of a place on a shelf, where one is held
+-- the row at a place of a shelf, if there is one
 abbrev pub slot : List Valued → ℕ → Option Valued
 slot rows place = option_and_then (if_at place) (slice_get rows place)
 
@@ -65,14 +65,14 @@ file_of (End file count) = file
 abbrev pub AreSame : (ℕ → List Valued) → (ℕ → Option ℕ) → (ℕ → List Valued) → (ℕ → Option ℕ) → Type 0
 AreSame rows ends rows' ends' = ((file : ℕ) → rows' file ≡ rows file) × ((file : ℕ) → ends' file ≡ ends file)
 
--- the item's file has it, and all else is as before
+-- the item was added to its file, and nothing else changed
 abbrev pub AreStored : Item → (ℕ → List Valued) → (ℕ → Option ℕ) → (ℕ → List Valued) → (ℕ → Option ℕ) → Type 0
 AreStored (Row v) rows ends rows' ends' =
     ((file : ℕ) → rows' file ≡ (if v.file == file then with_at (rows file) v.place v else rows file)) × ((file : ℕ) → ends' file ≡ ends file)
 AreStored (End f count) rows ends rows' ends' =
     ((file : ℕ) → rows' file ≡ rows file) × ((file : ℕ) → ends' file ≡ (if f == file then Some count else ends file))
 
--- these rows and this end mark are those of the file among the items
+-- the items of this file are these rows and this end mark
 pub record IsShelved (held : List Item) (file : ℕ) (rows : List Valued) (end : Option ℕ) : Type 0 where
   pub row : (place : ℕ) → row_at file place held ≡ slot rows place
   pub ended : end_at file held ≡ end
@@ -80,21 +80,21 @@ pub record IsShelved (held : List Item) (file : ℕ) (rows : List Valued) (end :
   pub few : length rows ≤ MAX_ROWS
   pub closed : (count : ℕ) → end ≡ Some count → length rows ≤ count
 
--- each file's rows and end mark are those among the items, and no item is of another file
+-- the items of each file are its rows and its end mark, and no item belongs to another file
 pub record IsKept (files : ℕ) (held : List Item) (rows : ℕ → List Valued) (ends : ℕ → Option ℕ) : Type 0 where
   pub outside : (file : ℕ) → files ≤ file → rows file ≡ []
   pub shelved : (file : ℕ) → IsShelved held file (rows file) (ends file)
 
--- the end mark's count is the number of rows, and each is at its place
+-- the end mark's count is the number of rows, and each row is at its place
 abbrev pub IsFilled : List Valued → Option ℕ → Type 0
 IsFilled rows end = (end ≡ Some (length rows)) × ((place : ℕ) → place < length rows → is_some (slot rows place) ≡ true)
 
--- the least place with no row, where there is no end mark or the end mark is past it
+-- the first place without a row, if there is no end mark or its count is larger
 abbrev pub IsLacking : List Valued → Option ℕ → ℕ → Type 0
 IsLacking rows end place =
     (slot rows place ≡ None) × ((other : ℕ) → other < place → is_some (slot rows other) ≡ true) × IsOpen end place
 
--- the fault names the first shelf that is not filled
+-- the error names the first shelf that is not filled
 abbrev pub IsFirstLacking : List Shelf → OrMemory Missing → Type 0
 IsFirstLacking shelves (Fault missing) =
     (missing.file < length shelves)

@@ -1,4 +1,4 @@
--- The worths of packed items, by their positions and at spots.
+-- The worths of packed items, by position.
 use Rattle.std.specs.Prelude.{◌≡◌, ℕ, ◌+◌, ◌*◌, ◌≤◌, ℤ, List, [], length, take, drop, slice_get, Some}
 use Rattle.std.specs.Option.{option_map, unwrap_or}
 use Rattle.rows.specs.Packed.{row_of}
@@ -11,7 +11,7 @@ use Rattle.rows.specs.SpotView.{SpotView}
 abbrev pub own_at : PackedWorths → ℕ → List ℤ
 own_at list position = take list.width (drop (position * list.width) list.worths.items)
 
--- they all are there
+-- all of them exist
 abbrev pub AreThere : PackedWorths → ℕ → Type 0
 AreThere list position = position * list.width + list.width ≤ length list.worths.items
 
@@ -20,10 +20,10 @@ abbrev pub HasWorths : List Item → PackedWorths → Type 0
 HasWorths items list = (position : ℕ) (row : Valued) → row_of items position ≡ Some row
     → (row.worths ≡ own_at list position) × AreThere list position
 
--- the worths at a spot of these lists
+-- the worths at a position of these lists
 abbrev pub own_on : List PackedWorths → SpotView → List ℤ
 own_on lists spot = unwrap_or (option_map (λ list. own_at list spot.position) (slice_get lists spot.list)) []
 
--- worths stand there
+-- there are worths at this position
 abbrev pub HasOwn : List PackedWorths → SpotView → Type 0
 HasOwn lists spot = (list : PackedWorths) × (slice_get lists spot.list ≡ Some list) × AreThere list spot.position

@@ -1,4 +1,4 @@
--- How the number of a spot is seen as a list and a position, and back.
+-- The list and the position that the number of a spot encodes, and back.
 use Rattle.std.specs.Prelude.{◌≡◌, ◌+◌, ◌*◌, ◌/◌, ◌%◌}
 use Rattle.std.proofs.Math.Nat.{div-add-mod}
 use Rattle.rows.specs.SpotView.{SpotView}

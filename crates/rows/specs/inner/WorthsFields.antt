@@ -1,4 +1,4 @@
--- How the cells of worths are seen as the list of them, and back.
+-- The list of worths that the cells hold, and back.
 use Rattle.std.specs.Prelude.{◌≡◌, ℕ, ◌≤◌, ◌-◌, ◌++◌, ℤ, pos, List, length, take, replicate}
 use Rattle.std.proofs.Common.{sym, ap, subst, ◌∙◌, length-take-le}
 use Rattle.rows.specs.declared.worths.Worths.TheInside.{Inside}

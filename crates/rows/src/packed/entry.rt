@@ -12,7 +12,7 @@ use plan_parts::block::Block;
 use plan_parts::ranges::MAX_ZONES;
 use std::marker::Model;
 
-/// An item without its worths, which stand in one list with those of other items. Contracts see its file, its place or count, and the
+/// An item without its worths, which are in one list with the worths of other items. Contracts see its file, its place or count, and the
 /// block of a row.
 #[derive(Debug, Drop)]
 pub struct Entry {
@@ -23,7 +23,7 @@ pub struct Entry {
     x: u16,
     y: u16,
     z: u16,
-    // that of a row is below 64, and that of an end mark is not: so no byte tells which it is
+    // below 64 for a row, and not for an end mark, so no other byte distinguishes the two
     zone: u8,
     file: u8,
 }
@@ -43,7 +43,7 @@ impl Model for Entry {
 }
 
 impl Entry {
-    /// The entry of a row.
+    /// Makes the entry of a row.
     #[tactic(auto, using(crate::proofs::Entries::block_kept))]
     pub fn of_row(file: u8, place: u32, block: Block) -> Entry
         ensures { result ≡ record { file = file; number = place; block = Some block } }
@@ -60,7 +60,7 @@ impl Entry {
         }
     }
 
-    /// The entry of an end mark.
+    /// Makes the entry of an end mark.
     pub fn of_end(file: u8, rows: u32) -> Entry
         ensures { result ≡ record { file = file; number = rows; block = None } }
     {
@@ -76,7 +76,7 @@ impl Entry {
         }
     }
 
-    /// The item, whose worths these are.
+    /// Returns the item with these worths.
     pub fn item(&self, own: &[i64]) -> Item
         requires some { 1 ≤ length own.now }
         requires few { length own.now ≤ MAX_DESTINATIONS }
@@ -96,7 +96,7 @@ impl Entry {
         }
     }
 
-    /// Which item it is.
+    /// Returns the item's mark: the item without a block and worths.
     pub fn mark(&self) -> Mark
         ensures { (own : List ℤ) → result ≡ mark_of (item_with own self.now) }
     {
@@ -113,7 +113,7 @@ impl Entry {
         }
     }
 
-    /// The block of a row.
+    /// Returns the block of a row.
     pub fn block(&self) -> Option<Block>
         ensures { result ≡ self.now.block }
     {

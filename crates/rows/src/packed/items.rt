@@ -1,4 +1,4 @@
-//! Items without the room that a row does not use.
+//! Items packed without the space that a row does not use.
 
 ghost use Rattle.std.specs.Prelude.{◌≡◌, ◌+◌, ◌<◌, ◌≤◌, ◌++◌, [], ◌∷◌, All, OnOk, OnErr, Some, length, slice_get, vec_len, vec_capacity};
 ghost use Rattle.std.specs.Option.{option_map};
@@ -20,12 +20,12 @@ use plan_parts::block::Block;
 use std::alloc::{AllocError, Allocator, Global};
 use std::marker::Model;
 
-/// Items as a valuer packs them, without the room that a row does not use. In memory an item takes 24 bytes, and 8 for each worth that a
-/// row has. Contracts see the list of them, for how many more items and worths there is room, and how many worths a row has.
+/// Items as a valuer packs them, without the space that a row does not use. In memory an item takes 24 bytes, and 8 bytes for each worth of a
+/// row. Contracts see the list of the items, the capacity left for items and for worths, and the number of worths of a row.
 #[derive(Debug, Drop)]
 pub struct PackedItems<A: Allocator = Global> {
     entries: Vec<Entry, A>,
-    // of each entry as many, those of one after those of the one before it: zeros for an end mark
+    // the same number for each entry, one entry after the other; zeros for an end mark
     worths: Vec<i64, A>,
     width: usize,
 }
@@ -50,7 +50,7 @@ impl<A: Allocator> Model for PackedItems<A> {
 }
 
 impl<A: Allocator + Copy> PackedItems<A> {
-    /// No items, for rows of so many worths.
+    /// Makes an empty list for rows with `width` worths.
     pub fn new(alloc: A, width: usize) -> PackedItems<A>
         requires some { 1 ≤ width }
         requires few { width ≤ MAX_DESTINATIONS }
@@ -66,7 +66,7 @@ impl<A: Allocator + Copy> PackedItems<A> {
 }
 
 impl<A: Allocator> PackedItems<A> {
-    /// The number of items.
+    /// Returns the number of items.
     #[tactic(auto, using(crate::proofs::Entries::entries))]
     pub fn len(&self) -> usize
         ensures { result ≡ length self.now.items }
@@ -74,7 +74,7 @@ impl<A: Allocator> PackedItems<A> {
         self.entries.len()
     }
 
-    /// The item at a position, from 0.
+    /// Returns the item at a position, from 0.
     #[tactic(auto, using(crate::proofs::Entries::entries))]
     pub fn at(&self, position: usize) -> Item
         requires { position < length self.now.items }
@@ -84,7 +84,7 @@ impl<A: Allocator> PackedItems<A> {
         self.entries[position].item(own)
     }
 
-    /// Which item stands at a position, from 0.
+    /// Returns the mark of the item at a position, from 0.
     #[tactic(auto, using(crate::proofs::Entries::entries))]
     pub fn mark_at(&self, position: usize) -> Mark
         requires { position < length self.now.items }
@@ -93,7 +93,7 @@ impl<A: Allocator> PackedItems<A> {
         self.entries[position].mark()
     }
 
-    /// The block of the row at a position, from 0, or `None` where no row stands there.
+    /// Returns the block of the row at a position, from 0, or `None` if the item there is no row.
     #[tactic(auto, using(crate::proofs::Entries::entries))]
     pub fn block_at(&self, position: usize) -> Option<Block>
         requires { position < length self.now.items }
@@ -120,7 +120,7 @@ impl<A: Allocator> PackedItems<A> {
 }
 
 impl PackedItems {
-    // The worths of the items, which are given up.
+    // Returns the worths of the items, and drops the remainder.
     pub(crate) fn into_worths(self) -> PackedWorths
         ensures { HasWorths self.items result }
     {

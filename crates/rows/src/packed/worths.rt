@@ -3,7 +3,7 @@
 ghost use Rattle.std.specs.Prelude.{◌≡◌, ◌+◌, ◌*◌, ◌≤◌, length, take, drop};
 ghost use Rattle.rows.specs.inner.Own.{own_at};
 
-/// The worths of items, of each as many: those of one after those of the one before it.
+/// The worths of items, the same number for each, one item after the other.
 #[derive(Debug, Drop)]
 pub struct PackedWorths {
     pub worths: Vec<i64>,
@@ -12,7 +12,7 @@ pub struct PackedWorths {
 }
 
 impl PackedWorths {
-    /// The worths of the item at a position, from 0.
+    /// Returns the worths of the item at a position, from 0.
     pub fn at(&self, position: usize) -> &[i64]
         requires { position * self.now.width + self.now.width ≤ length self.now.worths.items }
         ensures { result.now ≡ own_at self.now position }
@@ -21,7 +21,7 @@ impl PackedWorths {
     }
 }
 
-/// The worths at a position, where each has so many.
+/// Returns the worths at a position, if each item has `width` worths.
 #[inline(always)]
 pub fn worths_of_item(worths: &[i64], position: usize, width: usize) -> &[i64]
     requires { position * width + width ≤ length worths.now }
