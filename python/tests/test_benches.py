@@ -1,6 +1,8 @@
 """Solvers over a list of instances: their limits, what is checked, and a bench that continues."""
 import csv
+import json
 import os
+import pickle
 import shutil
 import signal
 import subprocess
@@ -10,6 +12,7 @@ from dataclasses import replace
 from xml.etree import ElementTree
 
 import numpy as np
+import pandas as pd
 import pytest
 from scipy import sparse
 
@@ -17,7 +20,7 @@ from pit_tools import (Blocks, Instance, Limit, Problem, UltimatePit, UserError,
                        write_instance)
 from pit_tools.cli import main
 from pit_tools.benches import limited
-from pit_tools.benches.results import profile_of, table_of
+from pit_tools.benches.results import profile_of, shown, table_of
 from pit_tools.benches.solvers import read_solver, read_solvers
 
 MARK = "PIT_TOOLS_TEST_MARK"
@@ -135,6 +138,20 @@ def test_a_program_ends_with_who_waits_for_it(tmp_path, marked):
     waiting.send_signal(signal.SIGKILL)
     waiting.wait()
     assert gone(marked) and not scratch.exists()
+
+
+@pytest.mark.parametrize("text, ended", [("", "status 0"), ("time.sleep(600)", "time limit")])
+def test_a_program_that_stops_its_supervisor_ends_all_the_same(tmp_path, marked, text, ended):
+    stops = "import os, signal, time\nos.kill(os.getppid(), signal.SIGSTOP)\n"
+    assert ran(stops + text, tmp_path, 5).ended == ended and left_of(marked) == []
+
+
+def test_a_supervisor_that_is_stopped_again_and_again_is_killed(tmp_path, marked, monkeypatch):
+    monkeypatch.setattr(limited, "PATIENCE", 2)
+    begin = time.monotonic()
+    with pytest.raises(UserError, match="was ended from outside"):
+        ran("import os, signal\nwhile True: os.kill(os.getppid(), signal.SIGSTOP)", tmp_path, 1)
+    assert gone(marked) and time.monotonic() - begin < 30
 
 
 # Commands
@@ -302,6 +319,21 @@ def test_what_was_changed_is_run_again(here, capsys):
     assert "other limits" in capsys.readouterr().err
 
 
+def test_the_record_that_was_written_last_counts(here):
+    assert bench() == 0
+    with open("bench.runs") as file:
+        lines = [json.loads(line) for line in file]
+    for path, worth in (("bench.runs-1-of-2", 1.0), ("bench.runs", 2.0)):
+        for line in lines[1:]:
+            line["cells"]["worth"] = worth
+        with open(path, "w") as file:
+            file.writelines(json.dumps(line) + "\n" for line in lines)
+    os.utime("bench.runs-1-of-2", (1e9, 1e9))
+    assert bench("--continue") == 0 and rows()[0]["worth"] == "2.00"
+    os.utime("bench.runs", (1e8, 1e8))
+    assert bench("--continue") == 0 and rows()[0]["worth"] == "1.00"
+
+
 def test_a_killed_worker_and_a_bench_that_continues(here, capsys):
     assert bench() == 0
     wanted = rows()
@@ -365,6 +397,37 @@ def test_a_schedule_of_endless_lines_is_none(here, monkeypatch):
     assert {(row["schedule"], row["told"]) for row in rows()} == {
         ("unreadable", "{out}: line 1001: it has more than 1,000 lines: give one for each block, "
                        "period and destination")}
+
+
+def test_an_empty_schedule_mines_nothing_unless_its_solver_failed(here):
+    failing = f"failing={sys.executable} -c 'open(\"{{out}}\", \"w\"); exit(1)'"
+    assert main(["bench", "LIST", "--solver", "none=cp /dev/null {out}", "--solver", failing,
+                 "--bounds", "0"]) == 0
+    assert {(row["solver"], row["schedule"], row["worth"]) for row in rows()} == {
+        ("none", "feasible", "0.00"), ("failing", "none", "")}
+
+
+def test_the_table_in_parquet_has_the_rows_of_the_text(here, capsys, monkeypatch):
+    """A function takes the part of a package for Parquet, which few machines have."""
+    with monkeypatch.context() as patched:
+        patched.setattr(pd.DataFrame, "to_parquet",
+                        lambda frame, path=None, index=None: b"PAR1" + pickle.dumps((frame, index)))
+        assert bench() == 0 and "parquet" not in capsys.readouterr().err
+    with open("bench.parquet", "rb") as file:
+        assert file.read(4) == b"PAR1"
+        table, index = pickle.load(file)
+    assert shown(table).astype(str).to_dict("records") == rows(timed=True) and index is False
+    assert table["best"].dtype == bool and table["worth"].dtype == table["gap"].dtype == float
+    with open("bench.sums") as file:
+        assert "  bench.parquet\n" in file.read()
+
+    def lacks(frame, path=None, index=None):
+        raise ImportError("no engine")
+    monkeypatch.setattr(pd.DataFrame, "to_parquet", lacks)
+    assert bench("--continue") == 0 and not os.path.exists("bench.parquet")
+    assert capsys.readouterr().err == (
+        "pit-tools bench: bench.parquet is not written: no package is there that reads and writes "
+        "Parquet: install pyarrow (python3 -m pip install pyarrow)\n")
 
 
 def test_the_pit_that_bounds_is_of_the_values_of_the_problem(here, monkeypatch):

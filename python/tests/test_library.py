@@ -52,6 +52,13 @@ def set_cells(folder, **changes):
     table.to_csv(folder / "TABLE", sep=" ", index=False)
 
 
+@pytest.mark.parametrize("words", [["--check"], ["--seek", "lens1.cpit"], ["--better", "lens1.cpit-schedule"]])
+def test_a_folder_that_nothing_goes_into_is_refused(tmp_path, capsys, words):
+    assert main(["library", *words, "--out", str(tmp_path / "new")]) == 2
+    assert "it goes without --check, --better and --seek" in capsys.readouterr().err
+    assert not (tmp_path / "new").exists()
+
+
 def test_a_changed_schedule_is_reported(known, capsys):
     assert main(["library", "--check", "--library", str(known)]) == 0
     path = known / "lens1.cpit-schedule"

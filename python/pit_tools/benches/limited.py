@@ -36,6 +36,10 @@ _F_SETPIPE_SZ = 1031
 #: the program prints last.
 PAUSE, GRACE, TAIL = 0.05, 1.0, 4096
 
+#: Seconds after which a supervisor that the program has stopped continues; and seconds beyond the
+#: limit after which it is killed.
+WAKE, PATIENCE = 1.0, 60.0
+
 TIME, MEMORY = "time limit", "memory limit"
 
 
@@ -54,10 +58,11 @@ class Ran:
 
 def run(words: Sequence[str], scratch: str, seconds: float,
         megabytes: Optional[float] = None) -> Ran:
-    """Runs a program in the current folder, at most so many seconds and in so much memory. The
+    """Runs a program in the current folder, at most `seconds` and in `megabytes` of memory. The
     folder `scratch` goes too if this process is ended meanwhile.
 
-    Raises UserError if there is no such program, or its supervisor was ended."""
+    Raises UserError if there is no such program, or its supervisor was ended or keeps being
+    stopped."""
     with subprocess.Popen([sys.executable, "-I", "-c", _CODE, json.dumps(sys.path)],
                           stdin=subprocess.PIPE, stdout=subprocess.PIPE,
                           start_new_session=True) as supervisor:
@@ -67,17 +72,34 @@ def run(words: Sequence[str], scratch: str, seconds: float,
         try:
             supervisor.stdin.write(json.dumps(task).encode() + b"\n")
             supervisor.stdin.flush()
-            told = supervisor.stdout.read()
+            printed = _printed(supervisor, time.monotonic() + seconds + PATIENCE)
         finally:
             # The supervisor ends what still runs.
             supervisor.stdin.close()
+            _printed(supervisor, time.monotonic() + PATIENCE)
             supervisor.wait()
-    if not told:
+    if not printed:
         raise UserError("the process that watches the solver was ended from outside")
-    found = json.loads(told)
+    found = json.loads(printed)
     if "error" in found:
         raise UserError(found["error"])
     return Ran(**found)
+
+
+def _printed(supervisor: subprocess.Popen[bytes], end: float) -> bytes:
+    """What a supervisor prints until it ends; it is killed if it has not ended by then."""
+    assert supervisor.stdout is not None
+    printed = b""
+    while time.monotonic() < end:
+        if not select.select([supervisor.stdout], [], [], WAKE)[0]:
+            supervisor.send_signal(signal.SIGCONT)
+            continue
+        piece = os.read(supervisor.stdout.fileno(), 1 << 16)
+        if not piece:
+            return printed
+        printed += piece
+    supervisor.kill()
+    return b""
 
 
 # In the supervisor

@@ -12,6 +12,11 @@ COLUMNS = ("name", "solver", "ended", "schedule", "worth", "bound", "bound_of", 
            "seconds", "cpu_seconds", "megabytes", "host", "told")
 
 
+#: How numbers stand in the text: values to cents, gaps to six decimals.
+FORMS = {"worth": "{:.2f}", "bound": "{:.2f}", "gap": "{:.6f}", "seconds": "{:.3f}",
+         "cpu_seconds": "{:.3f}", "megabytes": "{:.1f}"}
+
+
 def table_of(names: Sequence[str], solvers: Sequence[str],
              cells: dict[tuple[str, str], dict[str, Any]], ratio: float) -> pd.DataFrame:
     """A row for each instance and solver that has been run, in these orders, by cells of (solver,
@@ -27,7 +32,8 @@ def table_of(names: Sequence[str], solvers: Sequence[str],
                 rows.append({"name": name, "solver": solver, **bound, **one,
                              "gap": _gap(one, bound.get("bound")),
                              "best": _is_best(one, max(known, default=0.0), ratio)})
-    return pd.DataFrame(rows, columns=list(COLUMNS)).astype({"best": bool})
+    return pd.DataFrame(rows, columns=list(COLUMNS)).astype(
+        dict.fromkeys(FORMS, float)).astype({"best": bool})
 
 
 def _gap(one: dict[str, Any], bound: Optional[float]) -> Optional[float]:
@@ -43,11 +49,9 @@ def _is_best(one: dict[str, Any], best: float, ratio: float) -> bool:
 
 
 def shown(table: pd.DataFrame) -> pd.DataFrame:
-    """The table as its text has it: values to cents, gaps to six decimals, and empty cells."""
-    forms = {"worth": "{:.2f}", "bound": "{:.2f}", "gap": "{:.6f}", "seconds": "{:.3f}",
-             "cpu_seconds": "{:.3f}", "megabytes": "{:.1f}"}
+    """The table as its text has it, with empty cells."""
     text = table.copy()
-    for name, form in forms.items():
+    for name, form in FORMS.items():
         text[name] = ["" if pd.isna(value) else form.format(value) for value in table[name]]
     text["best"] = np.where(table["best"], "yes", "no")
     return text.fillna("")

@@ -153,7 +153,7 @@ def _run(task: Task, setting: Setting, solver: Solver) -> dict[str, Any]:
                 write_lp(by_period(program) if PROGRAMS[place] else program, file)
         ran = limited.run(solver.filled(values), scratch, setting.seconds, setting.megabytes)
         with inputs.looking():
-            judged = _judged(values, problem, precedence)
+            judged = _judged(values, problem, precedence, ran.ended)
         told = judged.pop("told") or ("" if ran.ended == "status 0" else _last_line(ran.printed))
         return {"ended": ran.ended, **judged, "seconds": ran.seconds, "cpu_seconds": ran.cpu,
                 "megabytes": ran.megabytes, "host": platform.node(), "told": told}
@@ -161,9 +161,12 @@ def _run(task: Task, setting: Setting, solver: Solver) -> dict[str, Any]:
         shutil.rmtree(scratch, ignore_errors=True)
 
 
-def _judged(values: dict[str, str], problem: Any, precedence: Any) -> dict[str, Any]:
-    """What `check-schedule` finds of what a solver has written."""
+def _judged(values: dict[str, str], problem: Any, precedence: Any, ended: str) -> dict[str, Any]:
+    """What `check-schedule` finds of what a solver has written. An empty file is a schedule that
+    mines nothing, but of a solver that did not succeed it is none."""
     place = next((one for one in ("out", "solution") if _has_content(values[one])), None)
+    if place is None and ended == "status 0" and os.path.isfile(values["out"]):
+        place = "out"
     if place is None:
         return {"schedule": "none", "worth": None, "told": ""}
     try:

@@ -32,7 +32,8 @@ KINDS = {TABLE: "table of a bench", COLUMNS: "table of a bench in Parquet", PICT
 
 class Bench:
     """A list over which solvers are run, or a part of its runs. `done` has those that are done,
-    `kept` how many of them were before, and `failed` a line for each that could not be done."""
+    `kept` how many of them were before, `failed` a line for each that could not be done, and
+    `remarks` one for each file that could not be written."""
 
     def __init__(self, path: str, setting: Setting, part: Part = Part()):
         self.setting, self.part = setting, part
@@ -43,6 +44,7 @@ class Bench:
         self.done: dict[Task, Done] = {}
         self.kept = 0
         self.failed: list[str] = []
+        self.remarks: list[str] = []
         for task in self.tasks:
             for name, file in files_of(task, setting).items():
                 if not os.path.isfile(file):
@@ -145,8 +147,8 @@ class Bench:
                 shown(table).to_csv(file, index=False, lineterminator="\n")
             try:
                 packed = bytes_of(table)
-            except UserError:
-                pass
+            except UserError as error:
+                self.remarks.append(f"{base}{COLUMNS} is not written: {error}")
             else:
                 with outputs.opened(base + COLUMNS, KINDS[COLUMNS]) as file:
                     file.write(packed)
@@ -159,10 +161,10 @@ def _succeeded(found: Any) -> bool:
 
 
 def _recorded(base: str, build: str) -> Iterator[dict[str, Any]]:
-    """The lines of all records of a base.
+    """The lines of all records of a base, those of the record written last at the end.
 
     Raises UserError if one is of another setting."""
-    for path in sorted(glob.glob(f"{glob.escape(base)}{RUNS}*")):
+    for path in sorted(glob.glob(f"{glob.escape(base)}{RUNS}*"), key=os.path.getmtime):
         if not re.fullmatch(rf"{re.escape(base)}{re.escape(RUNS)}(-\d+-of-\d+)?", path):
             continue
         found = build_of(path)

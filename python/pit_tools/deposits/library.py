@@ -2,7 +2,7 @@
 the best schedules that are known.
 
 The deposits follow from their seeds, and their instances from these; the tables and the schedules
-stand in the folder `library_data` beside this module, or in a copy of it: TABLE has values and
+stand in the folder `data` beside this module, or in a copy of it: TABLE has values and
 bounds, FOUND when each schedule was found, by whom and how, SUMS the sums of the instances.
 """
 from __future__ import annotations
@@ -74,7 +74,7 @@ def table_of(folder: str, name: str) -> pd.DataFrame:
     """TABLE or FOUND of a library, as words. Raises UserError where it is not there."""
     path = os.path.join(folder or FOLDER, name)
     if status_of(path) is None:
-        raise UserError(f"{folder}: no library, since it has no {name}: `library --write` makes "
+        raise UserError(f"{folder}: no library, since it has no {name}: `library --out` makes "
                         "one")
     with inputs.looking():
         return _table(path, name)
@@ -107,7 +107,7 @@ def known(name: str, folder: str = "") -> Known:
     with inputs.looking():
         record = read_record(path)
     if record is None:
-        raise UserError(f"{path}: it is not there, or no record of sums: `library --write` makes "
+        raise UserError(f"{path}: it is not there, or no record of sums: `library --out` makes "
                         "one")
     return Known(rows.iloc[0].to_dict(), {file.name: file for file in record.outputs
                                           if file.name.rpartition(".")[0] == name})

@@ -14,7 +14,7 @@ from pit_tools.texts.decimals import plain
 MARK = b"PAR1"
 
 LACKING = ("no package is there that reads and writes Parquet: install pyarrow (python3 -m pip "
-           "install pyarrow), or export as CSV")
+           "install pyarrow)")
 
 
 def frame_of(path: str) -> pd.DataFrame:
@@ -23,7 +23,7 @@ def frame_of(path: str) -> pd.DataFrame:
     try:
         frame = pd.read_parquet(path)
     except ImportError:
-        raise UserError(f"{path}: it is a Parquet file, and {LACKING}") from None
+        raise UserError(f"{path}: it is a Parquet file, and {LACKING}, or export as CSV") from None
     except MemoryError:
         raise
     except Exception as error:  # pylint: disable=broad-except

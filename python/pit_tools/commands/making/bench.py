@@ -30,7 +30,7 @@ Then there are
     BASE.csv       a line for each instance and solver: how the run ended, whether its schedule is
                    feasible, worth, bound and gap, whether it is best, seconds, MB, and what was
                    told
-    BASE.parquet   the same, if a package that writes Parquet is there
+    BASE.parquet   the same with types; a line says so if no package that writes Parquet is there
     BASE.svg       performance profiles (Dolan and More 2002): for each solver the share of the
                    instances that it solves best in at most so many times the least seconds
     BASE.sums      the record of these files and of all that was read
@@ -116,4 +116,6 @@ def _run(args: argparse.Namespace) -> int:
     if part.is_whole and bench.done:
         for line in summary(bench.write(args.ratio)):
             print(line)
+    for line in bench.remarks:
+        print(f"pit-tools bench: {line}", file=sys.stderr)
     return 0 if bench.is_whole else 1

@@ -51,10 +51,13 @@ def run(args: argparse.Namespace) -> int:
     import os
 
     from pit_tools.deposits import library
+    from pit_tools.errors import UserError
 
+    if args.out and (args.check or args.better or args.seek not in (None, ["all"])):
+        raise UserError("--out FOLDER makes a library there: it goes without --check, --better and "
+                        "--seek NAME.KIND, which take --library FOLDER")
     if args.seek == ["all"]:
         from pit_tools.deposits.search import build
-        from pit_tools.errors import UserError
 
         if not args.out:
             raise UserError("--seek all: give a folder for the tables and schedules by --out")
