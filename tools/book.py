@@ -72,8 +72,8 @@ def is_code(path: str) -> bool:
 @functools.lru_cache(None)
 def library() -> str:
     """The folder of the toolchain's libraries."""
-    told = subprocess.run(["rt", "doc"], capture_output=True, text=True, check=True)
-    return os.path.join(os.path.dirname(told.stdout.strip()), "rattle")
+    printed = subprocess.run(["rt", "doc"], capture_output=True, text=True, check=True)
+    return os.path.join(os.path.dirname(printed.stdout.strip()), "rattle")
 
 
 @functools.lru_cache(None)
@@ -171,11 +171,11 @@ def other_names(piece: Piece) -> Iterator[Tuple[str, str]]:
     """Returns the names that a part uses for words with another name where they are defined, each with that one."""
     words, pages, _ = imports(piece.path)
     for name, other in used(piece).items():
-        front, _, behind = name.partition(".")
+        prefix, _, after = name.partition(".")
         if name in words and other and source_of(*words[name]) != name:
             yield name, source_of(*words[name])
-        elif behind and pages.get(front, "").endswith(".TheVariants") and other:
-            yield f"{front}.x", f"the x of {pages[front].split('.')[-2]}"
+        elif after and pages.get(prefix, "").endswith(".TheVariants") and other:
+            yield f"{prefix}.x", f"the x of {pages[prefix].split('.')[-2]}"
 
 
 def find(page: str, name: str) -> Optional[Piece]:
@@ -196,9 +196,9 @@ def code_imports(path: str) -> Dict[str, List[str]]:
     """Returns the words that a code file imports from the project, by path."""
     found = {}
     for line in re.findall(r"(?m)^(?:pub )?use ([^;]+);", shared.read(path)):
-        front, _, listed = line.partition("{")
+        prefix, _, listed = line.partition("{")
         for word in re.split(r",\s*", listed.strip("} \n")) if listed else [""]:
-            way, _, own = (front + word.strip()).partition(" as ")
+            way, _, own = (prefix + word.strip()).partition(" as ")
             found[own or way.split("::")[-1]] = way.split("::")
     return found
 
@@ -215,9 +215,9 @@ def find_in_code(here: str, way: List[str]) -> Optional[Piece]:
     passed = code_imports(path)
     for at in range(1, len(way)):
         if way[at] in passed and passed[way[at]] != way[:at + 1]:
-            front = passed[way[at]]
-            front = front if front[0] == "crate" or os.path.isdir(f"crates/{front[0]}") else ["crate", *front]
-            return find_in_code(path, [*front, *way[at + 1:]])
+            prefix = passed[way[at]]
+            prefix = prefix if prefix[0] == "crate" or os.path.isdir(f"crates/{prefix[0]}") else ["crate", *prefix]
+            return find_in_code(path, [*prefix, *way[at + 1:]])
     return None
 
 
@@ -260,9 +260,9 @@ def used(piece: Piece) -> Dict[str, Optional[Piece]]:
     tokens = tokens_of(piece)
     heads = {token.split(".")[0] for token in tokens}
     found = {name: find(*source) for name, source in words.items() if is_said(name, heads)}
-    for front, _, name in (token.partition(".") for token in tokens):
-        if front in pages and name:
-            found[f"{front}.{name}"] = find(pages[front], name.split(".")[0])
+    for prefix, _, name in (token.partition(".") for token in tokens):
+        if prefix in pages and name:
+            found[f"{prefix}.{name}"] = find(pages[prefix], name.split(".")[0])
     own = heads - bound(piece)
     for other in pieces(piece.path):
         found.update((name, other) for name in other.names if is_said(name, heads if is_data(other) else own))
@@ -389,20 +389,20 @@ class Book(NamedTuple):
 
 def book_of(parts: List[str]) -> Book:
     """The text of some parts, in their order."""
-    told: Dict[str, List[Piece]] = {}
+    printed: Dict[str, List[Piece]] = {}
     for part in parts:
-        before = {piece for some in told.values() for piece in some}
-        told[part] = [piece for piece in ordered(roots_of(part)) if piece not in before]
-    all_of = [piece for some in told.values() for piece in some]
+        before = {piece for some in printed.values() for piece in some}
+        printed[part] = [piece for piece in ordered(roots_of(part)) if piece not in before]
+    all_of = [piece for some in printed.values() for piece in some]
     words = {name for piece in all_of for name, other in used(piece).items() if is_listed(name, other)}
     sentences = ((tuple(name for name in names if name in words), says) for names, says in library_words.LIBRARY.items())
     others: Dict[str, List[str]] = {}
     for name, real in sorted({pair for piece in all_of for pair in other_names(piece) if pair[0] not in words}):
         others.setdefault(name, []).append(real)
-    return Book(told, [(names, says) for names, says in sentences if names], others)
+    return Book(printed, [(names, says) for names, says in sentences if names], others)
 
 
-def contents_of(contract: Piece, numbers: Dict[Piece, int], told: Set[Piece]) -> Iterator[str]:
+def contents_of(contract: Piece, numbers: Dict[Piece, int], printed: Set[Piece]) -> Iterator[str]:
     """Prints a contract and each of its clauses with its words; below it the words that these use, unless they were printed before. Each
     project word has the number of the section that defines it."""
     def own_words(piece: Piece) -> List[Tuple[str, Piece]]:
@@ -418,9 +418,9 @@ def contents_of(contract: Piece, numbers: Dict[Piece, int], told: Set[Piece]) ->
         words = own_words(contract._replace(text=clause))
         yield "    " + line(name or "ensures", words)
         for word, other in words:
-            if not is_code(other.path) and other not in told and own_words(other):
+            if not is_code(other.path) and other not in printed and own_words(other):
                 yield "        " + line(word, own_words(other))
-            told.add(other)
+            printed.add(other)
 
 
 def text_of(book: Book) -> Iterator[str]:
@@ -428,9 +428,9 @@ def text_of(book: Book) -> Iterator[str]:
     sections = book.sections()
     numbers = {piece: number for number, (_, some) in enumerate(sections, 1) for piece in some}
     yield f"# What is promised\n\n{library_words.CONTENTS}"
-    told: Set[Piece] = set()
+    printed: Set[Piece] = set()
     for root in (root for part in book.parts for root in roots_of(part)):
-        yield from contents_of(root, numbers, told)
+        yield from contents_of(root, numbers, printed)
     yield "\n# How to read this\n"
     for sign, says in [*library_words.LANGUAGE.items(), *((", ".join(names), says) for names, says in book.listed)]:
         yield f"    {sign}: {says}"

@@ -44,7 +44,7 @@ class Ran(NamedTuple):
     the files that exist now, and the most bytes that it may use for what it reads and prints, if known."""
 
     is_thin: bool
-    words: Sequence[str]
+    arguments: Sequence[str]
     given: List[bytes]
     status: int
     out: bytes
@@ -69,14 +69,14 @@ class May(NamedTuple):
     zones: int
 
 
-def option(words: List[str], name: str, default: str = "") -> Tuple[str, List[str]]:
+def option(arguments: List[str], name: str, default: str = "") -> Tuple[str, List[str]]:
     """Returns the value of an option in these arguments, and the arguments without it."""
     rest: List[str] = []
     found = default
-    for n, word in enumerate(words):
+    for n, word in enumerate(arguments):
         if word == "--":
-            return found, rest + words[n:]
-        if word.startswith(name + "=") or n and words[n - 1] == name:
+            return found, rest + arguments[n:]
+        if word.startswith(name + "=") or n and arguments[n - 1] == name:
             found = word[len(name) + 1:] if word.startswith(name + "=") else word
         elif word != name:
             rest.append(word)
@@ -85,23 +85,23 @@ def option(words: List[str], name: str, default: str = "") -> Tuple[str, List[st
 
 def command_of(ran: Ran) -> str:
     """Which command of the page a run is."""
-    before = ran.words[:ran.words.index("--")] if "--" in ran.words else ran.words
+    before = ran.arguments[:ran.arguments.index("--")] if "--" in ran.arguments else ran.arguments
     is_shown = {"-h", "--help", "-V", "--version", "help"} & set(before)
     if is_shown or ran.status == 2 and not ran.line.startswith("settings"):
         return "help, the version, and refused arguments"
-    return "pitc_thin" if ran.is_thin else f"pitc {ran.words[0]}" if ran.words else "pitc"
+    return "pitc_thin" if ran.is_thin else f"pitc {ran.arguments[0]}" if ran.arguments else "pitc"
 
 
 def may_of(ran: Ran, files: List[Row]) -> May:
     """What a run may use, by the first table."""
     command = command_of(ran)
     row = next(row for row in files if row["command"] == command)
-    words = list(ran.words[0 if ran.is_thin else 1:])
-    plan, words = option(words, "--plan")
-    out, words = option(words, "--out")
-    valuers, words = option(words, "--valuers", "4")
-    _, words = option(words, "--capacity")
-    rest = [word for n, word in enumerate(words) if word != "--" or "--" in words[:n]]
+    arguments = list(ran.arguments[0 if ran.is_thin else 1:])
+    plan, arguments = option(arguments, "--plan")
+    out, arguments = option(arguments, "--out")
+    valuers, arguments = option(arguments, "--valuers", "4")
+    _, arguments = option(arguments, "--capacity")
+    rest = [word for n, word in enumerate(arguments) if word != "--" or "--" in arguments[:n]]
     base = rest[0] if command == "pitc check" else out
     zones = rest if "ZONE.." in row["reads, in this order"] else []
     count = cut_at(ran.given[0]) if command == "pitc" else len(zones)
@@ -189,7 +189,7 @@ class Judged:
                     yield f"a {call.name} of {name}"
                 if n < len(used.calls) and call.is_refused:
                     yield f"a {what} of {name} after {call.error}"
-                if n < len(used.calls) and what == "read" and call.answer == 0 and not call.error:
+                if n < len(used.calls) and what == "read" and call.result == 0 and not call.error:
                     yield f"a read of {name} after its end"
             # A pipe accepts and returns what it has.
             if name not in ("input", "output") and len(used.calls) > CALLS + used.total // LARGE:
@@ -290,9 +290,9 @@ class Judged:
             return
         wanted = set(self.failed())
         number = re.match(r"file (\d+)[ :]", line)
-        earlier = number and all(told.startswith("file ") and int(told.split()[1][:-1]) > int(number[1]) for told in wanted)
-        is_told = (status, line in wanted) == (3, True) or status == 1 and earlier
-        if wanted and not is_told:
+        earlier = number and all(printed.startswith("file ") and int(printed.split()[1][:-1]) > int(number[1]) for printed in wanted)
+        is_printed = (status, line in wanted) == (3, True) or status == 1 and earlier
+        if wanted and not is_printed:
             yield f"status {status}, {line!r} in place of {sorted(wanted)}"
         if status == 3 and not wanted:
             yield f"{line!r}, and no call failed"

@@ -14,8 +14,8 @@ CAPACITIES, USUAL = [1, 2, 7, 64, 65, 1000, 4095, 4096], 64
 
 def sizes_of(program, library, trial):
     """How many allocations of each size a run makes."""
-    _, told = malloc.answer(program, library, trial)
-    return collections.Counter(size for word, size in told if word == b"size")
+    _, printed = malloc.result(program, library, trial)
+    return collections.Counter(size for word, size in printed if word == b"size")
 
 
 def is_lane(sizes, width):

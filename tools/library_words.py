@@ -13,30 +13,31 @@ PARTS = {
     "compile": "The command compile: an opener gives the feed of a file by its path, and a run writes the five texts into sinks.",
     "thin": "The program pitc_thin: the same zone files and threads, and one sink, which takes the precedence file with fewer arcs.",
     "run": "A run: feeds that are open, and any gate, a hook that is called before a row is valued and before a reader pulls.",
-    "pipe": "One input holds the text of a plan and those of its zone files, cut at lines that are exactly `--`. A plan is a CSV text:\n"
-            "the first cell of a record is its key. The texts of the instance are printed one after the other.",
-    "check": "The files BASE.blocks, BASE.prec, BASE.pcpsp and, where it is there, BASE.cpit are read back, and what they have is counted.\n"
-             "One that cannot be opened or read, or is too long, is told before any faulty line, also before one of a file that was read\n"
-             "earlier. `out` is standard output, `err` standard error.",
+    "pipe": "One input holds the text of a plan and the texts of its zone files, cut at lines that are exactly `--`. A plan is a CSV "
+            "text:\nthe first cell of a record is its key. The texts of the instance are printed one after the other.",
+    "check": "The files BASE.blocks, BASE.prec, BASE.pcpsp and, if it exists, BASE.cpit are read back, and their contents are counted.\nA "
+             "file that cannot be opened or read, or is too long, is reported before any invalid line, also before one of a file that was "
+             "read\nearlier. `out` is standard output, `err` standard error.",
 }
 
 # Of the language of contracts and definitions.
 LANGUAGE = {
-    "A → B": "functions from A to B, or that A implies B; `(x : A) → B`: for each x of A; `{X : Type 0}`: left out where it is clear",
+    "A → B": "functions from A to B, or that A implies B; `(x : A) → B`: for each x of A; `{X : Type 0}`: omitted if it is clear",
     "A × B": "pairs, or that both hold; `(x : A) × B`: that there is such an x; `p.0`, `p.1`, `p.2`: the parts of `(a, b)` or `(a, b, c)`",
     "λ x. e": "the function that gives e for x",
     "f x = e": "what f is at x; of several such lines the first that fits",
-    "let x = e in f": "f, where x stands for e",
-    "do, x ← e": "goes on with the x that e gives, up to the first fault",
+    "let x = e in f": "f, in which x means e",
+    "do, x ← e": "continues with the x that e yields, up to the first fault",
     "¬ A, ⊥": "that A cannot be; what cannot be",
     "Unit": "what always holds",
     "pos n, negsuc n": "the integers n and -(n + 1), of a natural number n",
-    "Type 0, Type ℓ": "types, and statements, which hold where they have a value",
+    "Type 0, Type ℓ": "types, and statements, which hold if they have a value",
     "record": "a type with fields, or a statement all of whose fields hold; `r.f`: a field; `record { f = x; }`: one with these fields; `record r { f = x; }`: r with this f",
     "data": "a type of these variants, or a statement that holds by one of them",
-    "module _ (x : A) where": "what stands below takes x too",
-    "abbrev, unfoldable, pub, infix": "no part of what a word means: what the prover opens, what other pages may use, how signs bind: those of a greater number bind closer, and * and / closer than +, + closer than ∷, ∷ closer than ++",
-    "#[error(..)], Unit {0}, {I : _}": "how a fault is shown; the {..} behind a word can be passed over",
+    "module _ (x : A) where": "what is below takes x too",
+    "abbrev, unfoldable, pub, infix": "no part of what a word means: what the prover opens, what other pages may use, how operators bind: "
+                                      "those of a larger number bind closer, and * and / closer than +, + closer than ∷, ∷ closer than ++",
+    "#[error(..)], Unit {0}, {I : _}": "how a fault is shown; the {..} after a word can be skipped",
     "a name with ◌": "one that is written between its operands, each a ◌: `a + b`",
     "ensures, requires": "what holds when a call returns, and what its caller owes; `result`: what it returns",
     "ghost": "what contracts see, and code does not",
@@ -51,9 +52,9 @@ LANGUAGE = {
 
 # Of the library, by the words of one sentence.
 LIBRARY = {
-    ("ℕ", "zero", "suc"): "the natural numbers: 0, and one more than a number",
+    ("ℕ", "zero", "suc"): "the natural numbers: 0, and n + 1 for each number n",
     ("◌+◌", "◌*◌", "◌^◌"): "sum, product and power of natural numbers",
-    ("◌-◌",): "their difference, 0 where it would be below 0",
+    ("◌-◌",): "their difference, 0 if it would be below 0",
     ("◌/◌", "◌%◌"): "their quotient, rounded down, and its remainder; n / 0 is 0 and n % 0 is n",
     ("◌<◌", "◌≤◌"): "less than, and at most",
     ("min",): "the smaller of two natural numbers",
@@ -67,13 +68,13 @@ LIBRARY = {
     ("◌↔◌",): "that each of two implies the other",
     ("⊤",): "what always holds",
     ("List", "[]", "◌∷◌"): "lists: the empty one, and an element before a list",
-    ("◌++◌",): "a list behind another",
-    ("concat",): "all lists of a list, one behind the other",
+    ("◌++◌",): "a list after another",
+    ("concat",): "all lists of a list, one after the other",
     ("length",): "how many elements a list has",
     ("reverse",): "a list from its end on",
     ("map",): "`map f xs`: what f gives of each element, in order",
-    ("take",): "`take n xs`: the first n elements, or all where there are fewer",
-    ("drop",): "`drop n xs`: what stands behind the first n elements",
+    ("take",): "`take n xs`: the first n elements, or all if there are fewer",
+    ("drop",): "`drop n xs`: what follows the first n elements",
     ("replicate",): "`replicate n a`: the list of n times a",
     ("get_or",): "`get_or xs i d`: the element of number i, from 0 on, or else d",
     ("slice_index_or",): "`slice_index_or xs i d`: the element of number i, from 0 on, or else d",
@@ -84,27 +85,28 @@ LIBRARY = {
     ("AllZip",): "`AllZip R xs ys`: that two lists are as long, and R holds of their elements, place by place",
     ("AllPairs",): "`AllPairs R xs`: that R holds of each element and each later one",
     ("filter",): "`filter p xs`: the elements at which p gives true, in order",
-    ("filter_map",): "`filter_map h xs`: what h gives of the elements, in order, without those of which it gives nothing",
+    ("filter_map",): "`filter_map h xs`: what h returns for the elements, in order, without those for which it returns nothing",
     ("find",): "`find p xs`: the first element at which p gives true, if there is one",
     ("list_any",): "`list_any p xs`: whether p gives true at some element",
     ("list_all",): "`list_all p xs`: whether p gives true at each element",
     ("position",): "`position p xs`: the first index at which p gives true, if there is one",
     ("position_or_len",): "`position_or_len p xs`: the first index at which p gives true, or else the length",
-    ("before_first",): "`before_first p xs`: what stands before the first element at which p gives true, or all",
-    ("after_first",): "`after_first p xs`: what stands behind the first element at which p gives true, or nothing",
-    ("prefix_len",): "`prefix_len p xs`: how many elements stand before the first at which p gives false, or all",
+    ("before_first",): "`before_first p xs`: what precedes the first element for which p returns true, or all",
+    ("after_first",): "`after_first p xs`: what follows the first element for which p returns true, or nothing",
+    ("prefix_len",): "`prefix_len p xs`: how many elements precede the first for which p returns false, or all",
     ("suffix_len",): "`suffix_len p xs`: how many elements follow the last at which p gives false, or all",
-    ("fold",): "`fold f a xs`: a where the list is empty, and else the fold from `f a x` of what stands behind its first element x",
+    ("fold",): "`fold f a xs`: a if the list is empty, and otherwise the fold from `f a x` of what follows its first element x",
     ("sum_by",): "`sum_by f xs`: the sum of what f gives of each element",
     ("count_by",): "`count_by p xs`: at how many elements p gives true",
     ("range_with_len",): "`range_with_len a n`: the n numbers from a on",
     ("enumerate_from",): "`enumerate_from n xs`: the pairs of n and the first element, n + 1 and the next, and so on",
-    ("flat_map",): "`flat_map f xs`: the lists that f gives of the elements, one behind the other",
-    ("last_or",): "`last_or o xs`: the last element as an option, or the option o where there is none",
+    ("flat_map",): "`flat_map f xs`: the lists that f returns for the elements, one after the other",
+    ("last_or",): "`last_or o xs`: the last element as an option, or the option o if there is none",
     ("ok_prefix",): "the values of a list of results before its first error",
-    ("join_with_byte",): "`join_with_byte c xs`: the lists one behind the other, with c between each two",
-    ("slice_split",): "`slice_split p xs`: the list cut at each element at which p gives true, which stands in no part: a part more than cuts",
-    ("onto_first",): "`onto_first x parts`: x put before the first part, or as the one part where there is none",
+    ("join_with_byte",): "`join_with_byte c xs`: the lists one after the other, with c between each two",
+    ("slice_split",): "`slice_split p xs`: the list cut at each element for which p returns true, which is in no part: one more part than "
+                      "cuts",
+    ("onto_first",): "`onto_first x parts`: x put before the first part, or as the one part if there is none",
     ("IsStrictlyIncreasing",): "that each number of a list is less than the next",
     ("bytes_eq",): "whether two lists of bytes are the same",
     ("string_bytes",): "the bytes of a String",
@@ -112,13 +114,13 @@ LIBRARY = {
     ("codes",): "the numbers of the characters of a text",
     ("DynBox",): "in definitions what it holds",
     ("Global",): "where memory comes from",
-    ("min-le_right", "suc-le-suc_iff"): "proofs: min n m ≤ m; and m ≤ n exactly where m + 1 ≤ n + 1",
+    ("min-le_right", "suc-le-suc_iff"): "proofs: min n m ≤ m; and m ≤ n exactly if m + 1 ≤ n + 1",
 }
 
 # The defaults of `csv`, as its page has them.
 CONFIG = "{ delimiter = 44; quote = 34; escape = None; double_quote = true; quoting = true; comment = None; terminator = term.CRLF }"
 
-# Its pages by them: without the settings, what each of them is put in, and without what no default leads to.
+# Its pages by them: without the settings, the types that hold each of them, and what no default refers to.
 DEFAULTS = [
     (r"(?m)^(?:abbrev pub is_byte .*|is_byte .*|\w+ \(term\.Any.*|\w+ (?:cfg )?st\.In(?:Escape|Comment).*|    In(?:Escape|Comment),)\n", ""),
     (r"records cfg xs = ", "records default_config xs = "),

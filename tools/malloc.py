@@ -29,14 +29,14 @@ def compiler():
 def build(folder, name="malloc"):
     """The library of this malloc, or of another file of tools/."""
     library, source = os.path.join(folder, f"{name}.so"), os.path.join(TOP, "tools", f"{name}.c")
-    words, by = ["-shared", "-fPIC", "-O1", "-nostdlib", "-fno-builtin", "-o", library, source], compiler()
+    arguments, by = ["-shared", "-fPIC", "-O1", "-nostdlib", "-fno-builtin", "-o", library, source], compiler()
     if by is None:
         sys.exit(f"tools/{os.path.basename(sys.argv[0])}: no cc, gcc or clang here, so nothing is compared")
-    subprocess.run([*by, *words], check=True)
+    subprocess.run([*by, *arguments], check=True)
     return library
 
 
-def answer(program, library, trial, nth=0):
+def result(program, library, trial, nth=0):
     """Returns the result of a row's run whose Nth allocation is refused, and what the malloc reports.
 
     It reports words, each with a size: `refused`, or `within` if the C library starts a thread. If N is 0 it reports `size` for each
@@ -47,7 +47,7 @@ def answer(program, library, trial, nth=0):
     os.close(writes)
     surroundings = dict(os.environ, LD_PRELOAD=library, REFUSE_NTH=str(nth))
     try:
-        given = driver.answer(program, trial, env=surroundings, pass_fds=[TOLD])
+        given = driver.result(program, trial, env=surroundings, pass_fds=[TOLD])
     finally:
         os.close(TOLD)
     with open(reads, "rb") as pipe:

@@ -76,7 +76,7 @@ def interpreters() -> List[str]:
     return list(dict.fromkeys(path for path in paths if os.access(path, os.X_OK)))
 
 
-def lacking_of(python: str, modules: List[str]) -> List[str]:
+def missing_of(python: str, modules: List[str]) -> List[str]:
     """Returns which of these modules an interpreter does not have."""
     done = subprocess.run([python, "-c", LOOK, *modules], capture_output=True, text=True)
     return done.stdout.split() if done.returncode == 0 else modules
@@ -84,12 +84,12 @@ def lacking_of(python: str, modules: List[str]) -> List[str]:
 
 def first_with_modules(modules: Sequence[str] = tuple(MODULES)) -> Tuple[Optional[str], Dict[str, List[str]]]:
     """Returns the first interpreter that has all these modules, and what those before it do not have."""
-    lacking = {}
+    missing = {}
     for python in interpreters():
-        lacking[python] = lacking_of(python, list(modules))
-        if not lacking[python]:
-            return python, lacking
-    return None, lacking
+        missing[python] = missing_of(python, list(modules))
+        if not missing[python]:
+            return python, missing
+    return None, missing
 
 
 def pages_of_tool() -> Dict[str, bytes]:
@@ -118,7 +118,7 @@ def of_recipes() -> List[str]:
     return sorted(set(sum(words, [])))
 
 
-def lacking_of_planner() -> Dict[str, Tuple[List[str], str]]:
+def missing_of_planner() -> Dict[str, Tuple[List[str], str]]:
     """Returns what is missing for `./try planner`, like `lacking`."""
     found = {need.names[0]: ([need.package], "the pit in a survey") for need in NEEDS if need.package == "g++" and not is_there(need)}
     if first_with_modules(OF_PIT_TOOLS)[0] is None:
@@ -126,7 +126,7 @@ def lacking_of_planner() -> Dict[str, Tuple[List[str], str]]:
     return found
 
 
-def lacking() -> Dict[str, Tuple[List[str], str]]:
+def missing() -> Dict[str, Tuple[List[str], str]]:
     """Returns what is missing, by its name: the packages that have it, and what calls it."""
     found = {need.names[0]: (list(filter(None, [need.package])), need.callers) for need in NEEDS if not is_there(need)}
     if first_with_modules()[0] is None:
@@ -150,9 +150,9 @@ def packages_of_planner() -> List[str]:
     return ["g++", *packages_of(OF_PIT_TOOLS)]
 
 
-def left_out(count: int, names: Iterable[str]) -> str:
+def skipped_text(count: int, names: Iterable[str]) -> str:
     """Returns what a tool prints at its end if it skipped something because these are missing; otherwise nothing."""
-    return f"; {count} left out, for want of {' '.join(dict.fromkeys(names))}" if count else ""
+    return f"; {count} skipped, since these are missing: {' '.join(dict.fromkeys(names))}" if count else ""
 
 
 def status(wrong: object, left: object) -> int:

@@ -32,10 +32,10 @@ reader = subprocess.Popen(["sh"], cwd=top, stdin=subprocess.PIPE, stdout=subproc
 
 @register_cell_magic
 def shell(words, commands):
-    """Prints what the commands print, line by line. Where one of the programs behind %%shell is not there it leaves them out."""
+    """Prints what the commands print, line by line. Skips them if a program after %%shell is missing."""
     lacking = [program for program in words.split() if not shutil.which(program)]
     if lacking:
-        print("left out, for want of", *lacking)
+        print("skipped, since these are missing:", *lacking)
         return
     with tempfile.NamedTemporaryFile("w", encoding="utf-8") as cell:
         print(commands, file=cell, flush=True)
@@ -77,7 +77,7 @@ def notebook_of(page):
     return json.dumps(notebook, ensure_ascii=False, indent=1) + "\n"
 
 
-def told_by(python, path, folder):
+def printed_by(python, path, folder):
     """Returns what each cell of commands of a notebook prints, and its status, which is none if it did not finish."""
     quiet = {**os.environ, "PYDEVD_DISABLE_FILE_VALIDATION": "1"}
     done = subprocess.run([python, __file__, path, folder], stdin=subprocess.DEVNULL, stdout=subprocess.PIPE, env=quiet, check=True)
@@ -92,14 +92,14 @@ def main(path, folder):
     for cell in notebook.cells:
         cell.update({"outputs": []} if cell.cell_type == "code" else {})
     nbclient.NotebookClient(notebook, timeout=1800, kernel_name="python3", allow_errors=True, resources={"metadata": {"path": folder}}).execute()
-    told = []
+    printed = []
     for cell in notebook.cells:
         if cell.source.startswith("%%shell"):
             faults = [output.evalue for output in cell.outputs if output.output_type == "error"]
             status = re.fullmatch(r"ended with (\d+)", " ".join(faults))
-            told.append(("".join(output.text for output in cell.outputs if output.output_type == "stream"),
+            printed.append(("".join(output.text for output in cell.outputs if output.output_type == "stream"),
                          int(status[1]) if status else None if faults else 0))
-    print(json.dumps(told))
+    print(json.dumps(printed))
 
 
 if __name__ == "__main__":

@@ -15,19 +15,19 @@ class Outcome(NamedTuple):
     """The result of a run, and for each sink whether it was begun, its bytes and how many calls failed; how many valuers there were;
     what a truncated sink misses of its text; and the file whose feed failed, or -1."""
 
-    answer: Made
+    result: Made
     sinks: Tuple[Tuple[bool, bytes, int], ...]
     valuers: int = VALUERS
-    lacking: bytes = b""
+    missing: bytes = b""
     failed: int = -1
 
 
 UNTOUCHED = ((False, b"", 0),) * len(NAMES)
 
 
-def sinks_of(told: Tuple[Tuple[bool, bytes, int], ...]) -> Function:
+def sinks_of(sinks: Tuple[Tuple[bool, bytes, int], ...]) -> Function:
     """Returns the states of the sinks, by the name of their text."""
-    states = [{"begun": begun, "before": (), "taken": Made("Some", (chain(taken),)), "failures": failures} for begun, taken, failures in told]
+    states = [{"begun": begun, "before": (), "taken": Made("Some", (chain(taken),)), "failures": failures} for begun, taken, failures in sinks]
     return Function(1, lambda name: states[NAMES.index(name)])
 
 
@@ -72,7 +72,7 @@ def cut_off(outcome: Outcome, place: int, failures: int, refusal: Made) -> Outco
     """The same, cut off in the middle of a text."""
     _, text, _ = outcome.sinks[place]
     half = len(text) // 2
-    return Outcome(Made("Err", (refusal,)), (*outcome.sinks[:place], (True, text[:half], failures), *UNTOUCHED[place + 1 :]), lacking=text[half:])
+    return Outcome(Made("Err", (refusal,)), (*outcome.sinks[:place], (True, text[:half], failures), *UNTOUCHED[place + 1 :]), missing=text[half:])
 
 
 def also_right(outcome: Outcome) -> Iterator[Tuple[str, Outcome]]:
@@ -80,17 +80,17 @@ def also_right(outcome: Outcome) -> Iterator[Tuple[str, Outcome]]:
     yield "a feed fails", Outcome(Made("Err", (Made("FeedFailed", (0,)),)), UNTOUCHED, failed=0)
     yield "no thread", Outcome(Made("Err", (Made("NoThread"),)), UNTOUCHED)
     yield "no memory", Outcome(Made("Err", (Made("OutOfMemory"),)), UNTOUCHED)
-    for place, name in enumerate(NAMES) if outcome.answer.tag == "Ok" else ():
+    for place, name in enumerate(NAMES) if outcome.result.tag == "Ok" else ():
         yield f"cut off at {ENDINGS[place]}", cut_off(outcome, place, 1, Made("SinkFailed", (name,)))
         yield f"no memory at {ENDINGS[place]}", cut_off(outcome, place, 0, Made("OutOfMemory"))
 
 
 def with_took(outcome: Outcome, change) -> Outcome:
     """Returns the same with what the valuers took changed."""
-    view = outcome.answer.held[0]
+    view = outcome.result.held[0]
     took = [list(each(taken)) for taken in each(view["took"])]
     change(took)
-    return outcome._replace(answer=Made("Ok", ({**view, "took": chain(map(chain, took))},)))
+    return outcome._replace(result=Made("Ok", ({**view, "took": chain(map(chain, took))},)))
 
 
 def altered(outcome: Outcome) -> Iterator[Tuple[str, Outcome]]:
@@ -98,26 +98,26 @@ def altered(outcome: Outcome) -> Iterator[Tuple[str, Outcome]]:
     settings = [Made("Settings", (Made(kind),)) for kind in ("Files", "Valuers", "Capacity", "Destinations")]
     same = Made("Same", tuple({"file": 0, "row": row} for row in (2, 3)))
     for other in [*settings, same]:
-        if outcome.answer != Made("Err", (other,)):
-            yield f"refused by {other.held[0]}", outcome._replace(answer=Made("Err", (other,)), sinks=UNTOUCHED)
+        if outcome.result != Made("Err", (other,)):
+            yield f"refused by {other.held[0]}", outcome._replace(result=Made("Err", (other,)), sinks=UNTOUCHED)
     yield "a feed that did not fail", Outcome(Made("Err", (Made("FeedFailed", (0,)),)), UNTOUCHED)
-    if outcome.answer.tag == "Err":
-        refusal = outcome.answer.held[0]
+    if outcome.result.tag == "Err":
+        refusal = outcome.result.held[0]
         yield "taken", Outcome(Made("Ok", (gathered([]),)), tuple((True, b"", 0) for _ in NAMES))
         yield "a sink is begun", outcome._replace(sinks=((True, b"", 0), *UNTOUCHED[1:]))
         if refusal.tag == "Row":
             file, fault = refusal.held
             for name, other in [("file", (file + 1, fault)), ("row", (file, {**fault, "row": fault["row"] + 1})), ("kind", (file, {**fault, "kind": Made("Order")}))]:
-                yield f"another {name}", outcome._replace(answer=Made("Err", (Made("Row", other),)))
+                yield f"another {name}", outcome._replace(result=Made("Err", (Made("Row", other),)))
         if refusal.tag == "Same":
             first, again = refusal.held
             for name, pair in [("turned", (again, first)), ("the row before", (first, {**again, "row": again["row"] - 1})), ("the next row", (first, {**again, "row": again["row"] + 1}))]:
-                yield f"{name} repeats", outcome._replace(answer=Made("Err", (Made("Same", pair),)))
+                yield f"{name} repeats", outcome._replace(result=Made("Err", (Made("Same", pair),)))
         return
     for place, which in enumerate(NAMES):
         stopped, begun = cut_off(outcome, place, 1, Made("SinkFailed", (which,))), (True, b"", 0)
         yield f"cut off at {ENDINGS[place]}, which did not fail", cut_off(outcome, place, 0, Made("SinkFailed", (which,)))
-        yield f"cut off at {ENDINGS[place]}, another is reported", stopped._replace(answer=Made("Err", (Made("SinkFailed", (NAMES[place - 1],)),)))
+        yield f"cut off at {ENDINGS[place]}, another is reported", stopped._replace(result=Made("Err", (Made("SinkFailed", (NAMES[place - 1],)),)))
         if place + 1 < len(NAMES):
             yield f"cut off at {ENDINGS[place]}, a later one is begun", stopped._replace(sinks=(*stopped.sinks[:-1], begun))
         begun, text, _ = outcome.sinks[place]
@@ -131,10 +131,10 @@ def altered(outcome: Outcome) -> Iterator[Tuple[str, Outcome]]:
         ("another message", lambda took: took[0].insert(0, Made("End", (9, 0)))),
     ]:
         yield name, with_took(outcome, change)
-    sent = [list(each(file)) for file in each(outcome.answer.held[0]["sent"])]
+    sent = [list(each(file)) for file in each(outcome.result.held[0]["sent"])]
     if len(sent[0]) > VALUERS:
         yield "rows of a file are taken from the last", with_took(outcome, lambda took: took[0].insert(0, took[0].pop(-2)))
-    yield "a row less was sent", outcome._replace(answer=Made("Ok", (gathered([sent[0][1:], *sent[1:]]),)))
+    yield "a row less was sent", outcome._replace(result=Made("Ok", (gathered([sent[0][1:], *sent[1:]]),)))
     yield "more valuers than were requested", outcome._replace(valuers=VALUERS + 1)
 
 
@@ -150,16 +150,16 @@ class Judge:
     def holds(self, plan, texts, outcome: Outcome) -> bool:
         """Returns whether a run of this plan and these texts may have this outcome."""
         word, blocks = self.pages.call, list(each(self.pages.call("pit_compile.Rows", "model_blocks", plan, texts)))
-        view = outcome.answer.held[0] if outcome.answer.tag == "Ok" else {"sent": (), "took": ()}
+        view = outcome.result.held[0] if outcome.result.tag == "Ok" else {"sent": (), "took": ()}
         lists = list(each(view["sent"]))
         most = max([len(blocks), *(len(list(each(file))) for file in [*lists, *each(view["took"])]), len(lists)]) + 2
         names = [chain(NAMES[a:b]) for a, b in itertools.combinations_with_replacement(range(len(NAMES) + 1), 2)]
         self.pages.trying = {
             "ℕ": range(most), "Block": blocks[:1], "List Taken": lists, "TextName": NAMES, "List TextName": names, "List (List ℕ)": [texts],
-            "List ℕ": [chain(outcome.lacking)], "SettingsFault": [Made(kind) for kind in ("Files", "Valuers", "Capacity", "Destinations")],
+            "List ℕ": [chain(outcome.missing)], "SettingsFault": [Made(kind) for kind in ("Files", "Valuers", "Capacity", "Destinations")],
         }
         settings = {"valuers": outcome.valuers, "capacity": CAPACITY}
         lefts = chain(Made("Some", (text,)) for text in each(texts))
         fails = Function(1, lambda file: file == outcome.failed)
         return bool(word("pit_compile.Run", "Runs", plan, word("plan_parts.PlanFormulas", "formulas_of_plan", plan), settings, lefts, fails, STARTS,
-                         sinks_of(UNTOUCHED), sinks_of(outcome.sinks), outcome.answer))
+                         sinks_of(UNTOUCHED), sinks_of(outcome.sinks), outcome.result))

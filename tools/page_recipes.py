@@ -13,7 +13,7 @@ class Recipe:
 
     def __init__(self, place, commands, programs):
         self.place, self.commands, self.wanted = place, commands, None
-        self.lacking = [program for program in programs if not shutil.which(program)]
+        self.missing = [program for program in programs if not shutil.which(program)]
 
 
 def recipes_of(page):
@@ -32,7 +32,7 @@ def recipes_of(page):
     return recipes
 
 
-def told_by(recipes, top, folder, environment=None):
+def printed_by(recipes, top, folder, environment=None):
     """Returns what each of these recipes of a page prints, and its status, if it finished: they run in one shell at the top, with their
     own files in a folder."""
     script = f"cd '{top}' || exit\n"
@@ -49,16 +49,16 @@ def told_by(recipes, top, folder, environment=None):
     except subprocess.TimeoutExpired:
         shell.kill()
     for piece in (os.path.join(folder, str(number)) for number in range(len(recipes))):
-        told = shared.read(piece + ".told") if os.path.exists(piece + ".told") else ""
+        printed = shared.read(piece + ".told") if os.path.exists(piece + ".told") else ""
         ended = os.path.exists(piece + ".status")
-        yield told, int(shared.read(piece + ".status")) if ended else None
+        yield printed, int(shared.read(piece + ".status")) if ended else None
 
 
-def differences(recipe, told, status):
+def differences(recipe, printed, status):
     """Returns what is wrong with a recipe."""
     if status is None:
-        yield f"its commands did not finish\n{told}"
-    elif told != (recipe.wanted or ""):
-        yield f"its commands print\n{told}in place of\n{recipe.wanted or ''}"
+        yield f"its commands did not finish\n{printed}"
+    elif printed != (recipe.wanted or ""):
+        yield f"its commands print\n{printed}in place of\n{recipe.wanted or ''}"
     elif status != 0:
         yield f"its commands end with {status}"

@@ -458,8 +458,8 @@ class Clause:
         return f"field({self.python(value, names)}, {name!r})"
 
     def as_record(self, names, base, fields):
-        told = ", ".join(f"{name!r}: {self.python(value, names)}" for name, value in fields)
-        return f"{{{told}}}" if base is None else f"with_fields({self.python(base, names)}, {{{told}}})"
+        terms = ", ".join(f"{name!r}: {self.python(value, names)}" for name, value in fields)
+        return f"{{{terms}}}" if base is None else f"with_fields({self.python(base, names)}, {{{terms}}})"
 
     def as_if(self, names, test, yes, no):
         return f"({self.python(yes, names)} if {self.python(test, names)} else {self.python(no, names)})"
@@ -493,8 +493,8 @@ class Clause:
         return f"{how}({self.python(said, inner)} {' '.join(loops)})"
 
     def as_sign(self, names, sign, left, right):
-        told = self.python(left, names), self.python(right, names)
-        return SIGNS[sign].format(*told) if sign in SIGNS else f"applied({self.global_word(f'◌{sign}◌')}, {told[0]}, {told[1]})"
+        terms = self.python(left, names), self.python(right, names)
+        return SIGNS[sign].format(*terms) if sign in SIGNS else f"applied({self.global_word(f'◌{sign}◌')}, {terms[0]}, {terms[1]})"
 
     def as_name(self, names, name):
         first, *fields = name.split(".")
@@ -509,16 +509,16 @@ class Clause:
         return functools.reduce(lambda value, part: f"field({value}, {part!r})", fields, self.global_word(first))
 
     def as_call(self, names, head, arguments):
-        told = [self.python(argument, names) for argument in arguments]
-        if head == ("name", "cond") and len(told) == 3:
-            return f"({told[1]} if {told[0]} else {told[2]})"
+        terms = [self.python(argument, names) for argument in arguments]
+        if head == ("name", "cond") and len(terms) == 3:
+            return f"({terms[1]} if {terms[0]} else {terms[2]})"
         if head == ("name", "codes"):
-            return told[0]
+            return terms[0]
         if head[0] == "name" and head[1] in NUMBERS:
-            return NUMBERS[head[1]][0].format(told[0])
+            return NUMBERS[head[1]][0].format(terms[0])
         if head[0] == "name" and head[1] not in names and self.pages.is_variant(self.page, head[1]):
-            return f"Made({head[1].split('.')[-1]!r}, ({', '.join(told)},))"
-        return f"applied({self.python(head, names)}, {', '.join(told)})"
+            return f"Made({head[1].split('.')[-1]!r}, ({', '.join(terms)},))"
+        return f"applied({self.python(head, names)}, {', '.join(terms)})"
 
     def global_word(self, name: str) -> str:
         """Returns the expression for a file's word, which is made at its first use."""

@@ -166,10 +166,10 @@ def compiled(text, files):
 
 def main():
     base, plan, *zones = sys.argv[1:]
-    answer = compiled(shared.read(plan), list(map(shared.read, zones)))
-    if isinstance(answer, str):
-        sys.exit(answer.rstrip())
-    shared.write_texts(base, answer)
+    result = compiled(shared.read(plan), list(map(shared.read, zones)))
+    if isinstance(result, str):
+        sys.exit(result.rstrip())
+    shared.write_texts(base, result)
 
 
 if __name__ == "__main__":

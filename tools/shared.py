@@ -125,14 +125,14 @@ def pipe_input(plan, zones):
     return "--\n".join([plan, *zones])
 
 
-def compile_words(plan, base, zones, valuers=None, capacity=None):
+def compile_arguments(plan, base, zones, valuers=None, capacity=None):
     """Returns the arguments of `pitc compile` for these paths."""
-    words = ["compile", "--plan", plan, "--out", base]
+    arguments = ["compile", "--plan", plan, "--out", base]
     if valuers is not None:
-        words += ["--valuers", str(valuers)]
+        arguments += ["--valuers", str(valuers)]
     if capacity is not None:
-        words += ["--capacity", str(capacity)]
-    return words + list(zones)
+        arguments += ["--capacity", str(capacity)]
+    return arguments + list(zones)
 
 
 def write_texts(base, texts):
@@ -153,12 +153,12 @@ class Used(NamedTuple):
 def measured(command, **streams):
     """Runs a command in its own process, by `subprocess.Popen` with these streams. GNU time measures its peak, if it exists: the system
     also counts what a process held before it became the command, so without GNU time a peak is never less than that of the calling tool."""
-    with tempfile.NamedTemporaryFile("r") as told:
-        by_time = ["time", "-f", "%M", "-o", told.name] if shutil.which("time") else []
+    with tempfile.NamedTemporaryFile("r") as report:
+        by_time = ["time", "-f", "%M", "-o", report.name] if shutil.which("time") else []
         begun = time.monotonic()
         child = subprocess.Popen([*by_time, *command], **streams)
         _, ended, used = os.wait4(child.pid, 0)
         wall = time.monotonic() - begun
-        peak = int(told.read().split()[-1]) if by_time else used.ru_maxrss
+        peak = int(report.read().split()[-1]) if by_time else used.ru_maxrss
     child.returncode = os.WEXITSTATUS(ended) if os.WIFEXITED(ended) else -os.WTERMSIG(ended)
     return Used(child.returncode, wall, used.ru_utime + used.ru_stime, peak * 1024)

@@ -16,8 +16,8 @@ PART = re.compile(r"(?ms)^<!-- (?!end of )([\w ]+) -->\n(.*?)^<!-- end of \1 -->
 COMMIT = re.compile(r"\bCommit ([0-9a-f]{8})\b")
 
 
-def git(*words: str) -> str:
-    return subprocess.run(["git", *words], cwd=shared.TOP, capture_output=True, text=True, check=True).stdout.strip()
+def git(*arguments: str) -> str:
+    return subprocess.run(["git", *arguments], cwd=shared.TOP, capture_output=True, text=True, check=True).stdout.strip()
 
 
 def commit() -> str:
@@ -28,10 +28,10 @@ def commit() -> str:
 
 def machine() -> str:
     """The processors and the memory of this machine."""
-    told = shared.read("/proc/cpuinfo")
-    models = re.findall(r"(?m)^model name\s*: (.*)$", told)
+    info = shared.read("/proc/cpuinfo")
+    models = re.findall(r"(?m)^model name\s*: (.*)$", info)
     kilobytes = int(re.search(r"MemTotal:\s+(\d+)", shared.read("/proc/meminfo"))[1])
-    kind = "virtual processors" if re.search(r"(?m)^flags.*\bhypervisor\b", told) else "processors"
+    kind = "virtual processors" if re.search(r"(?m)^flags.*\bhypervisor\b", info) else "processors"
     model = " ".join(models[0].split()) if models else os.uname().machine
     return f"{os.cpu_count()} {kind} ({model}), {kilobytes / 2**20:.0f} gigabytes"
 

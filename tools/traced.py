@@ -27,7 +27,7 @@ class Call(NamedTuple):
     thread: int
     name: str
     args: str
-    answer: int = -1
+    result: int = -1
     error: str = ""
 
     @property
@@ -36,7 +36,7 @@ class Call(NamedTuple):
         return self.error not in ("", "EINTR")
 
 
-def words_of(program: Sequence[str], trace: str, shown: Dict[str, str], is_long: bool = False) -> List[str]:
+def arguments_of(program: Sequence[str], trace: str, shown: Dict[str, str], is_long: bool = False) -> List[str]:
     """Returns the arguments that run a program, trace it into a file, and give it these variables alone. The waits of its threads, which
     are many in a long run, are then not traced."""
     return [*STRACE, "-e", "trace=!sched_yield" + ",futex" * is_long, "-o", trace, *(word for item in shown.items() for word in ("-E", "=".join(item))), *program]
@@ -45,7 +45,7 @@ def words_of(program: Sequence[str], trace: str, shown: Dict[str, str], is_long:
 def why_not() -> Optional[str]:
     """Returns why no run can be traced here; None if one can."""
     try:
-        ran = subprocess.run(words_of(["true"], os.devnull, {}), capture_output=True, text=True, check=False)
+        ran = subprocess.run(arguments_of(["true"], os.devnull, {}), capture_output=True, text=True, check=False)
     except FileNotFoundError:
         return "strace is not installed"
     return None if ran.returncode == 0 else (ran.stderr.strip().splitlines() or ["strace fails"])[-1]
@@ -60,7 +60,7 @@ def fault_of(call: Call, text: bytes) -> Call:
     """Returns the call for which tools/effects.c returned an error, by its report."""
     name, code, args = text.split(b" ", 2)
     shown = f'AT_FDCWD, "{args.hex()}", FAULT' if name == b"openat" else args.decode()
-    return call._replace(name=name.decode(), args=shown, answer=-1, error=errno.errorcode[int(code)])
+    return call._replace(name=name.decode(), args=shown, result=-1, error=errno.errorcode[int(code)])
 
 
 def calls_in(trace: str) -> List[Call]:
@@ -68,15 +68,15 @@ def calls_in(trace: str) -> List[Call]:
     begun: Dict[int, Tuple[int, str, str]] = {}
     calls: List[Call] = []
     for number, line in enumerate(trace.splitlines()):
-        told, text = line.split(None, 1)
-        thread = int(told)
+        thread_number, text = line.split(None, 1)
+        thread = int(thread_number)
         if text.startswith(("+++", "---")):
             calls.append(Call(number, number, thread, "+++", text))
             continue
         resumed = re.match(r"<\.\.\. \w+ resumed>(.*)$", text)
         if resumed:
-            first, name, front = begun.pop(thread)
-            rest = front + resumed[1]
+            first, name, prefix = begun.pop(thread)
+            rest = prefix + resumed[1]
         else:
             first, (name, rest) = number, text.split("(", 1)
         if rest.endswith("<unfinished ...>"):
@@ -84,8 +84,8 @@ def calls_in(trace: str) -> List[Call]:
             continue
         done = re.match(r"(.*)\) += (-?\w+|\?)(?: (E\w+))?", rest)
         assert done, line
-        answer = -1 if done[2] in ("?", "-1") else int(done[2], 0)
-        call = Call(first, number, thread, name, done[1].strip(), answer, done[3] or "")
+        result = -1 if done[2] in ("?", "-1") else int(done[2], 0)
+        call = Call(first, number, thread, name, done[1].strip(), result, done[3] or "")
         if name == "write" and call.args.startswith(TOLD + ","):
             call = fault_of(call, bytes_of(call.args.split('"')[1]))
             if call.name == "close":
@@ -108,7 +108,7 @@ class Used:
     @property
     def total(self) -> int:
         """How many bytes were read or written."""
-        return sum(max(call.answer, 0) for call in self.calls)
+        return sum(max(call.result, 0) for call in self.calls)
 
     @property
     def is_open(self) -> bool:
@@ -123,7 +123,7 @@ class Used:
     @property
     def is_read_whole(self) -> bool:
         """Whether it was read to its end."""
-        return bool(self.calls) and self.calls[-1].answer == 0 and not self.calls[-1].error
+        return bool(self.calls) and self.calls[-1].result == 0 and not self.calls[-1].error
 
 
 class Memory:
@@ -142,17 +142,17 @@ class Memory:
             return
         args = call.args.split(", ")
         if call.name == "brk":
-            self.first, self.last = self.first or call.answer, call.answer
+            self.first, self.last = self.first or call.result, call.result
             size = 0
         else:
             size = int(args[2 if call.name == "mremap" else 1])
         at = 0 if call.name == "brk" or args[0] == "NULL" else int(args[0], 0)
         if call.name == "mmap" and "MAP_STACK" in call.args:
-            self.stacks.append(range(call.answer, call.answer + size))
+            self.stacks.append(range(call.result, call.result + size))
         elif call.name in ("mremap", "munmap"):
             self.areas.pop(at, None)
         if call.name == "mremap" or call.name == "mmap" and "PROT_WRITE" in call.args and "MAP_STACK" not in call.args:
-            self.areas[call.answer] = size
+            self.areas[call.result] = size
         elif call.name == "mprotect" and "PROT_WRITE" in call.args and not any(at in stack for stack in self.stacks):
             self.areas[at] = size
         self.peak = max(self.peak, self.last - self.first + sum(self.areas.values()))
@@ -190,7 +190,7 @@ class Record:
             return shown if is_file or "PROT_EXEC" in call.args else ""
         if call.name == "clone3":
             self.is_thread_refused |= bool(call.error)
-            self.threads += [] if call.error else [call.answer]
+            self.threads += [] if call.error else [call.result]
             return "" if call.error or "CLONE_THREAD" in call.args else f"a process is started: {shown}"
         if call.name == "futex":
             return shown if "tv_sec" in call.args and str(2**63 - 1) not in call.args else ""
@@ -214,7 +214,7 @@ class Record:
         if (path, flags) not in OF_LIBRARY:
             self.files.append(used)
         if not call.error:
-            self.lent[call.answer] = used
+            self.lent[call.result] = used
         return "" if found[1] == "AT_FDCWD" else f"openat({call.args})"
 
     def use(self, call: Call) -> str:

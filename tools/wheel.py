@@ -75,13 +75,13 @@ def summed(text):
 
 def files_of(version, tag, programs, below_share, texts):
     """Returns the files of the wheel by their paths: its package, its programs, the files below share/, and what pip reads."""
-    front, (needs, commands) = f"{NAME}-{version}", settings()
+    prefix, (needs, commands) = f"{NAME}-{version}", settings()
     package = {path[len("python/"):]: text for path, text in texts.items() if path.startswith("python/pit_tools/")}
     data = {**below_share, **{f"pitc/{path}": text for path, text in texts.items() if not path.startswith("python/")}}
     files = dict(sorted(package.items()))
-    files.update({f"{front}.data/scripts/{name}": program for name, program in programs.items()})
-    files.update({f"{front}.data/data/share/{path}": text for path, text in sorted(data.items())})
-    about = f"{front}.dist-info/"
+    files.update({f"{prefix}.data/scripts/{name}": program for name, program in programs.items()})
+    files.update({f"{prefix}.data/data/share/{path}": text for path, text in sorted(data.items())})
+    about = f"{prefix}.dist-info/"
     files[about + "METADATA"] = METADATA.format(name=NAME, version=version, summary=setting("description"), python=setting("requires-python"), needs=needs).encode()
     files[about + "WHEEL"] = WHEEL.format(tag=tag).encode()
     files[about + "entry_points.txt"] = "\n".join(["[console_scripts]", *map(" = ".join, commands), ""]).encode()
@@ -110,9 +110,9 @@ def too_new(name, program):
             yield f"{name} calls {library.decode()} {'.'.join(map(str, max(needed)))}"
 
 
-def fault_of(words, **more):
+def fault_of(arguments, **more):
     """Returns None if a command ends with 0, otherwise the last line that it prints."""
-    done = subprocess.run(words, stdout=subprocess.PIPE, stderr=subprocess.STDOUT, text=True, check=False, **more)
+    done = subprocess.run(arguments, stdout=subprocess.PIPE, stderr=subprocess.STDOUT, text=True, check=False, **more)
     return None if done.returncode == 0 else (done.stdout.strip().splitlines() or ["no output"])[-1]
 
 
@@ -136,8 +136,8 @@ def of_commands(installed, folder):
     shutil.copytree(os.path.join(installed, "share/pitc"), top)
     os.mkdir(apart)
     environment = {**os.environ, "PATH": f"{installed}/bin:{os.environ['PATH']}", "XDG_CACHE_HOME": cache}
-    for recipe, told in zip(recipes, page_recipes.told_by(recipes, top, apart, environment)):
-        yield from (f"{recipe.place}: {what}" for what in page_recipes.differences(recipe, *told))
+    for recipe, printed in zip(recipes, page_recipes.printed_by(recipes, top, apart, environment)):
+        yield from (f"{recipe.place}: {what}" for what in page_recipes.differences(recipe, *printed))
     if os.path.exists(os.path.join(cache, "pit-tools")):
         yield "it compiles the program of C++ that it brings"
 

@@ -21,8 +21,8 @@ class Cell(NamedTuple):
 
     good: str
     decimals: Optional[int] = None
-    least: int = 0
-    greatest: int = 0
+    smallest: int = 0
+    largest: int = 0
     stays: bool = False
 
     def faults(self):
@@ -31,7 +31,7 @@ class Cell(NamedTuple):
             return []
         if self.decimals is None:
             return [("?", "Name")]
-        return [("x", "Number"), (spelled(self.greatest + 1, self.decimals), "Range")]
+        return [("x", "Number"), (formatted(self.largest + 1, self.decimals), "Range")]
 
     def spellings(self):
         """Returns other formats of numbers, each once, with its number, or with None and the kind of its fault."""
@@ -46,58 +46,58 @@ class Cell(NamedTuple):
         the last decimals or millionths."""
         for bits, unit in itertools.product((8, 16, 32, 64, 128), (0, 6 - self.decimals)):
             step = 2 ** (bits - unit)
-            if self.least + step > self.greatest:
-                yield self.least + step
-            if self.greatest - step < self.least:
-                yield self.greatest - step
+            if self.smallest + step > self.largest:
+                yield self.smallest + step
+            if self.largest - step < self.smallest:
+                yield self.largest - step
 
     def all_spellings(self):
         """The same, some of them more than once."""
-        least, greatest, decimals = self.least, self.greatest, self.decimals
+        smallest, largest, decimals = self.smallest, self.largest, self.decimals
         point = "" if decimals else "."
-        for number in sorted({least, min(least + 1, greatest), max(greatest - 1, least), greatest}):
-            yield spelled(number, decimals), number, None
-        yield spelled(greatest, decimals) + point + "000", greatest, None
-        yield spelled(least, decimals, "00"), least, None
-        yield spelled(greatest, decimals, "0" * 120), greatest, None
-        yield ("+" if greatest >= 0 else "") + spelled(greatest, decimals), greatest, None
-        if least <= 0 <= greatest:
+        for number in sorted({smallest, min(smallest + 1, largest), max(largest - 1, smallest), largest}):
+            yield formatted(number, decimals), number, None
+        yield formatted(largest, decimals) + point + "000", largest, None
+        yield formatted(smallest, decimals, "00"), smallest, None
+        yield formatted(largest, decimals, "0" * 120), largest, None
+        yield ("+" if largest >= 0 else "") + formatted(largest, decimals), largest, None
+        if smallest <= 0 <= largest:
             yield "-0", 0, None
             yield "-0.00000", 0, None
             yield ".0", 0, None
         elif not decimals:
             yield ".1", None, "TooFine"
-        if greatest >= 10**decimals:
-            yield str(greatest // 10**decimals) + ".", greatest // 10**decimals * 10**decimals, None
-        for number in [least - 1, greatest + 1, -(10**40), 10**40, *self.past()]:
-            yield spelled(number, decimals), None, "Range"
+        if largest >= 10**decimals:
+            yield str(largest // 10**decimals) + ".", largest // 10**decimals * 10**decimals, None
+        for number in [smallest - 1, largest + 1, -(10**40), 10**40, *self.past()]:
+            yield formatted(number, decimals), None, "Range"
         # just outside the range in other formats
-        for number in (least - 1, greatest + 1):
-            yield spelled(number, decimals, "0") + point + "00", None, "Range"
-        if greatest > 0 and -greatest < least:
-            yield spelled(-greatest, decimals), None, "Range"
-        for number in sorted({least - 1, least, max(0, least), greatest, greatest + 1}):
-            yield spelled(number, decimals) + point + "1", None, "TooFine"
-        yield spelled(greatest, decimals) + point + "0000001", None, "TooFine"
+        for number in (smallest - 1, largest + 1):
+            yield formatted(number, decimals, "0") + point + "00", None, "Range"
+        if largest > 0 and -largest < smallest:
+            yield formatted(-largest, decimals), None, "Range"
+        for number in sorted({smallest - 1, smallest, max(0, smallest), largest, largest + 1}):
+            yield formatted(number, decimals) + point + "1", None, "TooFine"
+        yield formatted(largest, decimals) + point + "0000001", None, "TooFine"
         # also if zeros follow the digit that is too fine
-        yield spelled(least, decimals) + point + "10", None, "TooFine"
-        yield spelled(greatest, decimals) + point + "0" * 40 + "500", None, "TooFine"
-        yield spelled(least, decimals) + point + "0" * 120 + "1", None, "TooFine"
-        digits = [spelled(least, decimals) + point + "1", spelled(greatest + 1, decimals)]
+        yield formatted(smallest, decimals) + point + "10", None, "TooFine"
+        yield formatted(largest, decimals) + point + "0" * 40 + "500", None, "TooFine"
+        yield formatted(smallest, decimals) + point + "0" * 120 + "1", None, "TooFine"
+        digits = [formatted(smallest, decimals) + point + "1", formatted(largest + 1, decimals)]
         for text in ["x", "1e0", "-", "+-1", "0,5", digits[0] + "x", digits[1] + "x"]:
             yield text, None, "Number"
 
 
-def spelled(number, decimals, front=""):
+def formatted(number, decimals, prefix=""):
     """Returns a number in units of the last of these decimals, with all of them, after this prefix."""
     digits = f"{abs(number):0{decimals + 1}d}"
     whole, fraction = (digits[:-decimals], "." + digits[-decimals:]) if decimals else (digits, "")
-    return ("-" if number < 0 else "") + front + whole + fraction
+    return ("-" if number < 0 else "") + prefix + whole + fraction
 
 
 def shortest(number, decimals):
     """Returns the shortest text of a number in units of the last of these decimals."""
-    text = spelled(number, decimals)
+    text = formatted(number, decimals)
     return text.rstrip("0").rstrip(".") if decimals else text
 
 
@@ -144,21 +144,21 @@ def pairs_of_faults(cells):
 WITH_TOO_FINE = [("Number", "TooFine"), ("TooFine", "Range"), ("Range", "TooFine"), ("TooFine", "Number")]
 
 
-def faulty_text(cell, kind):
+def invalid_text(cell, kind):
     """A text that has this fault in a cell of a number."""
     if kind == "Number":
         return "x"
     if kind == "Range":
-        return spelled(cell.greatest + 1, cell.decimals)
-    return spelled(cell.greatest, cell.decimals) + ("" if cell.decimals else ".") + "1"
+        return formatted(cell.largest + 1, cell.decimals)
+    return formatted(cell.largest, cell.decimals) + ("" if cell.decimals else ".") + "1"
 
 
 def two_kinds_of_faults(cells):
     """Yields cells of which two numbers are refused, each two of them with the next two kinds, and the kind of the left one."""
     numbers = [place for place, cell in enumerate(cells) if cell.decimals is not None]
     for (left, right), (kind, other) in zip(itertools.combinations(numbers, 2), itertools.cycle(WITH_TOO_FINE)):
-        both = with_cell(cells, left, faulty_text(cells[left], kind))
-        both[right] = faulty_text(cells[right], other)
+        both = with_cell(cells, left, invalid_text(cells[left], kind))
+        both[right] = invalid_text(cells[right], other)
         yield both, kind
 
 

@@ -8,7 +8,7 @@ from rows import fullest
 from rows.instance import (
     LIMITED_TEXTS, NINE_TEXTS, NO_BLOCK, ONE_ORE_BLOCK, TWO_ZONES, at, heading,
 )
-from rows.trial import MARK, Folder, Front, Trial, lines, refused
+from rows.trial import MARK, Folder, Prefix, Trial, lines, refused
 from rows.written import NAMES
 from shared import CHECKED
 
@@ -104,7 +104,7 @@ SPOILED = [
 
 
 # Texts with a fault at the end of the first chunk, and the report.
-FAULTY = [
+INVALID = [
     ("a mark at the end of a piece", across(1, MARK + ONE_LINE[1:]), "blocks line 2: Number"),
     ("a fault behind a piece", across(0, b"x\n\n0"), "blocks line 2: Fields"),
     ("a fault across the end of a piece", across(1, b"0 x\n"), "blocks line 2: Fields"),
@@ -126,25 +126,25 @@ def near_bases():
     """Files that resemble the requested ones, which do not exist."""
     good = at("base", ONE_ORE_BLOCK)
     for base in NEAR:
-        words, line = ["check", base], "blocks: FeedFailed"
-        yield refused(f"near_bases: {base}", line, words=words, files=good)
-    for number, spelled in enumerate(CAPITALS):
-        files = {f"base.{spelled[ending]}": ONE_ORE_BLOCK[ending] for ending in CHECKED}
-        name = f"near_bases: endings as {spelled['blocks']}"
-        yield refused(name, "blocks: FeedFailed", words=["check", "base"], files=files)
+        arguments, line = ["check", base], "blocks: FeedFailed"
+        yield refused(f"near_bases: {base}", line, arguments=arguments, files=good)
+    for number, formatted in enumerate(CAPITALS):
+        files = {f"base.{formatted[ending]}": ONE_ORE_BLOCK[ending] for ending in CHECKED}
+        name = f"near_bases: endings as {formatted['blocks']}"
+        yield refused(name, "blocks: FeedFailed", arguments=["check", "base"], files=files)
         for ending in ("prec", "pcpsp"):
             files = {f"base.{end}": text for end, text in ONE_ORE_BLOCK.items() if end != ending}
-            files[f"base.{spelled[ending]}"] = ONE_ORE_BLOCK[ending]
-            name = f"near_bases: the ending {spelled[ending]}"
-            yield refused(name, f"{ending}: FeedFailed", words=["check", "base"], files=files)
+            files[f"base.{formatted[ending]}"] = ONE_ORE_BLOCK[ending]
+            name = f"near_bases: the ending {formatted[ending]}"
+            yield refused(name, f"{ending}: FeedFailed", arguments=["check", "base"], files=files)
         files = {f"base.{end}": text for end, text in ONE_ORE_BLOCK.items() if end != "cpit"}
-        files[f"base.{spelled['cpit']}"] = b"x\n"
+        files[f"base.{formatted['cpit']}"] = b"x\n"
         out = b"blocks 1 arcs 0 coefficients 0 limits 0\n"
-        name = f"near_bases: the ending {spelled['cpit']}"
-        yield Trial(name, words=["check", "base"], files=files, out=out)
-    for words in NEAR_WORDS:
-        errors = Front(b"error: ")
-        yield Trial(f"near_bases: the words {words}", 2, words=words, files=good, errors=errors)
+        name = f"near_bases: the ending {formatted['cpit']}"
+        yield Trial(name, arguments=["check", "base"], files=files, out=out)
+    for arguments in NEAR_WORDS:
+        errors = Prefix(b"error: ")
+        yield Trial(f"near_bases: the words {arguments}", 2, arguments=arguments, files=good, errors=errors)
     # each file has its ending after a base that has one
     yield counted("near_bases: a base with an ending", *COUNTED[0][1:], base="base.blocks")
 
@@ -203,23 +203,23 @@ RESPELLED = {
 
 def respelled(text, how):
     """A text in which each number has this format."""
-    def spelled_so(found):
+    def formatted_so(found):
         return RESPELLED[how](found[1], found[2])
-    return re.sub(r"(?<![^ \n])(-?)(\d+(?:\.\d+)?)(?![^ \n])", spelled_so, text.decode()).encode()
+    return re.sub(r"(?<![^ \n])(-?)(\d+(?:\.\d+)?)(?![^ \n])", formatted_so, text.decode()).encode()
 
 
 def of_spellings():
     """Each number of an instance in another format, and names of all kinds."""
     limits = b"RESOURCE_CONSTRAINT_LIMITS:\n"
     noughts = at_its_ends("0", "0", "0", "0", (1, 1, 1), "0", "a")
-    greatest = at_its_ends("9999", "999999.875", "63", "-12345.678901", (100, 8, 8), "0.125", "a")
+    largest = at_its_ends("9999", "999999.875", "63", "-12345.678901", (100, 8, 8), "0.125", "a")
     more = limits + b"0 0 L 0.5\n0 99 G 2.25\n1 0 I -1.5 -0.75\n1 1 I 1 4294.967296\n" + \
         b"1 2 I 1 9007199254.740992\n1 3 I 1 18446744073709.551616\n"
-    greatest = {ending: text.replace(limits, more) for ending, text in greatest.items()}
+    largest = {ending: text.replace(limits, more) for ending, text in largest.items()}
     for how in RESPELLED:
         nine = {ending: respelled(text, how) for ending, text in NINE_TEXTS.items()}
         yield counted(f"nine blocks of many numbers with {how}", nine, NINE_COUNTS)
-        for texts, count in ((noughts, 1), (greatest, 7)):
+        for texts, count in ((noughts, 1), (largest, 7)):
             other = {ending: respelled(text, how) for ending, text in texts.items()}
             name = f"each number with {how}: {count} limits"
             yield counted(name, other, f"blocks 2 arcs 2 coefficients 1 limits {count} cpit 1")
@@ -234,7 +234,7 @@ ABOVE, APART = 70, (1, 2, 3, 4, 5, 8, 9, 16, 17, 32, 33, 64, 69)
 
 
 def counted(name, texts, counts, base="base"):
-    return Trial(name, words=["check", base], files=at(base, texts), out=lines(counts + "|"))
+    return Trial(name, arguments=["check", base], files=at(base, texts), out=lines(counts + "|"))
 
 
 def trials():
@@ -242,9 +242,9 @@ def trials():
         yield counted(name, texts, counts)
     yield counted("a base with a blank and a point", *COUNTED[0][1:], base="an instance.v2")
     near = counted("a base of 300 bytes", *COUNTED[0][1:])
-    yield near._replace(words=["check", "./" * 150 + "base"])
-    for name, texts, line in FAULTY:
-        yield refused(name, line, words=["check", "base"], files=at("base", texts))
+    yield near._replace(arguments=["check", "./" * 150 + "base"])
+    for name, texts, line in INVALID:
+        yield refused(name, line, arguments=["check", "base"], files=at("base", texts))
     for name, texts in ENDS:
         counts = "blocks 2 arcs 2 coefficients 1 limits 1 cpit 1"
         yield counted(f"each number at its end: {name}", texts, counts)
@@ -252,9 +252,9 @@ def trials():
     yield from near_bases()
     for length in (401, 1_000, 4_000):
         base = "./" * ((length - 4) // 2) + "/" * ((length - 4) % 2) + "base"
-        yield near._replace(name=f"a base of {length} bytes", words=["check", base])
+        yield near._replace(name=f"a base of {length} bytes", arguments=["check", base])
     for parts, line in SPOILED:
         files = at("base", spoiled(parts))
-        yield refused(f"check {parts}", line, words=["check", "base"], files=files)
+        yield refused(f"check {parts}", line, arguments=["check", "base"], files=files)
     for name, base in [("a base in no folder", "no/such/base"), ("a base without a name", "")]:
-        yield refused(name, "blocks: FeedFailed", words=["check", base])
+        yield refused(name, "blocks: FeedFailed", arguments=["check", base])

@@ -12,21 +12,21 @@ from typing import Dict, Iterator, List, NamedTuple, Sequence
 from rows import thin
 from rows.instance import at, heading, plain_texts, sections
 from rows.trial import MARK, Later, Trial, piped, refused
-from shared import CHECKED, compile_words
+from shared import CHECKED, compile_arguments
 
 
 def covering(factors: Dict[str, Sequence]) -> Iterator[Dict]:
     """Returns choices of a value for each factor, so that every two values of two factors are in one."""
     chance, names = random.Random(len(factors)), list(factors)
     pairs = list(itertools.combinations(names, 2))
-    lacking = {(a, b, p, q): None for a, b in pairs for p in range(len(factors[a])) for q in range(len(factors[b]))}
-    while lacking:
-        a, b, p, q = next(iter(lacking))
+    missing = {(a, b, p, q): None for a, b in pairs for p in range(len(factors[a])) for q in range(len(factors[b]))}
+    while missing:
+        a, b, p, q = next(iter(missing))
         tries = [{**{name: chance.randrange(len(factors[name])) for name in names}, a: p, b: q} for _ in range(12)]
-        met = [[(a, b, one[a], one[b]) for a, b in pairs if (a, b, one[a], one[b]) in lacking] for one in tries]
+        met = [[(a, b, one[a], one[b]) for a, b in pairs if (a, b, one[a], one[b]) in missing] for one in tries]
         most = max(range(len(met)), key=lambda place: len(met[place]))
         for pair in met[most]:
-            del lacking[pair]
+            del missing[pair]
         yield {name: factors[name][place] for name, place in tries[most].items()}
 
 
@@ -120,9 +120,9 @@ def model_of(choice: Dict) -> Model:
 
 def cells_of(record: str, choice: Dict) -> List[str]:
     """Returns the cells of a record, each number in its format and between blanks."""
-    before, behind = ABOUT[choice["about"]]
+    before, after = ABOUT[choice["about"]]
     spell = SPELLED[choice["spelled"]]
-    return [before + (spell(cell) if is_number(cell) else cell) + behind for cell in record.split(",")]
+    return [before + (spell(cell) if is_number(cell) else cell) + after for cell in record.split(",")]
 
 
 def record_of(cells: Sequence[str], quotes: str) -> str:
@@ -157,8 +157,8 @@ def dressed_zone(rows: Sequence[str], choice: Dict, odd: int = -1, more: int = 0
 def run_of(name: str, choice: Dict, texts: Sequence[bytes], wanted) -> Trial:
     """Returns a run of these texts by the form of a choice: refused by this line, or with the texts of this model."""
     files = {"plan": texts[0], **{f"zone{zone}": text for zone, text in enumerate(texts[1:])}}
-    words = compile_words("plan", "b", list(files)[1:])
-    given = {"words": words[choice["form"] == FORMS[2] :], "files": files}
+    arguments = compile_arguments("plan", "b", list(files)[1:])
+    given = {"arguments": arguments[choice["form"] == FORMS[2] :], "files": files}
     if choice["form"] == FORMS[0]:
         given = {"given": piped(*(text if text.endswith(b"\n") else text + b"\n" for text in texts[:-1]), texts[-1])}
     if isinstance(wanted, str):
@@ -169,7 +169,7 @@ def run_of(name: str, choice: Dict, texts: Sequence[bytes], wanted) -> Trial:
     if choice["form"] == FORMS[1]:
         return Trial(name, out=b"rows %d\n" % plain["blocks"].count(b"\n"), left=at("b", plain), **given)
     lists = [list(map(int, line.split()[2:])) for line in plain["prec"].splitlines()]
-    run = thin.written(thin.text_of(thin.left_of(lists)), lists)
+    run = thin.written(thin.text_of(thin.retained_of(lists)), lists)
     return Trial(name, out=run["out"], left={"b": run["left"]["thin"]}, **given)
 
 
@@ -193,7 +193,7 @@ WIDTHS = {"a cell less": -1, "an empty cell more": 1}
 RECORDS = {"name,two": "Twice", "pit,1": "Key", "periods": "Width", "rate,x": "Number", "rate,0.0000001": "TooFine", "zone,1,1,21": "Range",
            "resource,t,none": "Name", "limit,r,3,I,2,1": "Order", "leach,q,1,1" + "".join(f",{start},1" for start in range(257)): "TooMany"}
 FAULTS = [*CELLS, *WIDTHS, *RECORDS, "again", "a file more", "a file that is not there"]
-FAULTY = {**MODELS, "side": ["none"], "masses": list(MASSES)[:2], "box": ["a row", "27"], "files": [1, 2, 10], "limits": list(LIMITS)[1:], "fault": FAULTS, "file": ["first", "last"],
+INVALID = {**MODELS, "side": ["none"], "masses": list(MASSES)[:2], "box": ["a row", "27"], "files": [1, 2, 10], "limits": list(LIMITS)[1:], "fault": FAULTS, "file": ["first", "last"],
           "place": ["first", "last"], "behind": ["good files", "faulty files", "files that repeat"]}
 
 
@@ -205,7 +205,7 @@ def odd_cell(choice: Dict, column: str, text) -> str:
     return thin.shortest(origin + {-1: -1, 0: 1, 1: 10_000 * size + 1}[text], 3)
 
 
-def faulty(choice: Dict, name: str) -> Trial:
+def invalid(choice: Dict, name: str) -> Trial:
     """Returns a model with one fault that is reported, and others after it."""
     model, fault, count = model_of(choice), choice["fault"], choice["files"]
     file = 0 if choice["file"] == "first" else count - 1
@@ -237,7 +237,7 @@ def faulty(choice: Dict, name: str) -> Trial:
     elif fault == "a file that is not there":
         missing, line = ["none"], f"file {count}: FeedFailed"
     trial = run_of(name, choice, marked([dressed_plan(model, choice), *zones], choice["mark"]), line)
-    return trial._replace(words=[*trial.words, *missing])
+    return trial._replace(arguments=[*trial.arguments, *missing])
 
 
 # Texts of an instance, with a format for each line
@@ -286,21 +286,21 @@ def lines_of(choice: Dict) -> Dict[str, List[str]]:
 
 
 def dressed_line(line: str, choice: Dict) -> str:
-    before, behind = ROUND[choice["round"]]
+    before, after = ROUND[choice["round"]]
     key, colon, fields = line.rpartition(":")
     spell, between = SPELLED[choice["spelled"]], BETWEEN[choice["between"]]
-    front = key + (choice["colon"] if colon else "")
-    return before + front + between.join(spell(field) if is_number(field) else field for field in fields.split()) + behind
+    prefix = key + (choice["colon"] if colon else "")
+    return before + prefix + between.join(spell(field) if is_number(field) else field for field in fields.split()) + after
 
 
-def dressed_text(lines: Sequence[str], choice: Dict, told: str = ""):
+def dressed_text(lines: Sequence[str], choice: Dict, reported: str = ""):
     """Returns a text of these lines, and the number of the last one equal to this, counted from 1, or of the line after them."""
     dressed, number = list(FIRST[choice["first"]]), 0
     keys = (lines + ["OBJECTIVE_FUNCTION:"]).index("OBJECTIVE_FUNCTION:") if ":" in lines[0] else 0
     for place, line in enumerate([*HEADS[choice["head"]](lines[:keys]), *lines[keys:]]):
         dressed += AMONG[choice["among"]] if place in (1, len(lines) - 1) else []
         dressed.append(dressed_line(line, choice))
-        number = len(dressed) if line == told else number
+        number = len(dressed) if line == reported else number
     end = LINE_ENDS[choice["end"]]
     last = {"none at the end": "", "CR at the end": "\r"}.get(choice["end"], end)
     return (end.join(dressed) + last).encode(), number or len(dressed) + 1
@@ -319,7 +319,7 @@ def checked(choice: Dict, name: str) -> Trial:
     arcs = sum(int(line.split()[1]) for line in lines["prec"])
     out = f"blocks {choice['blocks']} arcs {arcs} coefficients {below('pcpsp', 1)} limits {below('pcpsp', 2)}"
     out += f" cpit {below('cpit', 1)}" if "cpit" in lines else ""
-    return Trial(name, words=["check", "b"], files=at("b", dict(zip(lines, texts))), out=out.encode() + b"\n")
+    return Trial(name, arguments=["check", "b"], files=at("b", dict(zip(lines, texts))), out=out.encode() + b"\n")
 
 
 # Faults of a text: which text, the section whose last line is invalid, the field, its content and the kind.
@@ -334,7 +334,7 @@ FIELDS = [
         (0, "{resources}", "Range"), (1, "{periods}", "Range"), (1, "-1", "Range"), (2, "l", "Name"), (3, "0.0000001", "TooFine")]),
 ]
 LINES = [("prec", "Missing"), ("prec", "Twice"), *((file, kind) for file in ("pcpsp", "cpit") for kind in ("Missing", "Order", "Key", "Count"))]
-FAULTY_TEXTS = {**TEXTS, "blocks": [12, 300], "cpit": ["there"], "fault": [*FIELDS, *LINES], "behind": ["good texts", "faulty texts"]}
+INVALID_TEXTS = {**TEXTS, "blocks": [12, 300], "cpit": ["there"], "fault": [*FIELDS, *LINES], "behind": ["good texts", "faulty texts"]}
 
 
 def spoiled(lines: Dict[str, List[str]], choice: Dict):
@@ -371,26 +371,26 @@ def spoiled(lines: Dict[str, List[str]], choice: Dict):
 def refused_texts(choice: Dict, name: str) -> Trial:
     """Returns the texts of an instance of which one is invalid, and perhaps those after it too."""
     lines = lines_of(choice)
-    file, told, kind = spoiled(lines, choice)
+    file, reported, kind = spoiled(lines, choice)
     texts, number = {}, 0
     for ending, text in lines.items():
         if number and choice["behind"] == "faulty texts":
             text = ["x", *text]
-        texts[ending], found = dressed_text(text, choice, told if ending == file else "")
+        texts[ending], found = dressed_text(text, choice, reported if ending == file else "")
         number = found if ending == file else number
     files = at("b", dict(zip(texts, marked(list(texts.values()), choice["mark"]))))
-    return refused(name, f"{file} line {number}: {kind}", words=["check", "b"], files=files)
+    return refused(name, f"{file} line {number}: {kind}", arguments=["check", "b"], files=files)
 
 
 def named(what: str, choice: Dict) -> str:
-    told = ", ".join(map(str, choice.values()))
-    return f"{what}: {told[:140]} {zlib.crc32(told.encode()):08x}".replace("\n", " ").replace("\t", " ")
+    reported = ", ".join(map(str, choice.values()))
+    return f"{what}: {reported[:140]} {zlib.crc32(reported.encode()):08x}".replace("\n", " ").replace("\t", " ")
 
 
 def rows_by(is_thin: bool) -> Iterator[Later]:
     """The rows of pitc_thin, or those of pitc."""
     for what, factors, make in [
-            ("models", MODELS, accepted), ("faulty models", FAULTY, faulty), ("texts", TEXTS, checked), ("faulty texts", FAULTY_TEXTS, refused_texts)]:
+            ("models", MODELS, accepted), ("faulty models", INVALID, invalid), ("texts", TEXTS, checked), ("faulty texts", INVALID_TEXTS, refused_texts)]:
         for choice in covering(factors):
             if (choice.get("form") == FORMS[2]) == is_thin:
                 yield Later(named(what, choice), functools.partial(make, choice))
@@ -398,7 +398,7 @@ def rows_by(is_thin: bool) -> Iterator[Later]:
 
 def trials() -> Iterator[Later]:
     yield from rows_by(is_thin=False)
-    choice = {**{name: values[0] for name, values in FAULTY_TEXTS.items()}, "blocks": 65_600, "preds": "65,536 apart"}
+    choice = {**{name: values[0] for name, values in INVALID_TEXTS.items()}, "blocks": 65_600, "preds": "65,536 apart"}
     yield Later("texts: 65,600 blocks", functools.partial(checked, choice))
     for fault in (fault for fault in FIELDS if fault[0] in ("blocks", "prec") and fault[-1] == "Order"):
         yield Later(f"texts: 65,600 blocks, {fault[0]}", functools.partial(refused_texts, {**choice, "fault": fault}))

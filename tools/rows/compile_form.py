@@ -6,7 +6,7 @@ from rows.instance import (
     LIMITED, LIMITED_TEXTS, NINE, NINE_TEXTS, NO_BLOCK, ONE_ORE_BLOCK, ORE, OTHER_ORE, PLAN, SAME,
     TWO_ZONES, at, plain_texts, plan_of,
 )
-from rows.trial import MARK, Folder, Front, Link, Trial, refused, zone_file
+from rows.trial import MARK, Folder, Prefix, Link, Trial, refused, zone_file
 from shared import ENDINGS
 
 # Files that are longer than what replaces them.
@@ -247,7 +247,7 @@ NEAR_WORDS = [
 ]
 
 # Rows of one invalid cell, and its column and fault.
-FAULTY_ROWS = [
+INVALID_ROWS = [
     ("a,0,0,1,0", "x: Number"),
     ("0,5,0,1,0", "y: OffGrid"),
     ("0,0,0.0001,1,0", "z: TooFine"),
@@ -258,24 +258,24 @@ FAULTY_ROWS = [
 ]
 
 
-def compile_words(words, base="base"):
+def compile_arguments(arguments, base="base"):
     """The arguments of a run, and the files that they name besides the older ones."""
-    words = words.split() if isinstance(words, str) else words
-    files = {name: text for name, text in FILES.items() if name in words}
-    return {"words": ["compile", "--out", base, "--plan", *words], "files": {**OLDER, **files}}
+    arguments = arguments.split() if isinstance(arguments, str) else arguments
+    files = {name: text for name, text in FILES.items() if name in arguments}
+    return {"arguments": ["compile", "--out", base, "--plan", *arguments], "files": {**OLDER, **files}}
 
 
-def writes(name, words, texts, base="base", **given):
+def writes(name, arguments, texts, base="base", **given):
     """A run that writes these texts."""
     out = b"rows %d\n" % texts["blocks"].count(b"\n")
-    return Trial(name, out=out, left=at(base, texts), **compile_words(words, base), **given)
+    return Trial(name, out=out, left=at(base, texts), **compile_arguments(arguments, base), **given)
 
 
 def files_that_are_written():
-    for name, words, texts in WRITTEN:
-        yield writes(name, words, texts)
-    for name, words, given in ACCEPTED:
-        yield writes(name, words, ONE_ORE_BLOCK, given=given)
+    for name, arguments, texts in WRITTEN:
+        yield writes(name, arguments, texts)
+    for name, arguments, given in ACCEPTED:
+        yield writes(name, arguments, ONE_ORE_BLOCK, given=given)
     replaces = writes("a zone file that the run replaces", "one base.blocks", ONE_ORE_BLOCK)
     yield replaces._replace(files={**replaces.files, "base.blocks": ORE})
     name, base = "a base with a blank and a point", "an instance.v2"
@@ -285,42 +285,42 @@ def files_that_are_written():
         run = writes(f"a base that is a {name}", "one ore", ONE_ORE_BLOCK, base)
         left = {os.path.normpath(name) if ".." in name else name: text for name, text in run.left.items()}
         yield run._replace(files={**run.files, "place": Folder()}, left=left)
-    for front in (LONG_PATH, "./" * 199 + "/", LONGER_PATH):
-        far = compile_words("one ore", front + "base")
-        far["words"][-2:] = [front + "one", front + "ore"]
+    for prefix in (LONG_PATH, "./" * 199 + "/", LONGER_PATH):
+        far = compile_arguments("one ore", prefix + "base")
+        far["arguments"][-2:] = [prefix + "one", prefix + "ore"]
         left = at("base", ONE_ORE_BLOCK)
-        name = f"paths and a base of {len(front)} bytes"
+        name = f"paths and a base of {len(prefix)} bytes"
         yield Trial(name, out=b"rows 1\n", left=left, **far)
     zones = " ".join(f"many{file}" for file in range(64))
     texts = plain_texts(*MANY)
-    for words in ("--valuers 64 --capacity 1", "--valuers 1 --capacity 4096"):
-        yield writes(f"sixty_four_files: {words}", f"many {words} {zones}", texts)
+    for arguments in ("--valuers 64 --capacity 1", "--valuers 1 --capacity 4096"):
+        yield writes(f"sixty_four_files: {arguments}", f"many {arguments} {zones}", texts)
 
 
 def sinks_that_fail():
     """A folder in place of a file, and a device that is full; then bases in no folder."""
     for name, put in (("put_folder", Folder()), ("put_full", Link("/dev/full"))):
         for place, failing in enumerate(ENDINGS):
-            run = compile_words("one ore")
+            run = compile_arguments("one ore")
             run["files"][f"base.{failing}"] = put
             left = at("base", {ending: ONE_ORE_BLOCK[ending] for ending in ENDINGS[:place]})
             line = f"sink {failing}: SinkFailed"
             yield refused(f"{name} at the file {failing}", line, left=left, **run)
     for base in ("no/such/base", "ore/base"):
-        run = compile_words("one ore", base)
+        run = compile_arguments("one ore", base)
         yield refused(f"a base in no folder: {base}", "sink blocks: SinkFailed", **run)
 
 
 def trials():
     yield from files_that_are_written()
     yield from sinks_that_fail()
-    for words in NEAR_WORDS:
-        run = compile_words("one ore")
-        run["words"] = [*words, *run["words"][1:]]
-        yield Trial(f"the words {words}", 2, errors=Front(b"error: "), **run)
-    for name, line, words in REFUSED:
-        yield refused(name, line, **compile_words(words))
-    for row, fault in FAULTY_ROWS:
-        run = compile_words("one odd")
+    for arguments in NEAR_WORDS:
+        run = compile_arguments("one ore")
+        run["arguments"] = [*arguments, *run["arguments"][1:]]
+        yield Trial(f"the words {arguments}", 2, errors=Prefix(b"error: "), **run)
+    for name, line, arguments in REFUSED:
+        yield refused(name, line, **compile_arguments(arguments))
+    for row, fault in INVALID_ROWS:
+        run = compile_arguments("one odd")
         run["files"]["odd"] = zone_file(row)
         yield refused(f"the row {row}", f"file 0 row 2 column {fault}", **run)

@@ -9,7 +9,7 @@ import math
 
 from rows.instance import arcs_of, at, plain_texts, plan_of, sections, unlisted
 from rows.trial import ANY, HEADER, Later, Part, Trial, lines, piped, refused, zone_file
-from shared import ENDINGS, compile_words
+from shared import ENDINGS, compile_arguments
 
 ONE = plan_of()
 
@@ -298,8 +298,8 @@ def by_compile():
         plan = plan_of(cones=[cone, "1000,1,20"], grid=f"0,0,0,{sizes}")
         files = {"plan": plan, "0": zone_file(rows[0]), "1": zone_file(rows[1])}
         left = at("b", {**dict.fromkeys(ENDINGS, ANY), "prec": lines(prec)})
-        words = compile_words("plan", "b", ["0", "1"])
-        given = {"words": words, "files": files, "left": left}
+        arguments = compile_arguments("plan", "b", ["0", "1"])
+        given = {"arguments": arguments, "files": files, "left": left}
         yield Trial(f"by_compile: {name}, two files", out=b"rows 2\n", **given)
 
 
@@ -308,8 +308,8 @@ def no_blocks():
     given = piped(ONE, HEADER)
     yield Trial("no_blocks", given=given, out=Part(lines("== blocks|== prec|== upit|")))
     left = at("b", {**dict.fromkeys(ENDINGS, ANY), "blocks": b"", "prec": b""})
-    files, words = {"plan": ONE, "0": HEADER}, compile_words("plan", "b", ["0"])
-    yield Trial("no_blocks, by compile", words=words, files=files, out=b"rows 0\n", left=left)
+    files, arguments = {"plan": ONE, "0": HEADER}, compile_arguments("plan", "b", ["0"])
+    yield Trial("no_blocks, by compile", arguments=arguments, files=files, out=b"rows 0\n", left=left)
 
 
 def million_blocks(name):

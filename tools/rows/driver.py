@@ -17,7 +17,7 @@ LONGEST_NAME = 200
 AROUND = {"backup": b"a file beside\n", "../above": b"a file above\n"}
 
 
-class Answer(NamedTuple):
+class Result(NamedTuple):
     """How a run ended, what it printed, and the files that it left."""
 
     status: int
@@ -52,41 +52,41 @@ def found(path):
         return file.read()
 
 
-def all_found(folder, front=""):
+def all_found(folder, prefix=""):
     """Returns the contents of a folder and of those within, by names with this prefix."""
     for name in os.listdir(folder):
         path = os.path.join(folder, name)
         content = found(path)
-        yield front + name, content
+        yield prefix + name, content
         if isinstance(content, Folder):
-            yield from all_found(path, f"{front}{name}/")
+            yield from all_found(path, f"{prefix}{name}/")
 
 
-def run(program, words, trial, folder, **how):
+def run(program, arguments, trial, folder, **how):
     """Makes one run in the folder of a row, with its standard input; `how` is passed on."""
     how = {"cwd": folder, "capture_output": True, "timeout": SECONDS, **how}
     if not trial.source:
-        return subprocess.run([program, *words], input=trial.given, **how)
+        return subprocess.run([program, *arguments], input=trial.given, **how)
     source = os.open(os.path.join(folder, trial.source), os.O_RDONLY)
     try:
-        return subprocess.run([program, *words], stdin=source, **how)
+        return subprocess.run([program, *arguments], stdin=source, **how)
     finally:
         os.close(source)
 
 
-def answer(program, trial, **how):
+def result(program, trial, **how):
     """Returns the result and the files of a row's run, after the runs before it."""
     with tempfile.TemporaryDirectory() as top:
         folder = os.path.join(top, "row")
         os.mkdir(folder)
         put_all(folder, trial.files)
-        for words in [*trial.before, trial.words]:
-            ran = run(program, words, trial, folder, **how)
+        for arguments in [*trial.before, trial.arguments]:
+            ran = run(program, arguments, trial, folder, **how)
             if ran.returncode != 0:
                 break
         files = {os.path.relpath(name, "row"): content for name, content in all_found(top)}
     del files["."]
-    return Answer(ran.returncode, ran.stdout, ran.stderr, files)
+    return Result(ran.returncode, ran.stdout, ran.stderr, files)
 
 
 def in_time(differ: Callable[[], Iterable[str]]) -> List[str]:
@@ -100,7 +100,7 @@ def in_time(differ: Callable[[], Iterable[str]]) -> List[str]:
 def differences(program, trial, **how):
     """Returns which results or files of a row's run are wrong."""
     trial = trial._replace(files={**AROUND, **trial.files})
-    return in_time(lambda: trial.differences(*answer(program, trial, **how)))
+    return in_time(lambda: trial.differences(*result(program, trial, **how)))
 
 
 class Register:

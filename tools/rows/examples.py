@@ -12,7 +12,7 @@ import tempfile
 
 from rows.instance import at, input_of, plain_texts, sections
 from rows.trial import Sum, Trial, piped
-from shared import CHECKED, TOP, compile_words
+from shared import CHECKED, TOP, compile_arguments
 
 EXAMPLES = os.path.join(TOP, "examples")
 
@@ -59,18 +59,18 @@ def trials():
         yield Trial(f"the pipe form on {name}", source=name, files=files, out=sections(texts))
     one = {f"one.{ending}": read(EXAMPLES, f"one.{ending}") for ending in CHECKED}
     counts = b"blocks 1 arcs 0 coefficients 0 limits 0 cpit 0\n"
-    yield Trial("check on one", words=["check", "one"], files=one, out=counts)
+    yield Trial("check on one", arguments=["check", "one"], files=one, out=counts)
     names = ["march.plan", "north.csv", "south.csv"]
     files = {name: read(EXAMPLES, name) for name in names}
     texts = at("march", plain_texts(*files.values()))
-    words = compile_words("march.plan", "march", names[1:])
-    yield Trial("compile on march", words=words, files=files, left=texts, out=b"rows 48\n")
+    arguments = compile_arguments("march.plan", "march", names[1:])
+    yield Trial("compile on march", arguments=arguments, files=files, left=texts, out=b"rows 48\n")
     files, texts = deposit(), at("deposit", TEXTS)
-    words = ["compile", "--plan", "deposit.plan", "--out", "deposit", *ZONES]
+    arguments = ["compile", "--plan", "deposit.plan", "--out", "deposit", *ZONES]
     both = {"files": files, "left": texts}
-    yield Trial("compile on the deposit", words=words, out=b"rows 4157\n", **both)
+    yield Trial("compile on the deposit", arguments=arguments, out=b"rows 4157\n", **both)
     counts = b"blocks 4157 arcs 22547 coefficients 20785 limits 8 cpit 5957\n"
-    words, before = ["check", "deposit"], [words]
-    yield Trial("check on the deposit", words=words, before=before, out=counts, **both)
+    arguments, before = ["check", "deposit"], [arguments]
+    yield Trial("check on the deposit", arguments=arguments, before=before, out=counts, **both)
     given = piped(*(files[name] for name in DEPOSIT))
     yield Trial("the pipe form on the deposit", source="input", files={"input": given}, out=PIPED)

@@ -1,7 +1,7 @@
 """Inputs and texts that several tables have."""
 import plain
 from rows.trial import ANY, MARK, Trial, lines
-from shared import ENDINGS, compile_words, header, model
+from shared import ENDINGS, compile_arguments, header, model
 
 
 def input_of(path):
@@ -69,9 +69,9 @@ def at(base, texts):
     return {f"{base}.{ending}": text for ending, text in texts.items()}
 
 
-def unlisted(first, behind):
+def unlisted(first, after):
     """The lines of a precedence file of blocks that have none above them."""
-    return "".join(f"{block} 0|" for block in range(first, behind))
+    return "".join(f"{block} 0|" for block in range(first, after))
 
 
 def arcs_of(name, counts, plan, *zones):
@@ -80,8 +80,8 @@ def arcs_of(name, counts, plan, *zones):
     return Trial(
         name,
         files={"plan": plan, **files},
-        before=[compile_words("plan", "b", files)],
-        words=["check", "b"],
+        before=[compile_arguments("plan", "b", files)],
+        arguments=["check", "b"],
         out=lines(counts + "|"),
         left=at("b", dict.fromkeys(ENDINGS, ANY)),
     )

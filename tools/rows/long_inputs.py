@@ -5,7 +5,7 @@ from rows.instance import ONE_ORE_BLOCK, ORE, PLAN, at, instance, plan_of, secti
 from rows.sizes import FLAT, ONE, bench
 from rows.sizes import rows as rows_of
 from rows.trial import ANY, Link, Trial, piped, refused, zone_file
-from shared import CHECKED, ENDINGS, compile_words
+from shared import CHECKED, ENDINGS, compile_arguments
 
 MEGABYTE = 1_000_000
 
@@ -18,17 +18,17 @@ class Long(NamedTuple):
     is_thin: bool = False
 
 
-def compiles(name: str, plan: bytes, *zones: bytes, **told) -> Trial:
+def compiles(name: str, plan: bytes, *zones: bytes, **reported) -> Trial:
     """A compile of these zone files, which are named by their numbers."""
     names = [str(number) for number in range(len(zones))]
     files = {"plan": plan, **dict(zip(names, zones))}
-    return Trial(name, words=compile_words("plan", "base", names), files=files, **told)
+    return Trial(name, arguments=compile_arguments("plan", "base", names), files=files, **reported)
 
 
 def thinned(trial: Trial, out: bytes = b"", prec: bytes = b"") -> Trial:
     """The same by pitc_thin, which prints and writes these."""
-    words = ["--plan", "plan", "--out", "thin", *trial.words[5:]]
-    return trial._replace(words=words, out=out, left={"thin": prec} if prec else {})
+    arguments = ["--plan", "plan", "--out", "thin", *trial.arguments[5:]]
+    return trial._replace(arguments=arguments, out=out, left={"thin": prec} if prec else {})
 
 
 # A zone file of many adjacent blocks, of which none waits for another, and one of one block; and their texts.
@@ -45,13 +45,13 @@ def texts_of_blocks() -> Iterator[Long]:
     yield Long(Trial("3,000 blocks by the pipe form", given=piped(*run.files.values()), out=sections(TEXTS)), 2)
     files = at("base", {ending: TEXTS[ending] for ending in CHECKED})
     counts = b"blocks 3000 arcs 0 coefficients 0 limits 0 cpit 0\n"
-    yield Long(Trial("a check of 3,000 blocks", words=["check", "base"], files=files, out=counts))
-    faulty = run._replace(files={**run.files, "1": ORE + b"x\n"})
+    yield Long(Trial("a check of 3,000 blocks", arguments=["check", "base"], files=files, out=counts))
+    invalid = run._replace(files={**run.files, "1": ORE + b"x\n"})
     line = "file 1 row 3 column whole: Width"
-    yield Long(refused("a faulty row beside them", line, words=run.words, files=faulty.files), 1)
-    lacking = refused("a file that is not there behind them", "file 1: FeedFailed", words=[*run.words[:-1], "no/such.csv"], files=run.files)
-    yield Long(lacking)
-    yield Long(thinned(lacking), is_thin=True)
+    yield Long(refused("a faulty row beside them", line, arguments=run.arguments, files=invalid.files), 1)
+    missing = refused("a file that is not there behind them", "file 1: FeedFailed", arguments=[*run.arguments[:-1], "no/such.csv"], files=run.files)
+    yield Long(missing)
+    yield Long(thinned(missing), is_thin=True)
 
 
 REMARK = b"%" + b"x" * 998 + b"\n"
@@ -64,10 +64,10 @@ def remarks(megabytes: int) -> bytes:
 
 def texts_that_go_by() -> Iterator[Long]:
     """What is read after the first invalid line, and never reported: the remainder of its text, and the later texts."""
-    for faulty, text, ending in [("prec", b"?\n" + remarks(128), "prec"), ("blocks", remarks(128), "prec")]:
-        files = at("base", {**ONE_ORE_BLOCK, faulty: b"?\n", ending: text})
-        name = f"128 MB of base.{ending} behind a faulty line of base.{faulty}"
-        yield Long(refused(name, f"{faulty} line 1: Fields", words=["check", "base"], files=files))
+    for invalid, text, ending in [("prec", b"?\n" + remarks(128), "prec"), ("blocks", remarks(128), "prec")]:
+        files = at("base", {**ONE_ORE_BLOCK, invalid: b"?\n", ending: text})
+        name = f"128 MB of base.{ending} behind a faulty line of base.{invalid}"
+        yield Long(refused(name, f"{invalid} line 1: Fields", arguments=["check", "base"], files=files))
 
 
 def long_texts() -> Iterator[Long]:
@@ -75,7 +75,7 @@ def long_texts() -> Iterator[Long]:
     for ending in CHECKED:
         files = at("base", {**ONE_ORE_BLOCK, ending: remarks(128) + ONE_ORE_BLOCK[ending]})
         name = f"a check of 128 MB of base.{ending}"
-        yield Long(Trial(name, words=["check", "base"], files=files, out=b"blocks 1 arcs 0 coefficients 0 limits 0 cpit 0\n"))
+        yield Long(Trial(name, arguments=["check", "base"], files=files, out=b"blocks 1 arcs 0 coefficients 0 limits 0 cpit 0\n"))
 
 
 def long_outputs() -> Iterator[Long]:

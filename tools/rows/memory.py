@@ -4,7 +4,7 @@ Other tables have their results with ample memory. If a run of `compile` or of p
 """
 from rows.instance import LIMITED, MILL, ORE, PLAN, SAME, at, plain_texts, plan_of
 from rows.trial import Trial, piped, zone_file
-from shared import ENDINGS, compile_words
+from shared import ENDINGS, compile_arguments
 
 LEACH = plan_of(
     MILL + "leach,heap,600,100,1,300,2.5,450|dump,dump,200|",
@@ -34,9 +34,9 @@ def compiles(name, model, capacity=None):
     """The files at the base come first, in the order in which they are written."""
     plan, *zones = model
     files = {f"zone{number}": text for number, text in enumerate(zones)}
-    words = compile_words("plan", "base", files, capacity=capacity)
+    arguments = compile_arguments("plan", "base", files, capacity=capacity)
     before = at("base", dict.fromkeys(ENDINGS, b"before\n"))
-    return Trial(f"compile {name}", words=words, files={**before, "plan": plan, **files})
+    return Trial(f"compile {name}", arguments=arguments, files={**before, "plan": plan, **files})
 
 
 def pipes(name, model):
@@ -44,15 +44,15 @@ def pipes(name, model):
 
 
 def checks(name, texts):
-    return Trial(f"check {name}", words=["check", "base"], files=at("base", texts))
+    return Trial(f"check {name}", arguments=["check", "base"], files=at("base", texts))
 
 
 def thins(name, model, capacity=None):
     """A run of pitc_thin. The file that it writes comes first."""
     plan, *zones = model
     files = {f"zone{number}": text for number, text in enumerate(zones)}
-    words = compile_words("plan", "thin", files, capacity=capacity)[1:]
-    return Trial(f"pitc_thin {name}", words=words, files={"thin": b"before\n", "plan": plan, **files})
+    arguments = compile_arguments("plan", "thin", files, capacity=capacity)[1:]
+    return Trial(f"pitc_thin {name}", arguments=arguments, files={"thin": b"before\n", "plan": plan, **files})
 
 
 def trials():
@@ -69,8 +69,8 @@ def trials():
     yield checks("of nothing", {})
     yield pipes("with a faulty plan", [b"name\n"])
     yield pipes("with wrong settings", [LEACH])
-    yield Trial("refused words", words=["nope"])
-    yield Trial("help", words=["--help"])
+    yield Trial("refused words", arguments=["nope"])
+    yield Trial("help", arguments=["--help"])
 
 
 def trials_of_thin():
@@ -80,5 +80,5 @@ def trials_of_thin():
     yield thins("arcs that follow from others", BENCHES)
     yield thins("with a faulty plan", [b"name\n", ORE])
     yield thins("with wrong settings", (LEACH, ORE))
-    yield Trial("pitc_thin, refused words", words=["nope"])
-    yield Trial("pitc_thin, help", words=["--help"])
+    yield Trial("pitc_thin, refused words", arguments=["nope"])
+    yield Trial("pitc_thin, help", arguments=["--help"])

@@ -7,7 +7,7 @@ import os
 
 from rows.instance import ONE_ORE_BLOCK, ORE, PLAN, at
 from rows.trial import Folder, Trial, refused
-from shared import compile_words
+from shared import compile_arguments
 
 # A name, and others that some programs confuse with it.
 NAMES = [
@@ -50,16 +50,16 @@ def rows_of(name, near, base=None):
     wanted = {"out": b"rows 1\n", "left": at(base, ONE_ORE_BLOCK)}
     for what, plan, zone in [("plan", name, "ore"), ("zone file", "one", name)]:
         files = {**beside, plan: PLAN, zone: ORE}
-        words = compile_words(plan, base, [zone])
-        yield Trial(f"a {what} by the name {name[:20]!r}", words=words, files=files, **wanted)
+        arguments = compile_arguments(plan, base, [zone])
+        yield Trial(f"a {what} by the name {name[:20]!r}", arguments=arguments, files=files, **wanted)
     counts = b"blocks 1 arcs 0 coefficients 0 limits 0 cpit 0\n"
     files = {**beside, **at(base, ONE_ORE_BLOCK)}
-    yield Trial(f"a check of {name[:20]!r}", words=["check", base], files=files, out=counts)
+    yield Trial(f"a check of {name[:20]!r}", arguments=["check", base], files=files, out=counts)
     # the same with only the similar names
     for other in near[:1]:
         files = {"one": PLAN, other: ORE}
-        words = compile_words("one", "base", [name])
-        yield refused(f"{other[:20]!r} alone in the place of {name[:20]!r}", "file 0: FeedFailed", words=words, files=files)
+        arguments = compile_arguments("one", "base", [name])
+        yield refused(f"{other[:20]!r} alone in the place of {name[:20]!r}", "file 0: FeedFailed", arguments=arguments, files=files)
 
 
 def in_folders():
@@ -69,39 +69,39 @@ def in_folders():
         paths = {"/".join(folders[: count + 1]): Folder() for count in range(depth)}
         place = "/".join(folders) + "/"
         given = {**paths, place + "one": PLAN, place + "ore": ORE}
-        words = compile_words(place + "one", place + "base", [place + "ore"])
+        arguments = compile_arguments(place + "one", place + "base", [place + "ore"])
         wanted = {"out": b"rows 1\n", "left": at(place + "base", ONE_ORE_BLOCK)}
-        yield Trial(f"paths of {len(place)} bytes", words=words, files=given, **wanted)
+        yield Trial(f"paths of {len(place)} bytes", arguments=arguments, files=given, **wanted)
         counts = b"blocks 1 arcs 0 coefficients 0 limits 0 cpit 0\n"
         files = {**paths, **at(place + "base", ONE_ORE_BLOCK)}
-        words = ["check", place + "base"]
-        yield Trial(f"a check in {len(place)} bytes", words=words, files=files, out=counts)
+        arguments = ["check", place + "base"]
+        yield Trial(f"a check in {len(place)} bytes", arguments=arguments, files=files, out=counts)
 
 
 def too_long():
     """Names that are longer than allowed."""
     name, files = named(LONGEST + 1), {"one": PLAN, "ore": ORE}
-    for line, words in [
-        ("plan: FeedFailed", compile_words(name, "base", ["ore"])),
-        ("file 0: FeedFailed", compile_words("one", "base", [name])),
-        ("sink blocks: SinkFailed", compile_words("one", named(LONGEST - ENDING + 1), ["ore"])),
+    for line, arguments in [
+        ("plan: FeedFailed", compile_arguments(name, "base", ["ore"])),
+        ("file 0: FeedFailed", compile_arguments("one", "base", [name])),
+        ("sink blocks: SinkFailed", compile_arguments("one", named(LONGEST - ENDING + 1), ["ore"])),
         ("blocks: FeedFailed", ["check", named(LONGEST - ENDING + 1)]),
     ]:
-        yield refused(f"a name that is too long: {line}", line, words=words, files=files)
+        yield refused(f"a name that is too long: {line}", line, arguments=arguments, files=files)
 
 
 def of_no_text():
     """Names of existing files that are not UTF-8."""
     files = {"one": PLAN, "ore": ORE, NOT_UTF8: ORE, **at(NOT_UTF8, ONE_ORE_BLOCK)}
-    for what, words in [
-        ("a plan", compile_words(NOT_UTF8, "base", ["ore"])),
-        ("a base", compile_words("one", NOT_UTF8, ["ore"])),
-        ("a zone file", compile_words("one", "base", [NOT_UTF8])),
-        ("a second zone file", compile_words("one", "base", ["ore", NOT_UTF8])),
+    for what, arguments in [
+        ("a plan", compile_arguments(NOT_UTF8, "base", ["ore"])),
+        ("a base", compile_arguments("one", NOT_UTF8, ["ore"])),
+        ("a zone file", compile_arguments("one", "base", [NOT_UTF8])),
+        ("a second zone file", compile_arguments("one", "base", ["ore", NOT_UTF8])),
         ("a base of check", ["check", NOT_UTF8]),
     ]:
         name = f"{what} by a name that is not UTF-8"
-        yield refused(name, "command line: NotUtf8", words=words, files=files)
+        yield refused(name, "command line: NotUtf8", arguments=arguments, files=files)
 
 
 def trials():

@@ -13,10 +13,10 @@ from rows.texts import (
     PCPSP, PREC, TEN_BLOCKS, number_of, put, whole,
 )
 from rows.trial import Folder, Link, lines, piped, refused, short, zone_file
-from shared import CHECKED, ENDINGS, compile_words
+from shared import CHECKED, ENDINGS, compile_arguments
 
 # What precedes the invalid records of a plan, and records that are invalid after it.
-FRONT = "name,one|periods,2|dump,d,1|resource,r,d|limit,r,0,L,2|"
+PREFIX = "name,one|periods,2|dump,d,1|resource,r,d|limit,r,0,L,2|"
 RECORDS = [
     ("Key", "pit,1"), ("Key", ",name,one"),
     ("Width", "periods"), ("Width", "grid,0,0,0,10,10"), ("Width", "limit,r,1,I,1"),
@@ -57,7 +57,7 @@ FILES = [
 ]
 
 # One fault of each kind of a zone file.
-KINDS_OF_FILES = list({answer.rsplit(" ")[-1]: (answer, text) for answer, text in FILES}.values())
+KINDS_OF_FILES = list({result.rsplit(" ")[-1]: (result, text) for result, text in FILES}.values())
 
 # Lines of a block file and of a precedence file of ten blocks, which have this identifier.
 BLOCK_LINES = [
@@ -75,27 +75,27 @@ PREC_LINES = [
 def compiled(name, line, plan, zones, **more):
     """A run of `compile` on these files that is refused."""
     files = {"plan": plan, **{f"zone{number}": text for number, text in enumerate(zones)}}
-    words = compile_words("plan", "b", list(files)[1:])
-    return refused(f"{short(name)}: {line}", line, words=words, files={**files, **more})
+    arguments = compile_arguments("plan", "b", list(files)[1:])
+    return refused(f"{short(name)}: {line}", line, arguments=arguments, files={**files, **more})
 
 
 def in_two_records():
     """Of plans, the first record of two; also after as many of a key as there may be, and before more records than there may be."""
-    def told(front, kind, first, second, name=""):
-        line = f"plan row {front.count('|') + 1}: {kind}"
+    def reported(prefix, kind, first, second, name=""):
+        line = f"plan row {prefix.count('|') + 1}: {kind}"
         name = short(f"two records: {first} before {name or second}")
-        return refused(f"{name}: {line}", line, given=lines(f"{front}{first}|{second}"))
+        return refused(f"{name}: {line}", line, given=lines(f"{prefix}{first}|{second}"))
 
     for (kind, first), (_, second) in itertools.permutations(RECORDS, 2):
-        yield told(FRONT, kind, first, second)
-    for front, too_many in FULL:
-        front = "name,one|" + front
+        yield reported(PREFIX, kind, first, second)
+    for prefix, too_many in FULL:
+        prefix = "name,one|" + prefix
         for kind, other in OF_FULL[:-1]:
-            yield told(front, kind, other, too_many)
+            yield reported(prefix, kind, other, too_many)
         for _, other in OF_FULL:
-            yield told(front, "TooMany", too_many, other)
+            yield reported(prefix, "TooMany", too_many, other)
     for kind, record in RECORDS:
-        yield told(FRONT, kind, record, ",|" * 10_000, "10,000 records")
+        yield reported(PREFIX, kind, record, ",|" * 10_000, "10,000 records")
 
 
 def in_two_rows():
@@ -115,15 +115,15 @@ def in_two_files(files):
     for (first, text), (second, other) in itertools.product(files, repeat=2):
         name = f"two files: {first} before {second}"
         yield compiled(name, f"file 0 {first}", two, [text, other])
-    for answer, text in files:
-        name = f"two files: a repetition before {answer}"
-        yield compiled(name, f"file 2 {answer}", three, [good, good, text])
+    for result, text in files:
+        name = f"two files: a repetition before {result}"
+        yield compiled(name, f"file 2 {result}", three, [good, good, text])
         for what, put_there in [("a folder", Folder()), ("none", Link("nothing"))]:
             is_first = what == "a folder"
-            line = f"file 0 {answer}" if is_first else "file 1: FeedFailed"
-            yield compiled(f"two files: {answer} before {what}", line, two, [text, put_there])
+            line = f"file 0 {result}" if is_first else "file 1: FeedFailed"
+            yield compiled(f"two files: {result} before {what}", line, two, [text, put_there])
         line = "file 0: FeedFailed"
-        yield compiled(f"two files: a folder before {answer}", line, two, [Folder(), text])
+        yield compiled(f"two files: a folder before {result}", line, two, [Folder(), text])
 
 
 def in_two_texts():
@@ -131,16 +131,16 @@ def in_two_texts():
     full = {f"b.{ending}": Link("/dev/full") for ending in ENDINGS}
     plan, repeated = plan_of(), zone_file("0,0,0,1,0", "0,0,0,1,0")
     for kind, record in {kind: (kind, record) for kind, record in RECORDS}.values():
-        faulty, line = lines(FRONT + record), f"plan row 6: {kind}"
-        for answer, text in KINDS_OF_FILES:
-            name = f"two texts: {record} before {answer}"
-            yield compiled(name, line, faulty, [text], **full)
+        invalid, line = lines(PREFIX + record), f"plan row 6: {kind}"
+        for result, text in KINDS_OF_FILES:
+            name = f"two texts: {record} before {result}"
+            yield compiled(name, line, invalid, [text], **full)
         for what, put_there in [("a folder", Folder()), ("none", Link("nothing"))]:
-            yield compiled(f"two texts: {record} before {what}", line, faulty, [put_there])
-        yield compiled(f"two texts: {record} before a number of files", line, faulty, [repeated] * 3)
-    for answer, text in KINDS_OF_FILES:
-        yield compiled(f"two texts: a number of files before {answer}", "settings: Files", plan, [text] * 2)
-        yield compiled(f"two texts: {answer} before a full output", f"file 0 {answer}", plan, [text], **full)
+            yield compiled(f"two texts: {record} before {what}", line, invalid, [put_there])
+        yield compiled(f"two texts: {record} before a number of files", line, invalid, [repeated] * 3)
+    for result, text in KINDS_OF_FILES:
+        yield compiled(f"two texts: a number of files before {result}", "settings: Files", plan, [text] * 2)
+        yield compiled(f"two texts: {result} before a full output", f"file 0 {result}", plan, [text], **full)
     name, line = "two texts: a repetition before a full output", "file 0 row 3 repeats file 0 row 2"
     yield compiled(name, line, plan, [repeated], **full)
 
@@ -159,16 +159,16 @@ def in_two_outputs():
 def in_two_pieces():
     """The number of zone files before their faults, by the pipe form."""
     two = plan_of(cones=["1,1,1"] * 2)
-    for answer, text in KINDS_OF_FILES:
+    for result, text in KINDS_OF_FILES:
         for plan, pieces in [(plan_of(), [text] * 2), (two, [text]), (two, [text] * 3)]:
-            name = f"two pieces: {len(pieces)} for another number before {answer}"
+            name = f"two pieces: {len(pieces)} for another number before {result}"
             yield refused(name, "settings: Files", given=piped(plan, *pieces))
 
 
 def checked(name, line, texts):
     """A check of these texts that is refused."""
     files = at("b", dict(zip(CHECKED, texts)))
-    return refused(f"{short(name)}: {line}", line, words=["check", "b"], files=files)
+    return refused(f"{short(name)}: {line}", line, arguments=["check", "b"], files=files)
 
 
 def in_two_lines():
@@ -188,8 +188,8 @@ def last_of(good, number, change):
     """Returns the number, before a change, of the last line that is changed or reported."""
     start = number_of(good, change.line)
     is_behind = number >= start + len(change.others)
-    told = number + change.count - len(change.others) if is_behind else number
-    return max(told, start + change.count - 1)
+    reported = number + change.count - len(change.others) if is_behind else number
+    return max(reported, start + change.count - 1)
 
 
 def one_of_each(good, table):
@@ -244,14 +244,14 @@ def of_model(file, good, table):
 def in_two_files_of_an_instance():
     """Of the texts of an instance, the first of two."""
     good = [BLOCKS, PREC, whole(PCPSP), whole(CPIT)]
-    faulty = [
+    invalid = [
         of_each_kind("blocks", FAULTS_OF_BLOCKS), of_each_kind("prec", FAULTS_OF_PRECEDENCES),
         of_model("pcpsp", PCPSP, FAULTS_OF_A_PCPSP), of_model("cpit", CPIT, FAULTS_OF_A_CPIT),
     ]
     for first, second in itertools.combinations(range(4), 2):
-        for (line, text), (other, behind) in itertools.product(faulty[first], faulty[second]):
+        for (line, text), (other, after) in itertools.product(invalid[first], invalid[second]):
             texts = list(good)
-            texts[first], texts[second] = text, behind
+            texts[first], texts[second] = text, after
             yield checked(f"two texts: {line} before {other}", line, texts)
 
 

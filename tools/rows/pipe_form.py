@@ -10,7 +10,7 @@ from rows.instance import (
     MILL, ONE_ORE_BLOCK, OTHER_ORE, WASTE, heading, instance, plan_of, sections,
 )
 from rows.trial import HEADER, MARK, Folder, Part, Trial, lines, piped, refused, zone_file
-from shared import compile_words
+from shared import compile_arguments
 
 LIMITED = plan_of(
     MILL + "dump,dump,200|",
@@ -292,8 +292,8 @@ def repeated_rows():
         plan, names = zones(len(files)), [str(file) for file in range(len(files))]
         yield refused(f"repeated_rows: {name}", line, given=piped(plan, *files))
         given = {"plan": plan, **dict(zip(names, files))}
-        words = compile_words("plan", "b", names)
-        yield refused(f"repeated_rows: {name}, by compile", line, words=words, files=given)
+        arguments = compile_arguments("plan", "b", names)
+        yield refused(f"repeated_rows: {name}, by compile", line, arguments=arguments, files=given)
 
 
 def many_pieces(count):

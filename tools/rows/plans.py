@@ -5,12 +5,12 @@ The table written has what the texts show of a plan.
 import itertools
 
 from rows.cells import (
-    LETTERS, Cell, bytes_about_a_name, faulty_text, pairs_of_faults, quoted, record_of,
+    LETTERS, Cell, bytes_about_a_name, invalid_text, pairs_of_faults, quoted, record_of,
     two_kinds_of_faults, with_cell,
 )
 from rows.instance import WASTE, plan_of
 from rows.trial import HEADER, MARK, lines, refused, short
-from shared import compile_words
+from shared import compile_arguments
 
 TAKEN = None
 
@@ -57,7 +57,7 @@ RECOVERY, PRICE, COST = Cell("900", 0, 0, 1000), Cell("600", 0, 0, 10**8), Cell(
 START, RATE = Cell("1", 6, 0, 10**12), Cell("0.1", 6, 0, 10**6)
 NAME, COVERED, LIMITED_BY = Cell("n"), Cell("d"), Cell("r")
 TONNES = Cell("1", 6, 0, 10**18)
-LEAST, GREATEST = TONNES._replace(good="0"), TONNES._replace(good="1000000000000")
+SMALLEST, LARGEST = TONNES._replace(good="0"), TONNES._replace(good="1000000000000")
 AT_MOST, AT_LEAST, BETWEEN = Cell("L"), Cell("G"), Cell("I", stays=True)
 
 
@@ -80,7 +80,7 @@ CELLS = [
     ("dump,d,1|dump,e,1|", "resource", [NAME, COVERED, Cell("e")]),
     limited(100, AT_MOST, TONNES),
     limited(1, AT_LEAST, TONNES),
-    limited(2, BETWEEN, LEAST, GREATEST),
+    limited(2, BETWEEN, SMALLEST, LARGEST),
 ]
 
 # Keys, and how many cells their records may have, the key counted, of the first 40; every other cell is `?`, so the kind tells which cell
@@ -319,7 +319,7 @@ def repeated_with_a_fault():
         others, last = [([*record, "1"], "Width")], cells[-1]
         if last.decimals is not None:
             kinds = ("Number", "TooFine", "Range")
-            others += [([*record[:-1], faulty_text(last, kind)], kind) for kind in kinds]
+            others += [([*record[:-1], invalid_text(last, kind)], kind) for kind in kinds]
         for other, kind in others if key not in ("zone", "resource") else ():
             yield f"{before}{','.join(record)}|{','.join(other)}", kind
 
@@ -469,50 +469,50 @@ MANY = [
 ]
 
 
-def told(name, plan, answer):
+def reported(name, plan, result):
     """A plan without a zone file: it is refused, or accepted, and then a zone file is missing."""
-    return refused(short(name), line_of(answer), given=plan)
+    return refused(short(name), line_of(result), given=plan)
 
 
-def line_of(answer):
+def line_of(result):
     """Returns the line of a plan's fault, or the line that a zone file is missing."""
-    if answer is TAKEN:
+    if result is TAKEN:
         return "settings: Files"
-    return "plan: TooLong" if answer is TOO_LONG else "plan " + answer
+    return "plan: TooLong" if result is TOO_LONG else "plan " + result
 
 
-def told_by_compile(name, plan, answer):
+def reported_by_compile(name, plan, result):
     """The same by `compile`, with an extra zone file."""
     files = {"plan": plan, "zone": HEADER}
-    words = compile_words("plan", "b", ["zone"] * (plan.lower().count(b"zone,") + 1))
-    return refused(short(name) + ", by compile", line_of(answer), words=words, files=files)
+    arguments = compile_arguments("plan", "b", ["zone"] * (plan.lower().count(b"zone,") + 1))
+    return refused(short(name) + ", by compile", line_of(result), arguments=arguments, files=files)
 
 
-def last_told(name, before, key, cells, kind=None):
+def last_reported(name, before, key, cells, kind=None):
     """A record of these cells after what precedes it, and the kind of its fault."""
     row = before.count("|") + 1
-    answer = f"row {row}: {kind}" if kind else f"row {row + 1}: Missing"
-    return told(name, lines(before + record_of([key, *cells])), answer)
+    result = f"row {row}: {kind}" if kind else f"row {row + 1}: Missing"
+    return reported(name, lines(before + record_of([key, *cells])), result)
 
 
 def faults_of_cells(before, key, cells):
     """Each cell of a record in turn: numbers at both ends of its range and outside it, and what is no number. Then two that are refused."""
-    def told_of(name, texts, kind=None):
+    def report_of(name, texts, kind=None):
         record = before + ",".join([key, *texts])
-        return last_told(f"{name}: {record}", before, key, texts, kind)
-    yield told_of("cells_of_a_plan", [cell.good for cell in cells])
+        return last_reported(f"{name}: {record}", before, key, texts, kind)
+    yield report_of("cells_of_a_plan", [cell.good for cell in cells])
     for at, cell in enumerate(cells):
         for text, _, kind in cell.spellings():
-            yield told_of("numbers_of_a_plan", with_cell(cells, at, text), kind)
+            yield report_of("numbers_of_a_plan", with_cell(cells, at, text), kind)
         for _, kind in cell.faults()[:1]:
             # Alone in its record it is a row of `widths`; an empty cell at the end is dropped.
             for text in [text for text in ("", "?") if text or at + 1 < len(cells)]:
                 if len(cells) > 1:
-                    yield told_of("cells_of_a_plan", with_cell(cells, at, text), kind)
+                    yield report_of("cells_of_a_plan", with_cell(cells, at, text), kind)
     for texts, kind in pairs_of_faults(cells):
-        yield told_of("two_faulty_cells", texts, kind)
+        yield report_of("two_faulty_cells", texts, kind)
     for texts, kind in two_kinds_of_faults(cells):
-        yield told_of("two_kinds_of_faults", texts, kind)
+        yield report_of("two_kinds_of_faults", texts, kind)
 
 
 def spellings_of_a_key(before, key, cells):
@@ -521,39 +521,39 @@ def spellings_of_a_key(before, key, cells):
     capitals = (key[:at] + key[at].upper() + key[at + 1 :] for at in range(len(key)))
     for other in [key.upper(), *capitals]:
         name = f"keys_in_capitals: {','.join([other, *goods])}"
-        yield last_told(name, before, other, goods)
+        yield last_reported(name, before, other, goods)
     for other in [key[1:], key[:-1], key + "s", key + ":", key + "_", "_" + key, key + "-" + key]:
         name = f"no_keys: {','.join([other, *goods])}"
-        yield last_told(name, before, other, goods, "Key")
+        yield last_reported(name, before, other, goods, "Key")
 
 
-def widths(front, counts, kind):
+def widths(prefix, counts, kind):
     """Returns records of this prefix, and of `?` up to 40 cells."""
-    cells = front.split(",")
+    cells = prefix.split(",")
     for count in range(len(cells), 41):
         record = lines(",".join([*cells, *["?"] * (count - len(cells))]))
-        name = f"width_of_a_record: {front}, {count} cells"
-        yield told(name, record, "row 1: " + (kind if count in counts else "Width"))
+        name = f"width_of_a_record: {prefix}, {count} cells"
+        yield reported(name, record, "row 1: " + (kind if count in counts else "Width"))
 
 
 def names():
     """Names of each byte and of each length, and the letters of limits."""
     for name, is_name in bytes_about_a_name():
-        answer = "row 2: Missing" if is_name else "row 1: Name"
-        yield told(f"bytes_of_a_name: {name}", b"name," + quoted(name), answer)
+        result = "row 2: Missing" if is_name else "row 1: Name"
+        yield reported(f"bytes_of_a_name: {name}", b"name," + quoted(name), result)
     keys = {"name": "", "mill": ",1,1,1", "leach": ",1,1,0,1", "dump": ",1", "resource": ",d"}
     for (key, rest), length in itertools.product(keys.items(), [1, 63, 64, 65, 1000]):
-        answer = "row 3: Missing" if length <= 64 else "row 2: Name"
+        result = "row 3: Missing" if length <= 64 else "row 2: Name"
         plan = lines(f"dump,d,1|{key},{'a' * length}{rest}")
-        yield told(f"length_of_a_name: {key}, {length} bytes", plan, answer)
+        yield reported(f"length_of_a_name: {key}, {length} bytes", plan, result)
     for (key, rest), name in itertools.product(list(keys.items())[1:], NO_NAMES):
         plan = lines(f"dump,d,1|{key},{name}{rest}")
-        yield told(f"no_names: {key}, {name}", plan, "row 2: Name")
+        yield reported(f"no_names: {key}, {name}", plan, "row 2: Name")
     for letter in [*LETTERS, "LL", "GL", "LE", "GE", "IN", "<", "<=", ">", ">=", "=", "1"]:
         cells = "3,3" if letter == "I" else "3"
-        answer = "row 5: Missing" if letter in ("L", "G", "I") else "row 4: Name"
+        result = "row 5: Missing" if letter in ("L", "G", "I") else "row 4: Name"
         plan = lines(f"{LIMITED}limit,r,0,{letter},{cells}")
-        yield told(f"letters_of_limits: {letter}", plan, answer)
+        yield reported(f"letters_of_limits: {letter}", plan, result)
 
 
 # What resembles a name, and is none.
@@ -577,36 +577,36 @@ def long_records():
         for more in (16, 32, 64, 100, 256, 65_536) if key not in ("leach", "resource") else ():
             record = ",".join([key, *(cell.good for cell in cells), *["1"] * more])
             name = f"long_records: {key} of {len(cells)} cells, {record[:30]}, {more} more"
-            yield told(name, lines(record), "row 1: Width")
+            yield reported(name, lines(record), "row 1: Width")
 
 
 def records_twice():
     """Each record that may occur once with the same and another, in either case and order."""
-    for one, other, faulty, kind in ONCE:
+    for one, other, invalid, kind in ONCE:
         pairs = itertools.product((one, other), repeat=2)
         for first, second in pairs:
             for again in (second, second.replace(second[0], second[0].upper(), 1)):
                 plan = f"{first}|{again}|pit"
-                yield told(f"records_twice: {plan}", lines(plan), "row 2: Twice")
-        for front in (f"{one}|dump,d,1|,|", f"{other}|zone,1,1,1|||"):
-            row = 4 if front.endswith("1|,|") else 3
-            for second, what in ((one, "Twice"), (faulty, kind), (one + ",1", "Width")):
-                plan = f"{front}{second}|{other}"
-                yield told(f"records_twice: {plan}", lines(plan), f"row {row}: {what}")
+                yield reported(f"records_twice: {plan}", lines(plan), "row 2: Twice")
+        for prefix in (f"{one}|dump,d,1|,|", f"{other}|zone,1,1,1|||"):
+            row = 4 if prefix.endswith("1|,|") else 3
+            for second, what in ((one, "Twice"), (invalid, kind), (one + ",1", "Width")):
+                plan = f"{prefix}{second}|{other}"
+                yield reported(f"records_twice: {plan}", lines(plan), f"row {row}: {what}")
 
 
-def of_the_mill(name, front, table):
+def of_the_mill(name, prefix, table):
     """Records after the mill plan, by the kind of their fault."""
     for kind, *records in table:
         for record in records:
-            plan = plan_of() + lines(front + record)
-            yield told(f"{name}: {record}", plan, f"row 7: {kind}" if kind else TAKEN)
+            plan = plan_of() + lines(prefix + record)
+            yield reported(f"{name}: {record}", plan, f"row 7: {kind}" if kind else TAKEN)
 
 
 def table():
     """The plans whose last record is invalid, and what is reported."""
-    for front, kind, *records in FAULTS:
-        for plan in (front + record for record in records):
+    for prefix, kind, *records in FAULTS:
+        for plan in (prefix + record for record in records):
             row = plan.rstrip("|").count("|") + 1 + (kind == "Missing")
             yield plan, f"row {row}: {kind}"
     for plan, kind in repeated_with_a_fault():
@@ -617,31 +617,31 @@ def trials():
     for before, key, cells in CELLS:
         yield from faults_of_cells(before, key, cells)
         yield from spellings_of_a_key(before, key, cells)
-    for front, counts, kind in WIDTHS:
-        yield from widths(front, counts, kind)
+    for prefix, counts, kind in WIDTHS:
+        yield from widths(prefix, counts, kind)
     for key in NO_KEYS:
-        yield told(f"no_keys: {key}", f"{key},one\n".encode(), "row 1: Key")
+        yield reported(f"no_keys: {key}", f"{key},one\n".encode(), "row 1: Key")
     yield from names()
-    for plan, answer in table():
-        yield told(f"plan_table: {plan}", lines(plan), answer)
+    for plan, result in table():
+        yield reported(f"plan_table: {plan}", lines(plan), result)
     for line in NEAR_CUTS:
         text = lines(f"name,one|{line}|rate,0|")
-        yield told(f"near_cuts: {line}", text, "row 2: Key")
-        yield told_by_compile(f"near_cuts: {line}", text, "row 2: Key")
-    for plan, answer in PLANS:
-        yield told(f"plan_table: {plan}", lines(plan), answer)
-        yield told_by_compile(f"plan_table: {plan}", lines(plan), answer)
+        yield reported(f"near_cuts: {line}", text, "row 2: Key")
+        yield reported_by_compile(f"near_cuts: {line}", text, "row 2: Key")
+    for plan, result in PLANS:
+        yield reported(f"plan_table: {plan}", lines(plan), result)
+        yield reported_by_compile(f"plan_table: {plan}", lines(plan), result)
     yield from of_the_mill("mills_and_leaches", "", LAST_RECORDS)
     yield from of_the_mill("bands_that_are_refused", "leach,h,1,1,", BANDS)
     yield from of_the_mill("second_band", "leach,h,1,1,", SECOND_BAND)
     yield from records_twice()
     yield from long_records()
-    for name, plan, answer in MARKED:
-        yield told(name, plan, answer)
-        yield told_by_compile(name, plan, answer)
-    for name, plan, answer in MANY:
-        yield told(f"ten_thousand_records: {name}", plan, answer)
-        yield told_by_compile(f"ten_thousand_records: {name}", plan, answer)
-    for name, plan, answer in LENGTHS:
-        yield told(f"bytes_of_a_plan: {name}", plan, answer)
-        yield told_by_compile(f"bytes_of_a_plan: {name}", plan, answer)
+    for name, plan, result in MARKED:
+        yield reported(name, plan, result)
+        yield reported_by_compile(name, plan, result)
+    for name, plan, result in MANY:
+        yield reported(f"ten_thousand_records: {name}", plan, result)
+        yield reported_by_compile(f"ten_thousand_records: {name}", plan, result)
+    for name, plan, result in LENGTHS:
+        yield reported(f"bytes_of_a_plan: {name}", plan, result)
+        yield reported_by_compile(f"bytes_of_a_plan: {name}", plan, result)

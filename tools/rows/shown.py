@@ -2,7 +2,7 @@
 import shlex
 from typing import Iterator
 
-from rows.trial import ANY, Content, Folder, Front, Link, Part, Parts, Pieces, Sum, Trial
+from rows.trial import ANY, Content, Folder, Prefix, Link, Part, Parts, Pieces, Sum, Trial
 
 # How many lines, and how many bytes of a line, are shown of a text.
 LINES, BYTES = 40, 300
@@ -10,8 +10,8 @@ LINES, BYTES = 40, 300
 
 def shown(trial: Trial) -> Iterator[str]:
     """Returns the lines that show a row. Bytes that are no letters are shown as `\\x..`, and so are line ends except LF."""
-    for words in [*trial.before, trial.words]:
-        yield "runs: " + shlex.join(["pitc", *map(word, words)])
+    for arguments in [*trial.before, trial.arguments]:
+        yield "runs: " + shlex.join(["pitc", *map(word, arguments)])
     if trial.source:
         yield f"standard input is {trial.source}"
     elif trial.given:
@@ -44,8 +44,8 @@ def content(what: str, of: Content) -> Iterator[str]:
         yield from text_lines(of)
     elif of == ANY:
         yield f"{what}: any text"
-    elif isinstance(of, (Part, Front)):
-        yield f"{what}: a text {'that begins with' if isinstance(of, Front) else 'with'}"
+    elif isinstance(of, (Part, Prefix)):
+        yield f"{what}: a text {'that begins with' if isinstance(of, Prefix) else 'with'}"
         yield from text_lines(of.text)
     elif isinstance(of, Parts):
         yield f"{what}: a text with each of these"

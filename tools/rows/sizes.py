@@ -11,7 +11,7 @@ import tempfile
 from rows import instance, large
 from rows.instance import arcs_of, at, plain_texts, sections, unlisted
 from rows.trial import HEADER, MARK, Later, Pieces, Trial, piped, refused
-from shared import CHECKED, ENDINGS, compile_words
+from shared import CHECKED, ENDINGS, compile_arguments
 
 ONE_AT_A_TIME = True
 
@@ -57,21 +57,21 @@ OLDER = at("b", dict.fromkeys(ENDINGS, b"older\n"))
 
 def compiles(*zones):
     """Returns the arguments of a run into the base `b`."""
-    return compile_words("plan", "b", zones)
+    return compile_arguments("plan", "b", zones)
 
 
 def million_rows(name):
     """The largest number of rows of a file, all of them valued by one valuer."""
     places = bench(0, 1000, 1000)
     left = at("b", texts_of(places, unlisted(0, 10**6)))
-    words, files = [*compiles("zone"), "--valuers", "1"], {"plan": ONE, "zone": rows(places)}
-    return Trial(name, words=words, files=files, out=b"rows 1000000\n", left=left)
+    arguments, files = [*compiles("zone"), "--valuers", "1"], {"plan": ONE, "zone": rows(places)}
+    return Trial(name, arguments=arguments, files=files, out=b"rows 1000000\n", left=left)
 
 
 def million_and_one(name):
     files = {**OLDER, "plan": ONE, "zone": rows([*bench(0, 1000, 1000), (0, 0, 1)])}
     line = "file 0 row 1000002 column whole: TooManyRows"
-    return refused(name, line, words=compiles("zone"), files=files)
+    return refused(name, line, arguments=compiles("zone"), files=files)
 
 
 def two_files(name):
@@ -108,7 +108,7 @@ def long_zone_file(size, name):
     mark = MARK if size == MOST else b""
     files = {"plan": ONE, "z": (mark + HEAD).ljust(size - len(END), b"b") + END}
     left = at("b", TWO_BLOCKS)
-    return Trial(name, words=compiles("z"), files=files, out=b"rows 2\n", left=left)
+    return Trial(name, arguments=compiles("z"), files=files, out=b"rows 2\n", left=left)
 
 
 def too_long():
@@ -118,22 +118,22 @@ def too_long():
     files = {"input": bytes(MOST + 1)}
     yield refused("an input that is too long", "input: TooLong", source="input", files=files)
     files = {**OLDER, "plan": TWO, "ore": rows(bench(0, 1, 1)), "long": files["input"]}
-    words = compiles("ore", "long")
-    yield refused("a zone file that is too long", "file 1: TooLong", words=words, files=files)
+    arguments = compiles("ore", "long")
+    yield refused("a zone file that is too long", "file 1: TooLong", arguments=arguments, files=files)
     files["long"] = MARK + bytes(MOST - 2)
     name = "a zone file that is too long, of which three bytes are a mark"
-    yield refused(name, "file 1: TooLong", words=words, files=files)
+    yield refused(name, "file 1: TooLong", arguments=arguments, files=files)
     files["ore"] = HEADER + b"0,0,0,1,?\n"
     line = "file 0 row 2 column grade: Number"
-    yield refused("a faulty file before one that is too long", line, words=words, files=files)
-    name, words = "a file that is too long before a faulty one", compiles("long", "ore")
-    yield refused(name, "file 0: TooLong", words=words, files=files)
+    yield refused("a faulty file before one that is too long", line, arguments=arguments, files=files)
+    name, arguments = "a file that is too long before a faulty one", compiles("long", "ore")
+    yield refused(name, "file 0: TooLong", arguments=arguments, files=files)
     marked = (MARK + b"x,y,z,tonnes,grade\n").ljust(MOST + 1, b"\n")
     name, files = "a file of blank lines, one byte too long", {"plan": ONE, "long": marked}
-    yield refused(name, "file 0: TooLong", words=compiles("long"), files=files)
+    yield refused(name, "file 0: TooLong", arguments=compiles("long"), files=files)
     files = at("b", {**ONE_BLOCK, "blocks": bytes(MOST + 1)})
     name = "a block file longer than a zone file may be"
-    yield refused(name, "blocks line 1: Fields", words=["check", "b"], files=files)
+    yield refused(name, "blocks line 1: Fields", arguments=["check", "b"], files=files)
 
 
 def long_file(ending, name):
@@ -141,7 +141,7 @@ def long_file(ending, name):
     remark = b"%" + b"x" * 200_000_000 + b"\n"
     counts = b"blocks 1 arcs 0 coefficients 0 limits 0 cpit 0\n"
     files = at("b", {**ONE_BLOCK, ending: remark + ONE_BLOCK[ending]})
-    return Trial(name, words=["check", "b"], files=files, out=counts)
+    return Trial(name, arguments=["check", "b"], files=files, out=counts)
 
 
 def five_million_piped(name):
@@ -157,27 +157,27 @@ def five_million_blocks(name):
         name,
         files={"plan": large.PLAN, **files},
         before=[compiles(*files)],
-        words=["check", "b"],
+        arguments=["check", "b"],
         out=large.COUNTS.encode() + b"\n",
         left=at("b", large.TEXTS),
     )
 
 
-def many_words():
+def many_arguments():
     """As many zone files as a plan may name, without a number of valuers, and extra arguments."""
     zones = {f"z{zone}": rows([(zone, 0, 0)]) for zone in range(64)}
     files, names = {"plan": plan_of(64), **zones}, list(zones)
     left = at("b", plain_texts(*files.values()))
     name = "sixty_four_files by as many valuers as are not asked for"
-    yield Trial(name, words=compiles(*names), files=files, out=b"rows 64\n", left=left)
-    line, words = "file 64: FeedFailed", [*compiles(*names), "none"]
-    yield refused("as many zone files as zones, and one that is not there", line, words=words, files=files)
+    yield Trial(name, arguments=compiles(*names), files=files, out=b"rows 64\n", left=left)
+    line, arguments = "file 64: FeedFailed", [*compiles(*names), "none"]
+    yield refused("as many zone files as zones, and one that is not there", line, arguments=arguments, files=files)
     for count in (90, 300, 450):
-        words = compiles(*(names[zone % 64] for zone in range(count)))
+        arguments = compiles(*(names[zone % 64] for zone in range(count)))
         name = f"{count} zone files for 64 zones"
-        yield refused(name, "settings: Files", words=words, files=files)
-        name, words = f"{count} zone files and one that is not there", [*words, "none"]
-        yield refused(name, f"file {count}: FeedFailed", words=words, files=files)
+        yield refused(name, "settings: Files", arguments=arguments, files=files)
+        name, arguments = f"{count} zone files and one that is not there", [*arguments, "none"]
+        yield refused(name, f"file {count}: FeedFailed", arguments=arguments, files=files)
 
 
 def trials():
@@ -186,7 +186,7 @@ def trials():
         sys.exit(f"tools/rows/sizes.py: less than {ROOM} bytes are free in {folder}; set TMPDIR")
     yield Later("five million blocks, by the pipe form", five_million_piped)
     yield Later("five million blocks", five_million_blocks)
-    yield from many_words()
+    yield from many_arguments()
     yield Later("a million rows", million_rows)
     yield Later("a million rows and one", million_and_one)
     yield Later("two_files_of_a_million_rows", two_files)

@@ -78,8 +78,8 @@ NO_BLOCKS = "blocks 0 arcs 0 coefficients 0 limits 0"
 # of its section. There are two resources.
 INDEX, BLOCK, RESOURCE = Cell("0", 0, 0, 9999), Cell("1", 0, 0, 1), Cell("0", 0, 0, 1)
 VALUE = Cell("1", 6, -(10**24), 10**24)
-LEAST = VALUE._replace(good="-1000000000000000000")
-GREATEST = VALUE._replace(good="1000000000000000000")
+SMALLEST = VALUE._replace(good="-1000000000000000000")
+LARGEST = VALUE._replace(good="1000000000000000000")
 AT_MOST, AT_LEAST, BETWEEN = Cell("L"), Cell("G"), Cell("I", stays=True)
 MASS, GRADE, ZONE = Cell("1", 3, 0, 10**9), Cell("1", 6, 0, 10**12), Cell("0", 0, 0, 63)
 
@@ -89,7 +89,7 @@ PREC_LINE = [BLOCK, BLOCK, RESOURCE], ["Order", "Count", "Twice"]
 LIMIT_LINES = [
     ([RESOURCE, BLOCK, AT_MOST, VALUE], []),
     ([RESOURCE, BLOCK, AT_LEAST, VALUE], []),
-    ([RESOURCE, BLOCK, BETWEEN, LEAST, GREATEST], []),
+    ([RESOURCE, BLOCK, BETWEEN, SMALLEST, LARGEST], []),
 ]
 
 # The second line of the objective, and the only one of each other section; then those of limits.
@@ -560,17 +560,17 @@ TAKEN = [
 ]
 
 
-def answered(name, texts, place, kind, counts=""):
+def result_of(name, texts, place, kind, counts=""):
     """Texts that are refused at a place, such as `prec line 2`, or accepted if no kind is given, with these counts."""
     files = at("b", dict(zip(CHECKED, texts)))
-    name, run = short(name), {"words": ["check", "b"], "files": files}
+    name, run = short(name), {"arguments": ["check", "b"], "files": files}
     if kind:
         return refused(name, f"{place}: {kind}", **run)
     return Trial(name, out=lines(counts + "|"), **run)
 
 
-def faulty(name, texts, line):
-    return answered(name, texts, *line.split(": "))
+def invalid(name, texts, line):
+    return result_of(name, texts, *line.split(": "))
 
 
 def lines_like(fields, others):
@@ -596,15 +596,15 @@ def fields_of(place, kinds_of_lines, texts_with, counts):
         for fields, kind in lines_like(*line):
             found.setdefault(" ".join(fields), kind)
     for line, kind in found.items():
-        yield answered(f"fields_of_a_line: {place}: {line}", texts_with(line), place, kind, counts)
+        yield result_of(f"fields_of_a_line: {place}: {line}", texts_with(line), place, kind, counts)
 
 
-def widths_of(place, front, counts, texts_with):
+def widths_of(place, prefix, counts, texts_with):
     """Yields lines with this prefix, and of `?` up to 12 fields: wrong numbers of fields come before invalid fields."""
-    for count in range(max(1, len(front)), 13):
+    for count in range(max(1, len(prefix)), 13):
         kind = "Number" if count in counts else "Fields"
-        texts = texts_with(" ".join([*front, *["?"] * (count - len(front))]))
-        yield answered(f"width_of_a_line: {place}: {front}, {count} fields", texts, place, kind)
+        texts = texts_with(" ".join([*prefix, *["?"] * (count - len(prefix))]))
+        yield result_of(f"width_of_a_line: {place}: {prefix}, {count} fields", texts, place, kind)
 
 
 def lines_of_blocks():
@@ -637,8 +637,8 @@ def lines_of_sections(file, good, lines_of, texts_of, counts):
     one = counts.replace("limits 2", "limits 1") if file == "pcpsp" else counts
     yield from fields_of(place, LIMIT_LINES, texts_with_limit, one)
     for line in LIMIT_LINES:
-        front = ["?", "?", line[0][2].good]
-        yield from widths_of(place, front, [len(line[0])], texts_with_limit)
+        prefix = ["?", "?", line[0][2].good]
+        yield from widths_of(place, prefix, [len(line[0])], texts_with_limit)
     yield from letters_of(place, texts_with_limit, one)
 
 
@@ -647,9 +647,9 @@ def letters_of(place, texts_with, counts):
     for letter in [*LETTERS, "LL", "LE", "GE", "IN", "<", "<=", ">", ">=", "=", "1"]:
         name = f"letters_of_limits: {place}: {letter}"
         kind = {"L": None, "G": None, "I": "Fields"}.get(letter, "Name")
-        yield answered(name, texts_with(f"0 0 {letter} 2"), place, kind, counts)
+        yield result_of(name, texts_with(f"0 0 {letter} 2"), place, kind, counts)
         if letter != "I":
-            yield answered(f"{name}, 5 fields", texts_with(f"0 0 {letter} 1 2"), place, "Fields")
+            yield result_of(f"{name}, 5 fields", texts_with(f"0 0 {letter} 1 2"), place, "Fields")
 
 
 def orders(file, good, key, ends, tail, texts_of, counts):
@@ -660,18 +660,18 @@ def orders(file, good, key, ends, tail, texts_of, counts):
     places, section = list(itertools.product(*map(range, ends))), number_of(good, key)
     below = next((line for line in range(section, len(good)) if ":" in good[line]), len(good))
 
-    def answers(name, *chosen):
+    def results(name, *chosen):
         items = [" ".join(map(str, place)) + tail for place in chosen]
         texts = texts_of([*good[:section], *items, *good[below:]])
         kind = None if chosen[-2] < chosen[-1] else "Order"
         place = f"{file} line {section + len(items)}"
         name = f"order_of_lines: {file}: {name} {tail}"
-        return answered(name, texts, place, kind, counts.format(len(items)))
+        return result_of(name, texts, place, kind, counts.format(len(items)))
 
     for first, second in itertools.product(places, places):
-        yield answers(f"{first} {second}", first, second)
+        yield results(f"{first} {second}", first, second)
     for last in places:
-        yield answers(f"{last} as the third", places[0], places[-2], last)
+        yield results(f"{last} as the third", places[0], places[-2], last)
 
 
 class Header(NamedTuple):
@@ -687,13 +687,13 @@ class Header(NamedTuple):
         """The number of header lines."""
         return len(self.good) - 3
 
-    def answered(self, name, changed, number=0, kind=None):
+    def result_of(self, name, changed, number=0, kind=None):
         """Returns the result for the changed file: a fault of this line, or its counts."""
         if isinstance(changed, Change):
             changed = changed.of(self.good)
         text = changed if isinstance(changed, bytes) else whole(changed)
         name, place = f"{self.file}: {name}", f"{self.file} line {number}"
-        return answered(name, [*self.texts, text], place, kind, self.counts)
+        return result_of(name, [*self.texts, text], place, kind, self.counts)
 
 
 def headers(of):
@@ -705,18 +705,18 @@ def headers(of):
     for first, second in itertools.combinations(range(of.head + 1, of.head + 4), 2):
         turned = put(second, of.good[first - 1]).of(put(first, of.good[second - 1]).of(of.good))
         name = f"sections_out_of_turn: {turned[first - 1]} as line {first}"
-        yield of.answered(name, turned, first, "Key")
+        yield of.result_of(name, turned, first, "Key")
         changed = put(first, turned[first - 1] + " 1").of(turned)
-        yield of.answered(f"{name} and a field", changed, first, "Key")
+        yield of.result_of(f"{name} and a field", changed, first, "Key")
     for seed in range(8):
         keys = random.Random(seed).sample(of.good[: of.head], of.head)
         name = f"keys_in_mixed_order: {', '.join(key.partition(':')[0] for key in keys)}"
-        yield of.answered(name, [*keys, *of.good[of.head :]])
+        yield of.result_of(name, [*keys, *of.good[of.head :]])
     ends = [("", 1), ("% x\n\n \n", 4), ("% x\n ", 3), ("\r", 2)]
     for count, (rest, more) in itertools.product(range(len(of.good)), ends):
         text = whole(of.good[:count]) + rest.encode()
         name = f"texts_that_end: {count} lines and {rest!r}"
-        yield of.answered(name, text, count + more, "Missing")
+        yield of.result_of(name, text, count + more, "Missing")
 
 
 def spellings_of_a_key(of, number, line):
@@ -728,12 +728,12 @@ def spellings_of_a_key(of, number, line):
         *(key.replace("_", other) for other in (" ", "-", "") if "_" in key),
     ]:
         name = f"no_keys: {other} for {key}"
-        yield of.answered(name, put(number, f"{other}:{value}"), number, "Key")
+        yield of.result_of(name, put(number, f"{other}:{value}"), number, "Key")
     blanks = [f"{key} \t:{value}", f" \t{line}", f"{line} \t\r"]
     if value:
         blanks += [line.replace(" ", ""), line.replace(" ", "\t \t")]
     for other in blanks:
-        yield of.answered(f"blanks_about_keys: {other!r}", put(number, other))
+        yield of.result_of(f"blanks_about_keys: {other!r}", put(number, other))
 
 
 def header_key(of, number, line):
@@ -743,33 +743,33 @@ def header_key(of, number, line):
         if key == "NBLOCKS" and stated:
             kind = "Count"
         other = f"{key}: {text}"
-        yield of.answered(f"header_numbers: {other}", put(number, other), number, kind)
+        yield of.result_of(f"header_numbers: {other}", put(number, other), number, kind)
     for other in [f"{line} x", f"{line} {line}", f"{key}::{value} x", f"{key}: ? ?", f"{key}:"]:
-        yield of.answered(f"values_of_keys: {other}", put(number, other), number, "Fields")
+        yield of.result_of(f"values_of_keys: {other}", put(number, other), number, "Fields")
     name = f"values_of_keys: {key} without a colon"
-    yield of.answered(name, put(number, key + value), number, "Key")
+    yield of.result_of(name, put(number, key + value), number, "Key")
     others, name = without(number).of(of.good), f"keys_that_lack: {key}"
-    yield of.answered(name, others, of.head, "Missing")
+    yield of.result_of(name, others, of.head, "Missing")
     changed = put(of.head, others[of.head - 1] + " 1").of(others)
-    yield of.answered(f"{name}, and a field behind the section", changed, of.head, "Fields")
+    yield of.result_of(f"{name}, and a field behind the section", changed, of.head, "Fields")
     for other in [line, f"{key}: ?", f"{key}:", f"{key}: 1 2"]:
         changed = before(of.head + 1, other)
-        yield of.answered(f"keys_twice: {other}", changed, of.head + 1, "Twice")
+        yield of.result_of(f"keys_twice: {other}", changed, of.head + 1, "Twice")
     for later in range(of.head + 2, of.head + 5):
         name = f"keys_behind_sections: {key} as line {later}"
-        yield of.answered(name, before(later, line), later, "Key")
+        yield of.result_of(name, before(later, line), later, "Key")
     for place in {1, of.head} - {number}:
         name = f"keys_in_any_order: {key} as line {place}"
-        yield of.answered(name, before(place, line).of(others))
+        yield of.result_of(name, before(place, line).of(others))
 
 
 def section_line(of, number, line):
     """The line of a section with fields after it, twice, and without its colon."""
     for other in [f"{line} 0", f"{line}:", f"{line} x:"]:
-        yield of.answered(f"values_of_keys: {other}", put(number, other), number, "Fields")
-    yield of.answered(f"sections_twice: {line}", before(number, line), number + 1, "Key")
+        yield of.result_of(f"values_of_keys: {other}", put(number, other), number, "Fields")
+    yield of.result_of(f"sections_twice: {line}", before(number, line), number + 1, "Key")
     kind = "Key" if number == of.head + 1 else "Fields"
-    yield of.answered(f"sections_without_colons: {line}", put(number, line[:-1]), number, kind)
+    yield of.result_of(f"sections_without_colons: {line}", put(number, line[:-1]), number, kind)
 
 
 def words_of_headers(of):
@@ -780,43 +780,43 @@ def words_of_headers(of):
             kind = "Fields" if name[1:2] in BLANKS else "Name"
             if is_name or name == b"de\r":
                 kind = None
-            yield of.answered(f"bytes_of_a_name: {name}", changed, 1, kind)
+            yield of.result_of(f"bytes_of_a_name: {name}", changed, 1, kind)
     for length in (1, 63, 64, 65, 1000):
         kind = None if length <= 64 else "Name"
         name = f"length_of_a_name: {length}"
-        yield of.answered(name, put("NAME", "NAME: " + "a" * length), 1, kind)
+        yield of.result_of(name, put("NAME", "NAME: " + "a" * length), 1, kind)
     for name in ("NAME", "..", "a..b", "periods", "1.5", "EOF"):
-        yield of.answered(f"names_of_instances: {name}", put("NAME", f"NAME: {name}"))
+        yield of.result_of(f"names_of_instances: {name}", put("NAME", f"NAME: {name}"))
     far = put("NAME", "NAME:" + " " * 1_000_000 + "one")
-    yield of.answered("a_name_behind_a_million_blanks", far)
+    yield of.result_of("a_name_behind_a_million_blanks", far)
     right = of.file.upper()
     wrong = [right.lower(), right.title(), right[:-1], right[1:], right + "S", "UPIT", "?"]
     for other in [*wrong, "PCPSPCPIT".replace(right, "")]:
-        yield of.answered(f"types: {other}", put("TYPE", "TYPE: " + other), 2, "Name")
+        yield of.result_of(f"types: {other}", put("TYPE", "TYPE: " + other), 2, "Name")
 
 
 def bytes_of_lines():
     """Each byte between two fields, before a line, at its end and in a remark."""
-    def answers(name, line, place, kind):
+    def results(name, line, place, kind):
         texts = b"0 0 0 0 1000 5000 0\n" + line + b"\n", PREC, whole(PCPSP)
-        return answered(name, texts, place, kind, TWO_BLOCKS)
+        return result_of(name, texts, place, kind, TWO_BLOCKS)
 
     place = "blocks line 2"
     for byte in EVERY_BYTE:
         kind = None if byte in BLANKS else "Fields"
-        yield answers(f"bytes_between_fields: {byte}", b"1 1 0 0 0 7" + byte + b"0", place, kind)
+        yield results(f"bytes_between_fields: {byte}", b"1 1 0 0 0 7" + byte + b"0", place, kind)
         kind = {b"-": "Range", b".": "TooFine"}.get(byte, "Number")
         if byte in b"\n+0123456789" + BLANKS:
             kind = "Order" if byte in b"123456789" else None
         line = byte + b"1 1 0 0 0 7 0"
         if byte == b"%":
-            yield answers("bytes_before_fields: a remark", line, "prec line 1", "Range")
+            yield results("bytes_before_fields: a remark", line, "prec line 1", "Range")
         else:
-            yield answers(f"bytes_before_fields: {byte}", line, place, kind)
+            yield results(f"bytes_before_fields: {byte}", line, place, kind)
         kind = None if byte in BLANKS + b"\n\r.0123456789" else "Number"
-        yield answers(f"bytes_behind_fields: {byte}", b"1 1 0 0 0 7 0" + byte, place, kind)
+        yield results(f"bytes_behind_fields: {byte}", b"1 1 0 0 0 7 0" + byte, place, kind)
         line, kind = b"% " + byte + b"x\n1 1 0 0 0 7 0", "Fields" if byte == b"\n" else None
-        yield answers(f"bytes_of_a_remark: {byte}", line, "blocks line 3", kind)
+        yield results(f"bytes_of_a_remark: {byte}", line, "blocks line 3", kind)
 
 
 def lines_between():
@@ -824,15 +824,15 @@ def lines_between():
     texts = [BLOCKS, PREC, whole(PCPSP), whole(CPIT)]
     for number, file in enumerate(CHECKED):
         text, is_line = texts[number], number < 2
-        def answers(name, changed, line=0, kind=None):
+        def results(name, changed, line=0, kind=None):
             changed = [*texts[:number], changed, *texts[number + 1 :]]
-            return answered(name, changed, f"{file} line {line}", kind, TWO_BLOCKS + " cpit 1")
+            return result_of(name, changed, f"{file} line {line}", kind, TWO_BLOCKS + " cpit 1")
         for line in SKIPPED + NOT_SKIPPED:
             changed = text.replace(b"\n", f"\n{line}\n".encode(errors="surrogateescape"), 1)
             kind = None if line in SKIPPED else "Fields" if is_line else "Key"
-            yield answers(f"lines_between: {file}: {line!r}", changed, 2, kind)
+            yield results(f"lines_between: {file}: {line!r}", changed, 2, kind)
         kind, changed = "Number" if is_line else "Key", b"\n" + MARK + text
-        yield answers(f"ends_of_lines: {file}: a line end and a mark", changed, 2, kind)
+        yield results(f"ends_of_lines: {file}: a line end and a mark", changed, 2, kind)
         tabbed = text.replace(b" ", b" \t ").replace(b"\n", b"\t \n  ")
         for name, changed, kind in [
             ("CR LF", text.replace(b"\n", b"\r\n"), None),
@@ -847,7 +847,7 @@ def lines_between():
             ("a mark of UTF-16", b"\xFF\xFE" + text, "Number" if is_line else "Key"),
             ("another mark of UTF-16", b"\xFE\xFF" + text, "Number" if is_line else "Key"),
         ]:
-            yield answers(f"ends_of_lines: {file}: {name}", changed, 1, kind)
+            yield results(f"ends_of_lines: {file}: {name}", changed, 1, kind)
 
 
 def model_files():
@@ -882,13 +882,13 @@ def long_lines():
     for more in (16, 32, 64, 100, 256, 65_536):
         fields = " 0" * more
         blocks = f"0 0 0 0 1 0 0\n1 0 0 0 1 0 0{fields}\n".encode()
-        yield faulty(f"long_lines: blocks, {more}", (blocks, PREC, b""), "blocks line 2: Fields")
+        yield invalid(f"long_lines: blocks, {more}", (blocks, PREC, b""), "blocks line 2: Fields")
         for file, good, texts_of in [("pcpsp", PCPSP, with_pcpsp), ("cpit", CPIT, with_cpit)]:
             for line in LINES_OF_EACH_KIND if more < 65_536 else range(1, len(good) + 1):
                 number = number_of(good, line)
                 texts = texts_of(put(number, good[number - 1] + fields).of(good))
                 name = f"long_lines: {file} line {number}, {more}"
-                yield answered(name, texts, f"{file} line {number}", "Fields")
+                yield result_of(name, texts, f"{file} line {number}", "Fields")
 
 
 def changed_files():
@@ -903,17 +903,17 @@ def changed_files():
             for change in changes:
                 change = put(line, change) if isinstance(change, str) else change
                 texts, place = texts_of(change.of(good)), f"{file} line {number_of(good, line)}"
-                yield answered(f"{name}: {change}", texts, place, kind)
+                yield result_of(f"{name}: {change}", texts, place, kind)
     texts = [*with_one_pcpsp(ONE_PCPSP), whole(CPIT)]
-    yield faulty("cpit_destinations: of two blocks", texts, "cpit line 3: Count")
-    values, behind = cut_before("OBJECTIVE+1"), number_of(ONE_PCPSP, "OBJECTIVE+2")
+    yield invalid("cpit_destinations: of two blocks", texts, "cpit line 3: Count")
+    values, after = cut_before("OBJECTIVE+1"), number_of(ONE_PCPSP, "OBJECTIVE+2")
     cut = ONE_BLOCK, ONE_PREC, whole(values.of(ONE_PCPSP)) + b"0 1"
     name = "hostile_minelib_texts: a model file that is cut"
-    yield faulty(name, cut, f"pcpsp line {behind}: Missing")
-    cut, behind = with_cpit(values.of(CPIT)), number_of(CPIT, "OBJECTIVE+2")
+    yield invalid(name, cut, f"pcpsp line {after}: Missing")
+    cut, after = with_cpit(values.of(CPIT)), number_of(CPIT, "OBJECTIVE+2")
     cut = *cut[:3], cut[3] + b"0 1"
     name = "hostile_minelib_texts: a CPIT that is cut"
-    yield faulty(name, cut, f"cpit line {behind}: Missing")
+    yield invalid(name, cut, f"cpit line {after}: Missing")
 
 
 def blocks_and_precedences():
@@ -928,16 +928,16 @@ def blocks_and_precedences():
     ]:
         for line, *changed in table:
             for texts in map(texts_of, changed):
-                yield faulty(f"{name}: {texts[0]}, {texts[1]}", texts, line)
+                yield invalid(f"{name}: {texts[0]}, {texts[1]}", texts, line)
     for line, prec in NINE_ABOVE:
-        yield faulty(f"nine_above: {prec}", (TEN_BLOCKS, prec + rest, b""), line)
+        yield invalid(f"nine_above: {prec}", (TEN_BLOCKS, prec + rest, b""), line)
     for kind, *changed in LINES_OF_TEN:
         for line in changed:
             texts = TEN_BLOCKS, line.encode() + b"\n1 0\n2 0\n" + rest, b""
-            told = f"prec line 1: {kind}" if kind else "pcpsp line 1: Missing"
-            yield faulty(f"lines_of_ten: {line}", texts, told)
+            reported = f"prec line 1: {kind}" if kind else "pcpsp line 1: Missing"
+            yield invalid(f"lines_of_ten: {line}", texts, reported)
     for prec, pcpsp, line in TEXTS_OF_NO_BLOCK:
-        yield faulty(f"texts_of_no_block: {prec}, {pcpsp[:20]}", (MARK, prec, pcpsp), line)
+        yield invalid(f"texts_of_no_block: {prec}, {pcpsp[:20]}", (MARK, prec, pcpsp), line)
 
 
 def late_lines():
@@ -948,10 +948,10 @@ def late_lines():
         for skipped in (b"\n", b"% x\n"):
             changed = [*texts[:number], skipped * count + b"x\n" + text, *texts[number + 1 :]]
             name = f"late_lines: {file}, {count} {skipped!r}"
-            yield faulty(name, changed, f"{file} line {count + 1}: {kind}")
+            yield invalid(name, changed, f"{file} line {count + 1}: {kind}")
         changed = [*texts[:number], text + b"\n" * count + b"x\n", *texts[number + 1 :]]
         name, place = f"late_lines: {count} behind {file}", len(text.splitlines()) + count + 1
-        yield faulty(name, changed, f"{file} line {place}: Fields")
+        yield invalid(name, changed, f"{file} line {place}: Fields")
 
 
 # How many predecessors there are, and what `k` says instead.
@@ -961,10 +961,10 @@ OTHER_COUNTS = [(300, 44), (5_000, 904), (70_000, 4_464)]
 def far_lines():
     """Faults far from the start, or among many: another count, a repeated predecessor, an identifier that is a power of two less, a mark
     alone, and intervals that end at a power of two millionths."""
-    for count, told in OTHER_COUNTS:
+    for count, reported in OTHER_COUNTS:
         blocks, prec, pcpsp = many_predecessors(count)
-        line = prec.replace(f"0 {count} ".encode(), f"0 {told} ".encode(), 1)
-        yield faulty(f"far_lines: {told} for {count}", (blocks, line, pcpsp), "prec line 1: Count")
+        line = prec.replace(f"0 {count} ".encode(), f"0 {reported} ".encode(), 1)
+        yield invalid(f"far_lines: {reported} for {count}", (blocks, line, pcpsp), "prec line 1: Count")
     blocks, prec, pcpsp = many_predecessors(5_000)
     cpit = pcpsp.replace(b"PCPSP", b"CPIT").replace(b"NDESTINATIONS: 1\n", b"").replace(
         b"NGENERAL_SIDE_CONSTRAINTS: 0\n", b"")
@@ -974,15 +974,15 @@ def far_lines():
         changed = texts[place][:at] + b"904 " + texts[place][at + 5 :]
         line = texts[place][:at].count(b"\n") + 1
         texts_with = [*texts[:place], changed, *texts[place + 1 :]]
-        yield faulty(f"far_lines: 904 for 5000 in {file}", texts_with, f"{file} line {line}: Order")
+        yield invalid(f"far_lines: 904 for 5000 in {file}", texts_with, f"{file} line {line}: Order")
     for again in (b" 4999 4999\n", b" 1 5000\n"):
         line = prec.replace(b" 4999 5000\n", again, 1)
-        yield faulty(f"far_lines: predecessors that end with{again}", (blocks, line, b"x\n"), "prec line 1: Twice")
-    yield faulty("far_lines: a CPIT that is a mark", (b"", b"", NO_PCPSP, MARK), "cpit line 1: Missing")
+        yield invalid(f"far_lines: predecessors that end with{again}", (blocks, line, b"x\n"), "prec line 1: Twice")
+    yield invalid("far_lines: a CPIT that is a mark", (b"", b"", NO_PCPSP, MARK), "cpit line 1: Missing")
     for ends in ("1 4294.967296", "1 9007199254.740992", "1 18446744073709.551616"):
         for texts_of, good, more in ((with_pcpsp, PCPSP, ""), (with_cpit, CPIT, " cpit 1")):
             texts = texts_of(put("LIMITS+1", f"0 0 I {ends}").of(good))
-            yield answered(f"far_lines: I {ends}{more}", texts, None, None, TWO_BLOCKS + more)
+            yield result_of(f"far_lines: I {ends}{more}", texts, None, None, TWO_BLOCKS + more)
 
 
 def trials():
@@ -999,6 +999,6 @@ def trials():
         for numbers in spellings:
             texts = with_pcpsp(put("OBJECTIVE+1", "0 " + numbers).of(PCPSP))
             name, place = f"further_spellings: {numbers}", number_of(PCPSP, "OBJECTIVE+1")
-            yield answered(name, texts, f"pcpsp line {place}", kind, TWO_BLOCKS)
+            yield result_of(name, texts, f"pcpsp line {place}", kind, TWO_BLOCKS)
     for name, texts, counts in TAKEN:
-        yield answered(name, texts, None, None, counts)
+        yield result_of(name, texts, None, None, counts)

@@ -67,14 +67,14 @@ def mask_of(blocks):
     return sum(1 << block for block in blocks)
 
 
-def left_of(lists):
+def retained_of(lists):
     """Returns for each list the blocks that are predecessors of no other one of it."""
     taken, left = list(map(mask_of, lists)), []
     for one in lists:
-        behind = 0
+        after = 0
         for other in one:
-            behind |= taken[other]
-        left.append([c for c in one if not behind >> c & 1])
+            after |= taken[other]
+        left.append([c for c in one if not after >> c & 1])
     return left
 
 
@@ -87,15 +87,15 @@ def reaches(lists):
     return found
 
 
-def least_of(lists):
+def smallest_of(lists):
     """Returns the transitive reduction: for each list, the blocks to which no path goes from another one of it."""
-    reached, least = reaches(lists), []
+    reached, smallest = reaches(lists), []
     for one in lists:
-        behind = 0
+        after = 0
         for other in one:
-            behind |= reached[other]
-        least.append([c for c in one if not behind >> c & 1])
-    return least
+            after |= reached[other]
+        smallest.append([c for c in one if not after >> c & 1])
+    return smallest
 
 
 def text_of(lists):
@@ -135,21 +135,21 @@ def thinned(name, cells, zones, *given, **how):
     return Later(name, lambda name: made(name, cells, zones, *given, **how))
 
 
-def made(name, cells, zones, sizes=(10, 10, 10), words=(), origin=(0, 0, 0), masses=ALIKE):
+def made(name, cells, zones, sizes=(10, 10, 10), arguments=(), origin=(0, 0, 0), masses=ALIKE):
     """A run that writes the retained arcs of zones with these cells in the plan. Sizes and origin are in metres."""
     cones = list(map(cone_of, cells))
     lists = lists_of(millimetres(sizes), cones, zones)
-    left, least = left_of(lists), least_of(lists)
-    assert reaches(left) == reaches(least) == reaches(lists)
-    assert all(set(few) <= set(some) for few, some in zip(least, left))
-    assert left == least or len(set(cones)) > 1
+    left, smallest = retained_of(lists), smallest_of(lists)
+    assert reaches(left) == reaches(smallest) == reaches(lists)
+    assert all(set(few) <= set(some) for few, some in zip(smallest, left))
+    assert left == smallest or len(set(cones)) > 1
     grid = ",".join(map(str, [*origin, *sizes]))
     plan = PLAN.format(grid=grid, zones="\n".join("zone," + cell for cell in cells))
     paths = {f"zone{number}": places for number, places in enumerate(zones)}
     files = {path: zone_file(*rows_of(places, *map(millimetres, (sizes, origin)), masses))
              for path, places in paths.items()}
     return Trial(
-        name, words=["--plan", "plan", "--out", "thin", *words, *paths],
+        name, arguments=["--plan", "plan", "--out", "thin", *arguments, *paths],
         files={"plan": plan.encode(), **files}, **written(text_of(left), lists))
 
 
@@ -173,8 +173,8 @@ def of_zones():
     over = [box(range(6), range(6), range(3)), box(range(6), range(6), range(3, 6))]
     yield thinned("unlike slopes and K above one another", ["1,1,5", "2,1,2"], over)
     yield thinned("the flatter zone above", ["2,1,4", "1,2,3"], over)
-    for words in (["--valuers", "1", "--capacity", "1"], ["--valuers", "64"]):
-        yield thinned(" ".join(words), ["1,1,3"], [whole], words=words)
+    for arguments in (["--valuers", "1", "--capacity", "1"], ["--valuers", "64"]):
+        yield thinned(" ".join(arguments), ["1,1,3"], [whole], arguments=arguments)
 
 
 # The sizes and the cone of full rock with these reaches to each side, and how many arcs the block in its middle has, four benches below its
@@ -190,7 +190,7 @@ def of_full_rock():
         bench = range(2 * side + 1)
         places = [(side, side, 0), *box(bench, bench, range(1, 5))]
         lists = lists_of(sizes, [cone_of(cells)], [places])
-        assert (len(lists[0]), len(left_of(lists)[0])) == (whole, left)
+        assert (len(lists[0]), len(retained_of(lists)[0])) == (whole, left)
         yield thinned(f"full rock: {cells} of {sizes}", [cells], [places], sizes)
 
 
@@ -209,9 +209,9 @@ UNLIKE_CONES = [
 def of_unlike_cones():
     """Zones whose cones differ: retained arcs worked out manually; and layers, sides, benches and holes, for which dropping only what
     follows retained arcs would keep more."""
-    for name, cells, zones, left, least in UNLIKE_CONES:
+    for name, cells, zones, left, smallest in UNLIKE_CONES:
         lists = lists_of([10_000] * 3, list(map(cone_of, cells)), zones)
-        assert (left_of(lists)[0], least_of(lists)[0]) == (left, least)
+        assert (retained_of(lists)[0], smallest_of(lists)[0]) == (left, smallest)
         yield thinned(f"unlike cones: {name}", cells, zones)
     side, benches = range(7), range(8)
     whole = box(side, side, benches)
@@ -386,8 +386,8 @@ def of_fullest():
     zones = {f"zone{number}": text for number, text in enumerate(fullest.ZONES)}
     for number, plan in enumerate([fullest.PLAN, *fullest.DRESSED]):
         yield Trial(
-            f"as much as a plan may hold, {number}", words=["--plan", "plan", "--out", "thin", *zones],
-            files={"plan": plan, **zones}, **written(text_of(left_of(lists)), lists))
+            f"as much as a plan may hold, {number}", arguments=["--plan", "plan", "--out", "thin", *zones],
+            files={"plan": plan, **zones}, **written(text_of(retained_of(lists)), lists))
 
 
 def cross(side, z, y, x):
@@ -404,12 +404,12 @@ def of_crosses(name, side=160):
     disc = [(x, y) for x in range(-2, 3) for y in range(-2, 3) if x * x + y * y <= 4]
     crosses = 2 * (5 * side * side - 4 * side)
     arcs = crosses + sum((side - abs(x)) * (side - abs(y)) for x, y in disc)
-    told = b"rows %d arcs %d of %d\n" % (len(places), crosses, arcs)
+    reported = b"rows %d arcs %d of %d\n" % (len(places), crosses, arcs)
     rows = zone_file(*(f"{x}0,{y}0,{z}0,1,0" for x, y, z in reversed(places)))
     plan = PLAN.format(grid="0,0,0,10,10,10", zones="zone,1,1,2").encode()
     return Trial(
-        name, words=["--plan", "plan", "--out", "thin", "zone0"],
-        files={"plan": plan, "zone0": rows}, out=told, left={"thin": text_of(left)})
+        name, arguments=["--plan", "plan", "--out", "thin", "zone0"],
+        files={"plan": plan, "zone0": rows}, out=reported, left={"thin": text_of(left)})
 
 
 def of_large_models():

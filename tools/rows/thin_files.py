@@ -1,19 +1,19 @@
 """What pitc_thin reports on its arguments, on plans and zone files, and what becomes of the file that it writes: the rows of `compile`, as
 far as they apply to it.
 """
-from rows import compile_form, names, pairs, plans, words as words_of_compile, zone_rows
-from rows.compile_form import ACCEPTED, FAULTY_ROWS, REFUSED, WRITTEN, compile_words
+from rows import compile_form, names, pairs, plans, words as rows_of_compile, zone_rows
+from rows.compile_form import ACCEPTED, INVALID_ROWS, REFUSED, WRITTEN, compile_arguments
 from rows.instance import ONE_ORE_BLOCK, ORE, PLAN, unlisted
-from rows.trial import Folder, Front, Link, Parts, Trial, lines, refused, zone_file
+from rows.trial import Folder, Prefix, Link, Parts, Trial, lines, refused, zone_file
 
 # Files in place of the one that is written: it is as long as its text, whatever its length was, and stays if the run is refused.
 OLDER = {"longer": b"0 0\n1 1 0\n" * 1000, "shorter": b"9", "as long": b"9 9\n", "empty": b""}
 
 
-def thin_words(words):
+def thin_arguments(arguments):
     """Returns the arguments of a run of compile, as arguments of pitc_thin, and its files."""
-    run = compile_words(words)
-    return {"words": ["--out", "thin", *run["words"][3:]], "files": run["files"]}
+    run = compile_arguments(arguments)
+    return {"arguments": ["--out", "thin", *run["arguments"][3:]], "files": run["files"]}
 
 
 def no_arcs(count):
@@ -24,33 +24,33 @@ def no_arcs(count):
 def as_thin(trial, older=OLDER["longer"], left=()):
     """A run of `compile`, as one of pitc_thin into the file at its base, over an older one: it is refused in the same way, or prints and
     writes these."""
-    words, base = trial.words[1:], trial.words[trial.words.index("--out") + 1]
+    arguments, base = trial.arguments[1:], trial.arguments[trial.arguments.index("--out") + 1]
     at_base = {name: text for name, text in trial.files.items() if name.startswith(base + ".")}
     others = {name: text for name, text in trial.files.items() if name not in at_base}
     is_full = Link("/dev/full") in at_base.values()
     put = Link("/dev/full") if is_full else older
     files = {**others, base: others.get(base, put)}
-    run = trial._replace(words=words, files=files, out=b"", left={})
+    run = trial._replace(arguments=arguments, files=files, out=b"", left={})
     return run._replace(out=left[0], left={base: left[1]}) if left else run
 
 
 def of_refusals():
-    for name, line, words in REFUSED:
-        yield refused(name, line, **thin_words(words))
-        run = thin_words(words)
+    for name, line, arguments in REFUSED:
+        yield refused(name, line, **thin_arguments(arguments))
+        run = thin_arguments(arguments)
         for which, older in list(OLDER.items())[:2]:
             files = {**run["files"], "thin": older}
-            yield refused(f"{name}, and a {which} file", line, words=run["words"], files=files)
+            yield refused(f"{name}, and a {which} file", line, arguments=run["arguments"], files=files)
     for name, put in (("a folder", Folder()), ("a full device", Link("/dev/full"))):
-        run = thin_words("one ore")
+        run = thin_arguments("one ore")
         run["files"]["thin"] = put
         yield refused(f"{name} in the place of the file", "sink prec: SinkFailed", **run)
     for base in ("no/such/thin", "ore/thin", "one/"):
-        run = thin_words("one ore")
-        run["words"][1] = base
+        run = thin_arguments("one ore")
+        run["arguments"][1] = base
         yield refused(f"a file in no folder: {base}", "sink prec: SinkFailed", **run)
-    for row, fault in FAULTY_ROWS:
-        run = thin_words("one odd")
+    for row, fault in INVALID_ROWS:
+        run = thin_arguments("one odd")
         run["files"] = {**run["files"], "odd": zone_file(row), "thin": OLDER["shorter"]}
         yield refused(f"the row {row}", f"file 0 row 2 column {fault}", **run)
 
@@ -59,37 +59,37 @@ def of_files():
     """The files that are written, on files of every length, and on those that are read."""
     out, text = no_arcs(1)
     for which, older in OLDER.items():
-        run = thin_words("one ore")
+        run = thin_arguments("one ore")
         run["files"] = {**run["files"], "thin": older}
         yield Trial(f"a {which} file before it", out=out, left={"thin": text}, **run)
     for which, name in [("zone file", "ore"), ("plan", "one")]:
-        run = thin_words("one ore")
-        run["words"][1] = name
+        run = thin_arguments("one ore")
+        run["arguments"][1] = name
         yield Trial(f"the file is the {which}", out=out, left={name: text}, **run)
-        run = thin_words("one ore ore")
-        run["words"][1] = name
+        run = thin_arguments("one ore ore")
+        run["arguments"][1] = name
         yield refused(f"the file is the {which}, and a refusal", "settings: Files", **run)
     for name in ("place/thin", "place/../thin", "./thin", ".//place//thin"):
-        run = thin_words("one ore")
-        run["words"][1], run["files"]["place"] = name, Folder()
+        run = thin_arguments("one ore")
+        run["arguments"][1], run["files"]["place"] = name, Folder()
         left = {"thin" if "place/t" not in name.replace("//", "/") else "place/thin": text}
         yield Trial(f"a path to the file: {name}", out=out, left=left, **run)
-    run = thin_words("one ore")
+    run = thin_arguments("one ore")
     run["files"] = {**run["files"], "thin": Link("other"), "other": OLDER["longer"]}
     yield Trial("a link to another file", out=out, left={"other": text}, **run)
 
 
 def of_spellings():
     """Plans and zone files in every format."""
-    for name, words, given in ACCEPTED:
+    for name, arguments, given in ACCEPTED:
         out, text = no_arcs(1)
-        yield Trial(name, given=given, out=out, left={"thin": text}, **thin_words(words))
-    for name, words, texts in WRITTEN:
+        yield Trial(name, given=given, out=out, left={"thin": text}, **thin_arguments(arguments))
+    for name, arguments, texts in WRITTEN:
         if texts["prec"] == lines(unlisted(0, texts["prec"].count(b"\n"))):
             out, text = no_arcs(texts["prec"].count(b"\n"))
-            yield Trial(name, out=out, left={"thin": text}, **thin_words(words))
+            yield Trial(name, out=out, left={"thin": text}, **thin_arguments(arguments))
     for trial in zone_rows.second_files():
-        if trial.words:
+        if trial.arguments:
             count = int(trial.out.split()[1]) if trial.out else 0
             yield as_thin(trial, OLDER["shorter"], no_arcs(count) if trial.status == 0 else ())
 
@@ -97,23 +97,23 @@ def of_spellings():
 def of_plans():
     """Plans that are invalid, and some that are accepted and have no zone file."""
     for trial in plans.trials():
-        if trial.words:
+        if trial.arguments:
             yield as_thin(trial)
-    for plan, answer in plans.table():
-        yield as_thin(plans.told_by_compile(f"plan_table: {plan}", lines(plan), answer))
+    for plan, result in plans.table():
+        yield as_thin(plans.reported_by_compile(f"plan_table: {plan}", lines(plan), result))
 
 
 def of_names():
     """Names that users have, of plans, zone files and the file, which has no ending."""
     for trial in names.trials():
-        if trial.words[0] == "compile" and b"sink" not in trial.errors:
+        if trial.arguments[0] == "compile" and b"sink" not in trial.errors:
             yield as_thin(trial, left=no_arcs(1) if trial.status == 0 else ())
-    run, (out, text) = thin_words("one ore"), no_arcs(1)
+    run, (out, text) = thin_arguments("one ore"), no_arcs(1)
     longest = names.named(names.LONGEST)
-    words = ["--out", longest, *run["words"][2:]]
-    yield Trial("the longest name of the file", words=words, files=run["files"], out=out, left={longest: text})
-    words = ["--out", longest + "n", *run["words"][2:]]
-    yield refused("a name of the file that is too long", "sink prec: SinkFailed", words=words, files=run["files"])
+    arguments = ["--out", longest, *run["arguments"][2:]]
+    yield Trial("the longest name of the file", arguments=arguments, files=run["files"], out=out, left={longest: text})
+    arguments = ["--out", longest + "n", *run["arguments"][2:]]
+    yield refused("a name of the file that is too long", "sink prec: SinkFailed", arguments=arguments, files=run["files"])
 
 
 # The arguments of a run of pitc_thin that request a text, and parts of it.
@@ -132,33 +132,33 @@ ALSO_REFUSED = ["help", "check base", "compile", "ore.csv help"]
 
 def of_words():
     """The arguments of runs of compile, without the first, and the arguments of pitc_thin alone."""
-    files, one = words_of_compile.FEW, {"out": b"rows 1 arcs 0 of 0\n", "files": words_of_compile.FEW}
-    for words in words_of_compile.TAKEN:
-        yield Trial(f"words that are taken: {words}", words=words.split()[1:], left={"base": b"0 0\n"}, **one)
-    for base, named in words_of_compile.BASES:
-        words = [*words_of_compile.ONE, *named, "ore.csv"]
+    files, one = rows_of_compile.FEW, {"out": b"rows 1 arcs 0 of 0\n", "files": rows_of_compile.FEW}
+    for arguments in rows_of_compile.TAKEN:
+        yield Trial(f"words that are taken: {arguments}", arguments=arguments.split()[1:], left={"base": b"0 0\n"}, **one)
+    for base, named in rows_of_compile.BASES:
+        arguments = [*rows_of_compile.ONE, *named, "ore.csv"]
         if base:
-            yield Trial(f"a file of any spelling: {words}", words=words, left={base: b"0 0\n"}, **one)
+            yield Trial(f"a file of any spelling: {arguments}", arguments=arguments, left={base: b"0 0\n"}, **one)
         else:
-            yield refused(f"a file without a name: {words}", "sink prec: SinkFailed", words=words, files=files)
-    for words, *parts in SHOWN:
+            yield refused(f"a file without a name: {arguments}", "sink prec: SinkFailed", arguments=arguments, files=files)
+    for arguments, *parts in SHOWN:
         out = Parts([part.encode() for part in parts])
-        yield Trial(f"words that ask: {words}", words=words.split(), files=files, out=out)
-    of_compile = [words.split()[1:] for words in words_of_compile.REFUSED if words.split()[0] == "compile"]
-    asking = [words.split() for words, *_ in SHOWN]
-    for words in [*of_compile, *map(str.split, ALSO_REFUSED)]:
-        if words not in asking:
-            told = words_of_compile.told_of(" ".join(["compile", *words]))
-            yield Trial(f"words that are refused: {words}", 2, words=words, files=files, errors=told)
-    for words in words_of_compile.REFUSED_WHOLE:
-        if words[0] == "compile":
-            yield Trial(f"words with blanks: {words[1:]}", 2, words=words[1:], files=files, errors=Front(b"error: "))
-    for line, words in words_of_compile.TOLD:
-        if words[0] == "compile":
-            words = words[1:]
-            yield refused(f"words that are taken, and told: {words}", line, words=words, files=files)
-    yield from words_of_compile.of_each_word(1)
-    yield refused("words that are not UTF-8", "command line: NotUtf8", words=[b"--plan", b"\xFF"], files=files)
+        yield Trial(f"words that ask: {arguments}", arguments=arguments.split(), files=files, out=out)
+    of_compile = [arguments.split()[1:] for arguments in rows_of_compile.REFUSED if arguments.split()[0] == "compile"]
+    asking = [arguments.split() for arguments, *_ in SHOWN]
+    for arguments in [*of_compile, *map(str.split, ALSO_REFUSED)]:
+        if arguments not in asking:
+            reported = rows_of_compile.report_of(" ".join(["compile", *arguments]))
+            yield Trial(f"words that are refused: {arguments}", 2, arguments=arguments, files=files, errors=reported)
+    for arguments in rows_of_compile.REFUSED_WHOLE:
+        if arguments[0] == "compile":
+            yield Trial(f"words with blanks: {arguments[1:]}", 2, arguments=arguments[1:], files=files, errors=Prefix(b"error: "))
+    for line, arguments in rows_of_compile.REPORTED:
+        if arguments[0] == "compile":
+            arguments = arguments[1:]
+            yield refused(f"words that are taken, and told: {arguments}", line, arguments=arguments, files=files)
+    yield from rows_of_compile.of_each_word(1)
+    yield refused("words that are not UTF-8", "command line: NotUtf8", arguments=[b"--plan", b"\xFF"], files=files)
 
 
 def trials():

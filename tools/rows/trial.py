@@ -27,12 +27,12 @@ class Parts(NamedTuple):
     def fits(self, found):
         return all(text in found for text in self.texts)
 
-    def lacking(self, found):
+    def missing(self, found):
         """Returns the first of them that a text does not have."""
         return Part(next(text for text in self.texts if text not in found))
 
 
-class Front(NamedTuple):
+class Prefix(NamedTuple):
     """Any text that begins so."""
 
     text: bytes
@@ -80,7 +80,7 @@ class Link(NamedTuple):
 
 ANY = Part(b"")
 
-Content = Union[bytes, Part, Parts, Front, Sum, Pieces, Folder, Link]
+Content = Union[bytes, Part, Parts, Prefix, Sum, Pieces, Folder, Link]
 
 
 class Trial(NamedTuple):
@@ -92,7 +92,7 @@ class Trial(NamedTuple):
 
     name: str
     status: int = 0
-    words: Sequence[Union[str, bytes]] = ()
+    arguments: Sequence[Union[str, bytes]] = ()
     given: bytes = b""
     source: str = ""
     files: Mapping[str, Content] = {}
@@ -106,8 +106,8 @@ class Trial(NamedTuple):
 
     def input(self):
         """Returns a number that tells its arguments, files and standard input from those of other runs."""
-        words, before = tuple(self.words), tuple(map(tuple, self.before))
-        return hash((words, self.given, self.source, frozenset(self.files.items()), before))
+        arguments, before = tuple(self.arguments), tuple(map(tuple, self.before))
+        return hash((arguments, self.given, self.source, frozenset(self.files.items()), before))
 
     def differences(self, status, out, errors, files):
         """Returns which results or files of a run are wrong."""
@@ -134,7 +134,7 @@ class Later(NamedTuple):
 
 
 def fits(found, wanted):
-    if isinstance(wanted, (Part, Parts, Front, Sum, Pieces)):
+    if isinstance(wanted, (Part, Parts, Prefix, Sum, Pieces)):
         return wanted.fits(found)
     return found == wanted
 
@@ -142,13 +142,13 @@ def fits(found, wanted):
 def difference(name, found, wanted):
     """Returns a text and the expected text, each from the first line on in which they differ."""
     if isinstance(wanted, Parts):
-        wanted = wanted.lacking(found)
+        wanted = wanted.missing(found)
     if isinstance(wanted, Pieces):
         start, wanted = wanted.differing(found)
         found = found[start : start + len(wanted) + 1]
     if isinstance(wanted, Part):
         found = found[max(found.find(wanted.text.split(b"\n")[0]), 0) :]
-    if isinstance(wanted, (Part, Front)):
+    if isinstance(wanted, (Part, Prefix)):
         wanted = wanted.text
     if isinstance(found, bytes) and isinstance(wanted, bytes):
         same = os.path.commonprefix([found, wanted]).rfind(b"\n") + 1

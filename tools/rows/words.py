@@ -1,6 +1,6 @@
 """Arguments of the command line: which are accepted, which request a text, and which are refused."""
 from rows.instance import ONE_ORE_BLOCK, ORE, PLAN, at
-from rows.trial import Front, Parts, Trial, refused
+from rows.trial import Prefix, Parts, Trial, refused
 from shared import ENDINGS
 
 FILES = {"one.plan": PLAN, "ore.csv": ORE, **at("base", dict.fromkeys(ENDINGS, b"older\n"))}
@@ -38,7 +38,7 @@ CHECKED_BASES = [
 
 # Arguments that are accepted, and what is refused after them. A plan is checked before its zone files.
 ONE, BASE = ["--plan", "one.plan"], ["--out", "base"]
-TOLD = [
+REPORTED = [
     ("plan: FeedFailed", ["compile", "--plan", "", *BASE, "ore.csv"]),
     ("plan: FeedFailed", ["compile", "--plan=", *BASE, "ore.csv"]),
     ("plan: FeedFailed", ["compile", "--plan=-p", *BASE, "ore.csv"]),
@@ -185,13 +185,13 @@ REFUSED = [
 
 # The report on some of them, one for each kind of fault, as `clap` prints it.
 RUN = "compile --plan one.plan --out base"
-LACKING = "the following required arguments were not provided:"
+MISSING = "the following required arguments were not provided:"
 NO_NUMBER = "invalid digit found in string"
 LINES = {
     "nope": "unrecognized subcommand 'nope'",
-    "check": f"{LACKING}\n  <BASE>",
+    "check": f"{MISSING}\n  <BASE>",
     "check base more": "unexpected argument 'more' found",
-    RUN: f"{LACKING}\n  <ZONE>...",
+    RUN: f"{MISSING}\n  <ZONE>...",
     f"{RUN} --nope ore.csv": "unexpected argument '--nope' found",
     "compile --plan one.plan --plan one.plan --out base ore.csv":
         "the argument '--plan <P>' cannot be used multiple times",
@@ -224,22 +224,22 @@ TWICE = {
 FEW = {"one.plan": PLAN, "ore.csv": ORE}
 
 
-def told_of(words):
+def report_of(arguments):
     """The beginning of the text for refused arguments."""
-    return Front(f"error: {LINES[words]}\n".encode() if words in LINES else b"error: ")
+    return Prefix(f"error: {LINES[arguments]}\n".encode() if arguments in LINES else b"error: ")
 
 
 def of_bases():
     """Bases of any spelling, the empty one too."""
     for base, named in BASES:
-        words = ["compile", *ONE, *named, "ore.csv"]
-        given = {"words": words, "files": FEW, "out": b"rows 1\n"}
-        yield Trial(f"of_bases: {words}", left=at(base, ONE_ORE_BLOCK), **given)
-    for base, words in CHECKED_BASES:
+        arguments = ["compile", *ONE, *named, "ore.csv"]
+        given = {"arguments": arguments, "files": FEW, "out": b"rows 1\n"}
+        yield Trial(f"of_bases: {arguments}", left=at(base, ONE_ORE_BLOCK), **given)
+    for base, arguments in CHECKED_BASES:
         files, counts = at(base, ONE_ORE_BLOCK), b"blocks 1 arcs 0 coefficients 0 limits 0 cpit 0\n"
-        yield Trial(f"of_bases: {words}", words=words, files=files, out=counts)
-    for line, words in TOLD:
-        yield refused(f"words that are taken: {words}", line, words=words, files=FEW)
+        yield Trial(f"of_bases: {arguments}", arguments=arguments, files=files, out=counts)
+    for line, arguments in REPORTED:
+        yield refused(f"words that are taken: {arguments}", line, arguments=arguments, files=FEW)
 
 
 def one_by_one():
@@ -250,30 +250,30 @@ def one_by_one():
         yield f"twice {word}", [*ALL[: at + 1], *ALL[at:]], TWICE.get(word)
 
 
-def of_each_word(front=0, files={**FEW, "base": b"older\n"}):
+def of_each_word(prefix=0, files={**FEW, "base": b"older\n"}):
     """The same as rows, without this number of arguments at the start."""
-    for name, words, line in one_by_one():
-        given = {"words": words[front:], "files": files}
+    for name, arguments, line in one_by_one():
+        given = {"arguments": arguments[prefix:], "files": files}
         if line:
             yield refused(f"one_by_one: {name}", line, **given)
         else:
-            yield Trial(f"one_by_one: {name}", 2, errors=Front(b"error: "), **given)
+            yield Trial(f"one_by_one: {name}", 2, errors=Prefix(b"error: "), **given)
 
 
 def trials():
     yield from of_bases()
     yield from of_each_word()
-    for words in TAKEN:
+    for arguments in TAKEN:
         left = at("base", ONE_ORE_BLOCK)
-        yield Trial(words, words=words.split(), files=FILES, out=b"rows 1\n", left=left)
-    for words, *parts in SHOWN:
+        yield Trial(arguments, arguments=arguments.split(), files=FILES, out=b"rows 1\n", left=left)
+    for arguments, *parts in SHOWN:
         out = Parts([part.encode() for part in parts])
-        yield Trial(words, words=words.split(), files=FILES, out=out)
-    for words in REFUSED:
-        yield Trial(words, 2, words=words.split(), files=FILES, errors=told_of(words))
-    for words in REFUSED_WHOLE:
-        name = f"words with blanks: {words}"
-        yield Trial(name, 2, words=words, files=FILES, errors=Front(b"error: "))
-    for words in NOT_UTF8:
-        name = f"words that are not UTF-8: {words}"
-        yield refused(name, "command line: NotUtf8", words=words.split(), files=FILES)
+        yield Trial(arguments, arguments=arguments.split(), files=FILES, out=out)
+    for arguments in REFUSED:
+        yield Trial(arguments, 2, arguments=arguments.split(), files=FILES, errors=report_of(arguments))
+    for arguments in REFUSED_WHOLE:
+        name = f"words with blanks: {arguments}"
+        yield Trial(name, 2, arguments=arguments, files=FILES, errors=Prefix(b"error: "))
+    for arguments in NOT_UTF8:
+        name = f"words that are not UTF-8: {arguments}"
+        yield refused(name, "command line: NotUtf8", arguments=arguments.split(), files=FILES)

@@ -5,7 +5,7 @@ What is not written out here comes from a separate formula, or from the plain co
 import itertools
 
 from rows import fullest
-from rows.cells import CUT, Cell, shortest, spelled, unusual, with_cell
+from rows.cells import CUT, Cell, shortest, formatted, unusual, with_cell
 from rows.instance import arcs_of, heading, plain_texts, plan_of, sections
 from rows.trial import HEADER, Parts, Trial, lines, piped, short, zone_file
 
@@ -258,11 +258,11 @@ def at_every_edge(name, bands):
 
     Price and tonnage are such that a worth is grade times recovery.
     """
-    cells = "".join(f",{spelled(start, 6)},{share}" for start, share in bands)
+    cells = "".join(f",{formatted(start, 6)},{share}" for start, share in bands)
     grades = [0, 10**12]
     for start, _ in bands:
         grades += [max(start - 1, 0), start, min(start + 1, 10**12)]
-    rows = "".join(f"{x},0,0,1000000,{spelled(grade, 6)}|" for x, grade in enumerate(grades))
+    rows = "".join(f"{x},0,0,1000000,{formatted(grade, 6)}|" for x, grade in enumerate(grades))
     worths = "".join(f"{x} {grade * scanned(bands, grade)}|" for x, grade in enumerate(grades))
     plan, part = small(f"leach,heap,100000000,0{cells}|"), f"OBJECTIVE_FUNCTION:|{worths}== pcpsp|"
     return shows(f"recovery_at_every_edge: {name}", plan, lines(rows), part)
@@ -282,12 +282,12 @@ def narrow_worths():
             kilograms = 2**bits // cents + more
             cases.append((key.format(cents), kilograms, sign * kilograms * cents))
     for destination, kilograms, cents in cases:
-        row, name = f"0,0,0,{spelled(kilograms, 3)},1000000|", f"{destination}, {kilograms} kg"
+        row, name = f"0,0,0,{formatted(kilograms, 3)},1000000|", f"{destination}, {kilograms} kg"
         part = f"NBLOCKS: 1|OBJECTIVE_FUNCTION:|0 {dollars(cents)}|== pcpsp|"
         yield shows(f"narrow_worths: {name}", small(destination), lines(row), part)
 
 
-def of_spelled_plan(key, place, text):
+def of_formatted_plan(key, place, text):
     """Returns the plan with this text in place of a cell of its first record with this key."""
     records = [record.split(",") for record in SPELLED_PLAN]
     cells = next(cells for cells in records if ",".join(cells).startswith(key + ","))
@@ -319,11 +319,11 @@ def spellings_of_a_plan():
             grid = [0, 0, 0, 1_000, 1_000, 1_000]
             if key == "grid":
                 grid[place] = number
-            usual = of_spelled_plan(key, place, shortest(number, decimals))
+            usual = of_formatted_plan(key, place, shortest(number, decimals))
             zone = blocks_about(grid[:3], grid[3:])
             texts = sections(plain_texts(usual, zone))
             for text in unusual(number, decimals):
-                given = piped(of_spelled_plan(key, place, text), zone)
+                given = piped(of_formatted_plan(key, place, text), zone)
                 name = f"spellings_of_a_plan: {key}, cell {place + 1}: {text}"
                 yield Trial(short(name), given=given, out=texts)
 

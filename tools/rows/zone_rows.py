@@ -7,7 +7,7 @@ from rows.cells import (
 )
 from rows.instance import OTHER_ORE, WASTE, at, plan_of
 from rows.trial import ANY, HEADER, MARK, Part, Trial, lines, piped, refused
-from shared import ENDINGS, compile_words
+from shared import ENDINGS, compile_arguments
 
 # Blocks are cubes of a millimetre, the first of them at this place in millimetres.
 FIRST = (-5000, 0, 7)
@@ -328,12 +328,12 @@ MOST = [
 ]
 
 
-def says(name, text, answer, plan=WASTE):
+def reports(name, text, result, plan=WASTE):
     """A zone file, and the result."""
     given = piped(plan, text)
-    if answer.startswith("row "):
-        return refused(name, "file 0 " + answer, given=given)
-    return Trial(name, given=given, out=Part(lines(f"== blocks|{answer}== prec|")))
+    if result.startswith("row "):
+        return refused(name, "file 0 " + result, given=given)
+    return Trial(name, given=given, out=Part(lines(f"== blocks|{result}== prec|")))
 
 
 # A file of one block high above all others, whose columns are in another order, and the plan of two zones.
@@ -341,16 +341,16 @@ HIGH = b"grade,tonnes,z,y,x\n6,5,99990,980,970\n"
 TWO_ZONES = plan_of("dump,dump,200|", ["1,1,1"] * 2, "waste")
 
 
-def as_second(name, text, answer):
+def as_second(name, text, result):
     """The same as the second of two files, by both forms."""
-    is_fault, count = answer.startswith("row "), answer.count("|") + 1
-    blocks = answer.replace(" 0|", " 1|") + f"{count - 1} 97 98 9999 5 6 0|"
+    is_fault, count = result.startswith("row "), result.count("|") + 1
+    blocks = result.replace(" 0|", " 1|") + f"{count - 1} 97 98 9999 5 6 0|"
     given = {"given": piped(TWO_ZONES, HIGH, text)}
-    words = compile_words("plan", "b", ["high", "text"])
-    files = {"words": words, "files": {"plan": MARK + TWO_ZONES, "high": MARK + HIGH, "text": text}}
+    arguments = compile_arguments("plan", "b", ["high", "text"])
+    files = {"arguments": arguments, "files": {"plan": MARK + TWO_ZONES, "high": MARK + HIGH, "text": text}}
     if is_fault:
-        yield refused(f"{name}, by the pipe form", "file 1 " + answer, **given)
-        yield refused(f"{name}, by compile", "file 1 " + answer, **files)
+        yield refused(f"{name}, by the pipe form", "file 1 " + result, **given)
+        yield refused(f"{name}, by compile", "file 1 " + result, **files)
         return
     part = Part(lines(f"== blocks|{blocks}== prec|"))
     yield Trial(f"{name}, by the pipe form", out=part, **given)
@@ -360,25 +360,25 @@ def as_second(name, text, answer):
 
 def second_files():
     """What a file may be and what may be wrong with it, for the second file of two."""
-    for name, text, answer in FILES:
-        yield from as_second(f"second_files: {name}", text, answer)
-    for text, answer in RECORDS_OF_TEXTS:
-        yield from as_second(f"second_files: {text!r}", text, answer)
+    for name, text, result in FILES:
+        yield from as_second(f"second_files: {name}", text, result)
+    for text, result in RECORDS_OF_TEXTS:
+        yield from as_second(f"second_files: {text!r}", text, result)
     for fault, *texts in HEADERS:
         for text in texts:
             row = "|" + ",".join(["0"] * (text.count(",") + 1)) + "|"
-            answer = f"row 1 column {fault}" if fault else "0 0 0 0 0 0 0|"
-            yield from as_second(f"second_files: {text}", text.encode() + lines(row), answer)
+            result = f"row 1 column {fault}" if fault else "0 0 0 0 0 0 0|"
+            yield from as_second(f"second_files: {text}", text.encode() + lines(row), result)
     for name, table in ROWS.items():
-        for answer, *rows in table:
+        for result, *rows in table:
             for row in rows[:6]:
                 named = f"second_files: {name}: {row[:40]!r}, {len(row)} bytes"
-                yield from as_second(named, HEADER + row, answer)
+                yield from as_second(named, HEADER + row, result)
 
 
-def faulty(name, text, column, kind, row=1, plan=WASTE):
+def invalid(name, text, column, kind, row=1, plan=WASTE):
     """A zone file, of which a column is invalid."""
-    return says(name, text, f"row {row} column {column}: {kind}", plan)
+    return reports(name, text, f"row {row} column {column}: {kind}", plan)
 
 
 def good_row():
@@ -387,17 +387,17 @@ def good_row():
 
 def numbers():
     """Each cell of a row: numbers at both ends of its range and outside it, and what is no number."""
-    yield says("numbers_of_a_row: all good", good_row(), "0 0 0 0 1 1 0|", MILLIMETRES)
+    yield reports("numbers_of_a_row: all good", good_row(), "0 0 0 0 1 1 0|", MILLIMETRES)
     for at, cell in enumerate(CELLS):
         for text, number, kind in [*cell.spellings(), ("", None, "Number")]:
             held = [*FIRST, 1000, 1_000_000]
             held[at] = number
-            answer = f"row 2 column {COLUMNS[at]}: {kind}"
+            result = f"row 2 column {COLUMNS[at]}: {kind}"
             if kind is None:
                 indices = " ".join(str(place - first) for place, first in zip(held, FIRST))
-                answer = f"0 {indices} {shortest(held[3], 3)} {shortest(held[4], 6)} 0|"
+                result = f"0 {indices} {shortest(held[3], 3)} {shortest(held[4], 6)} 0|"
             row = HEADER + record_of(with_cell(CELLS, at, text)).encode()
-            yield says(f"numbers_of_a_row: {COLUMNS[at]}: {text}", row, answer, MILLIMETRES)
+            yield reports(f"numbers_of_a_row: {COLUMNS[at]}: {text}", row, result, MILLIMETRES)
 
 
 def faults():
@@ -407,23 +407,23 @@ def faults():
         for order in [range(5), range(4, -1, -1)]:
             rows = (",".join(row[at] for at in order) for row in (COLUMNS, cells))
             text = "\n".join(rows).encode()
-            yield faulty(f"two_faulty_cells: {text}", text, column, kind, 2, MILLIMETRES)
+            yield invalid(f"two_faulty_cells: {text}", text, column, kind, 2, MILLIMETRES)
     for cells, kind in two_kinds_of_faults(CELLS):
         at = next(at for at, cell in enumerate(CELLS) if cells[at] != cell.good)
         text = HEADER + ",".join(cells).encode()
-        yield faulty(f"two_kinds_of_faults: {','.join(cells)}", text, COLUMNS[at], kind, 2, MILLIMETRES)
+        yield invalid(f"two_kinds_of_faults: {','.join(cells)}", text, COLUMNS[at], kind, 2, MILLIMETRES)
     for (at, column), (kind, *texts) in itertools.product(enumerate("xyz"), ORDER_IN_A_CELL):
         for text in texts:
             row = ",".join(with_cell([Cell("0")] * 3, at, text)).encode() + b",?,?"
-            yield faulty(f"order_in_a_cell: {column}: {text}", HEADER + row, column, kind, 2)
+            yield invalid(f"order_in_a_cell: {column}: {text}", HEADER + row, column, kind, 2)
     for count in [*range(1, 5), *range(6, 12)]:
         row = ",".join(["?"] * count).encode()
-        yield faulty(f"width_of_a_row: {count} cells", HEADER + row, "whole", "Width", 2)
+        yield invalid(f"width_of_a_row: {count} cells", HEADER + row, "whole", "Width", 2)
     longer = HEADER + b"0,0,0,1,0,\n"
-    yield faulty("width_of_a_row: an empty cell behind", longer, "whole", "Width", 2)
+    yield invalid("width_of_a_row: an empty cell behind", longer, "whole", "Width", 2)
     wider = b"x,y,z,tonnes,grade,\n0,0,0,1,0"
-    yield faulty("width_of_a_row: an empty column", wider + b"\n", "whole", "Width", 2)
-    yield says("width_of_a_row: an empty column and cell", wider + b",\n", "0 0 0 0 1 0 0|")
+    yield invalid("width_of_a_row: an empty column", wider + b"\n", "whole", "Width", 2)
+    yield reports("width_of_a_row: an empty column and cell", wider + b",\n", "0 0 0 0 1 0 0|")
 
 
 def first_fault(cells):
@@ -434,14 +434,14 @@ def first_fault(cells):
 
 def about_hundreds():
     """Coordinates around multiples of 100 m, along each axis."""
-    for (axis, column), (text, answer) in itertools.product(enumerate("xyz"), ABOUT_HUNDREDS):
+    for (axis, column), (text, result) in itertools.product(enumerate("xyz"), ABOUT_HUNDREDS):
         cells, indices = with_cell([Cell("0")] * 3, axis, text), ["0"] * 3
         name, row = f"about_hundreds: {column}: {text}", HEADER + ",".join(cells).encode() + b",1,0"
-        if answer.isdecimal():
-            indices[axis] = answer
-            yield says(name, row, f"0 {' '.join(indices)} 1 0 0|", HUNDREDS)
+        if result.isdecimal():
+            indices[axis] = result
+            yield reports(name, row, f"0 {' '.join(indices)} 1 0 0|", HUNDREDS)
         else:
-            yield faulty(name, row, column, answer, 2, HUNDREDS)
+            yield invalid(name, row, column, result, 2, HUNDREDS)
 
 
 def headers():
@@ -453,27 +453,27 @@ def headers():
         for other in dict.fromkeys([column.title(), *capitals]):
             text = ",".join([*others, other])
             name = f"columns_in_capitals: {text}|0,0,0,0,0"
-            yield says(name, text.encode() + zeros, "0 0 0 0 0 0 0|")
+            yield reports(name, text.encode() + zeros, "0 0 0 0 0 0 0|")
         wrong = [column[1:], column[:-1], column + "s", column + "_", "_" + column, "rock"]
         for other in dict.fromkeys(wrong + NO_COLUMNS[column]):
             text = ",".join([*others, other]).encode()
-            yield faulty(f"no_columns: {column}: {other}", text, column, "MissingColumn")
+            yield invalid(f"no_columns: {column}: {other}", text, column, "MissingColumn")
         twice, thrice = [column.upper(), *COLUMNS], [column, *COLUMNS, column]
         for name, named in [("columns_twice", twice), ("columns_thrice", thrice)]:
-            yield faulty(f"{name}: {column}", ",".join(named).encode(), column, "TwiceColumn")
+            yield invalid(f"{name}: {column}", ",".join(named).encode(), column, "TwiceColumn")
         missing = "y" if column == "x" else "x"
-        yield faulty(f"columns_alone: {column}", column.encode(), missing, "MissingColumn")
+        yield invalid(f"columns_alone: {column}", column.encode(), missing, "MissingColumn")
     pairs, kinds = itertools.combinations(COLUMNS, 2), itertools.product(TIMES, repeat=2)
     for (first, second), (left, right) in itertools.product(pairs, kinds):
         counts = {**dict.fromkeys(COLUMNS, 1), first: TIMES[left], second: TIMES[right]}
         for order in [COLUMNS, COLUMNS[::-1]]:
             text = ",".join(column for column in order for _ in range(counts[column])).encode()
-            yield faulty(f"two_faults_of_a_header: {text}", text, first, left)
+            yield invalid(f"two_faults_of_a_header: {text}", text, first, left)
     for fault, *texts in HEADERS:
         for text in texts:
             row = lines("|" + ",".join(["0"] * (text.count(",") + 1)) + "|")
-            answer = f"row 1 column {fault}" if fault else "0 0 0 0 0 0 0|"
-            yield says(f"headers: {text}", text.encode() + row, answer)
+            result = f"row 1 column {fault}" if fault else "0 0 0 0 0 0 0|"
+            yield reports(f"headers: {text}", text.encode() + row, result)
 
 
 def wide_files():
@@ -481,7 +481,7 @@ def wide_files():
     for columns, at in WIDE:
         name = f"wide_files: {columns} others, at {at}"
         good = list(wide(columns, at, [0, 0, 0, 1, 2], [10, 0, 0, 3, 4]))
-        for what, last, answer in [
+        for what, last, result in [
             ("good", "", TWO),
             ("a cell more", ",1", "row 3 column whole: Width"),
             ("a faulty cell", None, "row 3 column grade: Number"),
@@ -490,14 +490,14 @@ def wide_files():
                 rows = list(wide(columns, at, [0, 0, 0, 1, 2], [10, 0, 0, 3, "x"]))
             else:
                 rows = [*good[:2], good[2] + last]
-            yield says(f"{name}: {what}", "\n".join(rows).encode(), answer)
+            yield reports(f"{name}: {what}", "\n".join(rows).encode(), result)
         for more in (16, 32, 40, 64, 100, 255, 256, 500, 999, 1_000, 65_536):
             longer = "\n".join([*good, good[2] + ",0" * more]).encode()
-            yield faulty(f"{name}: {more} cells more", longer, "whole", "Width", 4)
+            yield invalid(f"{name}: {more} cells more", longer, "whole", "Width", 4)
         less = "\n".join([*good[:2], good[2].rsplit(",", 1)[0]]).encode()
-        yield faulty(f"{name}: a cell less", less, "whole", "Width", 3)
+        yield invalid(f"{name}: a cell less", less, "whole", "Width", 3)
         twice = "\n".join([good[0] + ",X", *good[1:]]).encode()
-        yield faulty(f"{name}: a column twice", twice, "x", "TwiceColumn")
+        yield invalid(f"{name}: a column twice", twice, "x", "TwiceColumn")
 
 
 def bytes_about_cells():
@@ -505,15 +505,15 @@ def bytes_about_cells():
     for byte in EVERY_BYTE:
         for cell in dict.fromkeys([byte + b"x", b"x" + byte]):
             text = quoted(cell) + b",y,z,tonnes,grade\n0,0,0,1,0\n"
-            answer = "0 0 0 0 1 0 0|" if byte in BLANKS else NO_X
-            yield says(f"bytes_about_columns: {cell}", text, answer)
+            result = "0 0 0 0 1 0 0|" if byte in BLANKS else NO_X
+            yield reports(f"bytes_about_columns: {cell}", text, result)
         cells = {byte + b"0": b"0123456789+-.", b"0" + byte: b"0123456789."}
         for cell, more in cells.items():
-            answer = "row 2 column tonnes: Number"
+            result = "row 2 column tonnes: Number"
             if byte in BLANKS or byte in more:
-                answer = f"0 0 0 0 {int(cell.decode().strip(' +-.') or '0')} 0 0|"
+                result = f"0 0 0 0 {int(cell.decode().strip(' +-.') or '0')} 0 0|"
             text = HEADER + b"0,0,0," + quoted(cell) + b",0\n"
-            yield says(f"bytes_about_numbers: {cell}", text, answer)
+            yield reports(f"bytes_about_numbers: {cell}", text, result)
 
 
 def trials():
@@ -523,15 +523,15 @@ def trials():
     yield from headers()
     yield from bytes_about_cells()
     yield from wide_files()
-    for name, text, answer in FILES:
-        yield says(name, text, answer)
+    for name, text, result in FILES:
+        yield reports(name, text, result)
     for name, table in ROWS.items():
-        for answer, *rows in table:
+        for result, *rows in table:
             for row in rows:
-                yield says(f"{name}: {row[:40]!r}, {len(row)} bytes", HEADER + row, answer)
-    for name, text, answer in MOST:
-        yield says(f"zone_texts_at_the_edge: {name}", text, answer)
-    for text, answer in RECORDS_OF_TEXTS:
-        yield says(f"records_of_texts: {text!r}", text, answer)
-    yield says("cell_of_a_million_bytes", LONG_CELL, TWO)
+                yield reports(f"{name}: {row[:40]!r}, {len(row)} bytes", HEADER + row, result)
+    for name, text, result in MOST:
+        yield reports(f"zone_texts_at_the_edge: {name}", text, result)
+    for text, result in RECORDS_OF_TEXTS:
+        yield reports(f"records_of_texts: {text!r}", text, result)
+    yield reports("cell_of_a_million_bytes", LONG_CELL, TWO)
     yield from second_files()
