@@ -1,7 +1,7 @@
 """The parts of docs/times.md that tools write: what they measured, of which commit, on which machine.
 
-A part is between a line `<!-- NAME -->` and a line `<!-- end of NAME -->`. Its first line has the commit, and the machine if it is not the
-one that docs/times.md names at its beginning.
+A part is between a line `<!-- NAME -->` and a line `<!-- end of NAME -->`, which is missing before the first measurement. Its first line has
+the commit, and the machine if it is not the one that docs/times.md names at its beginning.
 """
 import os
 import re
@@ -58,7 +58,7 @@ def write_part(name: str, lines: Iterable[str]) -> None:
     """Puts these lines in place of the part of this name."""
     path = os.path.join(shared.TOP, PAGE)
     text = shared.read(path)
-    part = re.compile(rf"(?ms)^(<!-- {name} -->\n).*?^(<!-- end of {name} -->)$")
+    part = re.compile(rf"(?ms)^(<!-- {name} -->\n)(?:.*?^<!-- end of {name} -->\n)?")
     if not part.search(text):
         raise SystemExit(f"{PAGE} has no part {name}")
-    shared.write(path, part.sub(lambda found: found[1] + "\n".join(lines) + "\n" + found[2], text))
+    shared.write(path, part.sub(lambda found: found[1] + "\n".join([*lines, f"<!-- end of {name} -->\n"]), text))
