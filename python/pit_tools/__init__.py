@@ -19,10 +19,13 @@ if TYPE_CHECKING:
     from typing import Any
 
     from pit_tools.errors import UserError
-    from pit_tools.instances.files import (Blocks, Instance, Limit, Problem, UltimatePit, Uses,
-                                           cents, present, read_blocks, read_instance,
-                                           read_precedence, read_problem, read_upit, write_instance)
+    from pit_tools.instances.arrays import (Blocks, Instance, Limit, Problem, UltimatePit, Uses,
+                                            cents, present)
+    from pit_tools.instances.block_files import read_blocks
+    from pit_tools.instances.files import (read_instance, read_precedence, read_problem,
+                                           write_instance)
     from pit_tools.instances.minelib import read_published, write_published
+    from pit_tools.instances.models import read_upit
     from pit_tools.instances.valuation import instance_of
     from pit_tools.pits.closure import immediate, ultimate_pit
     from pit_tools.pits.files import read_pit, write_pit
@@ -49,9 +52,11 @@ __all__ = ["VERSION", "UserError",
 # The names by the modules that have them.
 _MODULES = {
     "errors": "UserError",
-    "instances.files": "Instance Blocks UltimatePit Problem Uses Limit present cents read_instance "
-                       "read_blocks read_precedence read_upit read_problem write_instance",
+    "instances.arrays": "Instance Blocks UltimatePit Problem Uses Limit present cents",
+    "instances.block_files": "read_blocks",
+    "instances.files": "read_instance read_precedence read_problem write_instance",
     "instances.minelib": "read_published write_published",
+    "instances.models": "read_upit",
     "instances.valuation": "instance_of",
     "pits.closure": "ultimate_pit immediate",
     "pits.files": "read_pit write_pit",

@@ -21,8 +21,8 @@ from pit_tools.errors import UserError
 from pit_tools.exports.words import table_of
 from pit_tools.files.records import read_record
 from pit_tools.imports.record import read_imported
-from pit_tools.instances import files, minelib, published as published_models
-from pit_tools.instances.files import Problem, Uses
+from pit_tools.instances import block_files, files, minelib, models
+from pit_tools.instances.arrays import Problem, Uses
 from pit_tools.instances.identifiers import read_identifiers
 from pit_tools.inventories.statements import Known, Statement, read_report
 from pit_tools.pits.back import read_mined
@@ -237,22 +237,21 @@ ONE = Problem("PCPSP", "a", 2, 0, 0.1, np.zeros((1, 1)), Uses(*[np.empty(0, int)
 def published(kind):
     """A reader of published models."""
     if kind == "UPIT":
-        return lambda path: published_models.read_upit(path, 0, True, Told())
-    return lambda path: published_models.read_problem(path, kind, 0, None, True,
-                                                      Told())
+        return lambda path: models.read_upit(path, 0, True, Told())
+    return lambda path: models.read_model(path, kind, 0, None, True, Told())
 
 
 #: What reads a file of lines, and what surrounds a hostile text.
 READERS = {
-    "blocks": (files.read_blocks, "{}", "0 0 0 0 1 {} 0\n", "% {}\n0 0 0 0 1 1 0\n"),
+    "blocks": (block_files.read_blocks, "{}", "0 0 0 0 1 {} 0\n", "% {}\n0 0 0 0 1 1 0\n"),
     "prec": (files.read_precedence, "{}", "0 0\n1 1 {}\n"),
     "counted": (files.count_predecessors, "{}", "0 0\n1 1 {}\n"),
-    "upit": (files.read_upit, "{}", UPIT, UPIT.replace("NBLOCKS: 1", "NBLOCKS: {}")),
+    "upit": (models.read_upit, "{}", UPIT, UPIT.replace("NBLOCKS: 1", "NBLOCKS: {}")),
     "cpit": (lambda path: files.read_problem(path, "CPIT"), "{}", CPIT + "0 0 L {}\n"),
     "pcpsp": (lambda path: files.read_problem(path, "PCPSP"), "{}", PCPSP + "{}\n",
               PCPSP.replace("0.1", "{}"), PCPSP.replace("0 0 0 1\n", "0 0 0 {}\n")),
-    "outline": (files.read_outline, PCPSP + "0 0 L {}\n"),
-    "published blocks": (lambda path: minelib.read_blocks(path, minelib.Columns(5), Told()),
+    "outline": (models.read_outline, PCPSP + "0 0 L {}\n"),
+    "published blocks": (lambda path: block_files.read_columns(path, block_files.Columns(5), Told()),
                          "{}", "0 0 0 0 1\n1 1 0 0 {}\n"),
     "published prec": (lambda path: minelib.read_precedence(path, 2, 0, Told()), "{}", "0 1 {}\n"),
     "published upit": (published("UPIT"), "{}", UPIT, UPIT.replace("NBLOCKS: 1", "NBLOCKS: {}"),

@@ -396,7 +396,7 @@ def test_a_model_whose_header_says_no_number_is_reported_by_the_survey(here, cap
     text = (here / "mine.pcpsp").read_text()
     (here / "mine.pcpsp").write_text(text.replace("DISCOUNT_RATE: 0.08", "DISCOUNT_RATE: x"))
     told = refused(["survey", "mine.plan", "mine", "mine-0.csv"], capsys)
-    assert "mine.pcpsp: no number behind DISCOUNT_RATE" in told
+    assert "mine.pcpsp: DISCOUNT_RATE is `x`, and no number from 0 to 1" in told
 
 
 @pytest.mark.parametrize("name, text", [("TABLE", "a b\n1 2\n"), ("TABLE", ""), ("FOUND", "\xff\0"),

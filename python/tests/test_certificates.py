@@ -15,7 +15,8 @@ from scipy import sparse
 import mines
 from pit_tools.cli import main
 from pit_tools.deposits import library
-from pit_tools.instances.files import Limit, Problem, Uses, read_instance
+from pit_tools.instances.arrays import Limit, Problem, Uses
+from pit_tools.instances.files import read_instance
 from pit_tools.pits import compiled
 from pit_tools.pits.closure import fewer_arcs
 from pit_tools.schedules import certificates

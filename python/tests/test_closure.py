@@ -11,8 +11,8 @@ from scipy import sparse
 import mines
 from pit_tools.commands.planning import pit as pit_command
 from pit_tools.errors import UserError
-from pit_tools.instances.files import (Blocks, Instance, UltimatePit, cents, read_instance,
-                                       write_instance)
+from pit_tools.instances.arrays import Blocks, Instance, UltimatePit, cents
+from pit_tools.instances.files import read_instance, write_instance
 from pit_tools.pits import closure, compiled
 from pit_tools.pits.files import read_pit, told
 from pit_tools.plans.file import read_plan

@@ -10,7 +10,8 @@ import pytest
 import mines
 from pit_tools.errors import UserError
 from pit_tools.instances import files
-from pit_tools.instances.files import Limit, Uses, read_instance, write_instance
+from pit_tools.instances.arrays import Limit, Uses
+from pit_tools.instances.files import read_instance, write_instance
 from pit_tools.instances.valuation import blocks_of, instance_of, worth_in_cents
 from pit_tools.plans.cones import precedence_of
 from pit_tools.plans.file import Destination, read_plan
@@ -86,69 +87,80 @@ def test_files_that_check_accepts_are_read(tmp_path):
 
 @pytest.mark.parametrize("text, old, new, told", [
     ("blocks", "1 1 0 0", "7 1 0 0", "identifiers are not 0, 1, 2"),
-    ("blocks", "1.8 0", "1.8", "no line of a block file, of 7 fields"),
-    ("blocks", "0 0 0 0 2700 1.8 0", "0 0 0 0 2700 1.8 0 ore", "no line of a block file, of 7 "
-     "fields"), ("blocks", "2700 1.8 0", "2700.0001 1.8 0", "2700.0001 has more than 3 decimals"),
+    ("blocks", "1.8 0", "1.8", "line 1: 6 fields, and a block line has 7"),
+    ("blocks", "0 0 0 0 2700 1.8 0", "0 0 0 0 2700 1.8 0 ore", "line 1: 8 fields, and a block line "
+     "has 7"), ("blocks", "2700 1.8 0", "2700.0001 1.8 0", "line 1: a number has more than 3 decimals: `0 0 0 0 2700.0001 1.8"),
     ("blocks", "2700 1.8 0", "2700 1.8000001 0", "has more than 6 decimals"),
-    ("blocks", "2700 1.8 0", "inf 1.8 0", "cannot be held"),
-    ("blocks", "2700 1.8 0", "2700 1.8 4294967296", "a whole number is not from"),
+    ("blocks", "2700 1.8 0", "inf 1.8 0", "line 1: field 5 of a block line, `inf`, is no number"),
+    ("blocks", "2700 1.8 0", "2700 1.8 4294967296", "line 1: the zone is 4294967296, and no whole number from 0 to 63"),
     ("upit", "NAME: pit", "NAME: the pit", "NAME is `the pit`"),
-    ("pcpsp", "0 221940 144180", "0 inf 144180", "cannot be held"),
-    ("pcpsp", "0 0 0 2700", "0 256 0 2700", "a whole number is not from -128 to 127"),
-    ("pcpsp", "0 0 0 2700", "4294967296 0 0 2700", "a whole number is not from"),
-    ("pcpsp", "0 0 0 2700", "0 0 0 2700 9", "no line of coefficients, of 4 fields"),
-    ("pcpsp", "0 0 0 2700", "0 0 0 1e400", "mine.pcpsp: line 17: `1e400` is too great"),
-    ("pcpsp", "0 0 0 2700", "0 0 0 1e4294967297", "mine.pcpsp: line 17: `1e4294967297` is too great"),
-    ("pcpsp", "0 0 0 2700", "0 0 0 1e-4294967295", "line 17: `1e-4294967295` is too small"),
-    ("pcpsp", "0 0 0 2700", "0 0 0 TRUE", "line 17: `TRUE` is no number"),
-    ("pcpsp", "0 221940 144180", "0 0.5E+000300 144180", "a number above"),
-    ("upit", "1 309420", "1 1e4294967297", "mine.upit: line 6: `1e4294967297` is too great"),
+    ("pcpsp", "0 221940 144180", "0 inf 144180", "line 10: field 2 of a line of the objective, `inf`, is no"),
+    ("pcpsp", "0 0 0 2700", "0 256 0 2700", "line 17: the destination is 256, and there are 3"),
+    ("pcpsp", "0 0 0 2700", "4294967296 0 0 2700", "line 17: field 1 of a coefficient of a PCPSP is 4294967296"),
+    ("pcpsp", "0 0 0 2700", "0 0 0 2700 9", "line 17: 5 fields, and a coefficient of a PCPSP has 4"),
+    ("pcpsp", "0 0 0 2700", "0 0 0 1e400", "mine.pcpsp: line 17: field 4 of a coefficient of a PCPSP, `1e400`, is too great"),
+    ("pcpsp", "0 0 0 2700", "0 0 0 1e4294967297", "mine.pcpsp: line 17: field 4 of a coefficient of a PCPSP, `1e4294967297`, is too great"),
+    ("pcpsp", "0 0 0 2700", "0 0 0 1e-4294967295", "line 17: field 4 of a coefficient of a PCPSP, `1e-4294967295`, is too small"),
+    ("pcpsp", "0 0 0 2700", "0 0 0 TRUE", "line 17: field 4 of a coefficient of a PCPSP, `TRUE`, is no number"),
+    ("pcpsp", "0 221940 144180", "0 0.5E+000300 144180", "line 10: a value is too great to be held"),
+    ("upit", "1 309420", "1 1e4294967297", "mine.upit: line 6: field 2 of a line of the objective, `1e4294967297`, is too great"),
     ("cpit", "0 0 2700", "0 0 1e21474836480", "mine.cpit: line "),
-    ("blocks", "2700 1.8 0", f"2700 .{'0' * 400}1 0", "mine.blocks: line 1: `.0{59}` is no number"),
-    ("blocks", "2700 1.8 0", "2e4294967297 1.8 0", "mine.blocks: line 1: `2e4294967297` is too great"),
-    ("pcpsp", "NPERIODS: 3", "NPERIODS: 2.5", "NPERIODS is no count: `2.5`"),
-    ("pcpsp", "NPERIODS: 3", "NPERIODS: inf", "no number behind NPERIODS: `inf`"),
+    ("blocks", "2700 1.8 0", f"2700 .{'0' * 400}1 0", "mine.blocks: line 1: field 6 of a block line, `.0{59}`, is no number"),
+    ("blocks", "2700 1.8 0", "2e4294967297 1.8 0", "mine.blocks: line 1: field 5 of a block line, `2e4294967297`, is too great"),
+    ("pcpsp", "NPERIODS: 3", "NPERIODS: 2.5", "NPERIODS is `2.5`, and no whole number"),
+    ("pcpsp", "NPERIODS: 3", "NPERIODS: inf", "NPERIODS is `inf`, and no number from 1 to 100"),
     ("pcpsp", "DISCOUNT_RATE: 0.08", "DISCOUNT_RATE: 0.0800001", "has more than 6 decimals"),
     ("pcpsp", "0 0 L 60000", "0 0 L inf", "no limit: `0 0 L inf`"),
-    ("pcpsp", "0 0 L 60000", "0 0 L nan", "no limit: `0 0 L nan`"),
+    ("pcpsp", "0 0 L 60000", "0 0 L nan", "line 42: no limit `r t L v`, `r t G v` or `r t I v w`: `0 0 L nan`"),
     ("blocks", "1.8 0", "x 0", "mine.blocks"),
-    ("prec", "0 2 3 4", "0 3 3 4", "no line of the precedence file"),
+    ("prec", "0 2 3 4", "0 3 3 4", "line 1: 2 predecessors stand in a line `id k p1 .. pk`, and k is 3"),
     ("prec", "0 2 3 4", "0 2 3 9", "a predecessor is no block"),
     ("prec", "5 0\n", "", "5 lines, and there are 6 blocks"),
     ("pcpsp", "TYPE: PCPSP", "TYPE: CPIT", "TYPE is `CPIT`"),
-    ("pcpsp", "NBLOCKS: 6", "NBLOCKS: 7", "NBLOCKS is 7"),
-    *[("pcpsp", "NPERIODS: 3", f"NPERIODS: {number}", f"no number behind NPERIODS: `{number[:60]}`")
+    ("pcpsp", "NBLOCKS: 6", "NBLOCKS: 7", "NBLOCKS is `7`, and the objective has 6 lines"),
+    *[("pcpsp", "NPERIODS: 3", f"NPERIODS: {number}", f"NPERIODS is `{number[:60]}`, and no number from 1 to 100")
       for number in ("1_0", "\uff13", "\u0663", "0x3", "3 0", "9" * 401, "3" * 30)],
-    *[("pcpsp", "0 0 L 60000", line, f"no limit: `{line[:60]}")
+    *[("pcpsp", "0 0 L 60000", line, f"line 42: no limit.*: `{line[:60]}")
       for line in ("0 0 L 6_0", "\uff10 0 L 6", "0 0 L \uff16", "0.5 0 L 6", "0 0 L", "0 0",
                    "0 0 L 6 7", "0 0 L " + "6" * 500)],
     ("pcpsp", "0 221940 144180", "0 80071992547409.93 144180",
-     "line 10: `80071992547409.93` is of more digits than can be held"),
+     "line 10: field 2 of a line of the objective, `80071992547409.93`, is of more digits than can be held"),
     ("pcpsp", "0 221940 144180", "0 221940.0000001000000001 144180", "has more than 6 decimals"),
     ("pcpsp", "1 309420 197640 -5400", "1 309420 197640", "mine.pcpsp"),
     ("pcpsp", "0 0 L 60000", "0 0 X 60000", "no limit"),
-    ("pcpsp", "0 0 L 60000", "0 9 L 60000", "a limit's resource or period"),
-    ("cpit", "0 0 2700", "0 5 2700", "a coefficient's resource"),
-    ("blocks", "5 2 0 1", "5 2 -1 1", "y is not from 0 to 9,999 in each line"),
-    ("blocks", "5 2 0 1", "5 20000 0 1", "x is not from 0 to 9,999 in each line"),
-    ("blocks", "2700 1.8 0", "-2700 1.8 0", "tonnes is not from 0 to 1,000,000"),
-    ("blocks", "2700 1.8 0", "2700 1.8 64", "the zone is not from 0 to 63"),
+    ("pcpsp", "0 0 L 60000", "0 0 <= 60000", "line 42: no limit"),
+    ("pcpsp", "0 0 L 60000", "0 0 L 0.0000001", "line 42: .* more than 6 decimals"),
+    ("pcpsp", "1 309420 197640 -5400\n", "", "line 11: the objective has 5 lines, which are not one for "
+     "each block from 0 on in turn"), ("pcpsp", "NPERIODS", "nperiods", "no key `nperiods`"),
+    ("pcpsp", "NDESTINATIONS: 3\n", "", "no NDESTINATIONS"), ("pcpsp", "TYPE: PCPSP\n", "", "no TYPE"),
+    ("pcpsp", "1 309420 197640", "1,309420 197640", "line 11: 3 fields"),
+    ("pcpsp", "1 309420 197640 -5400", "1 309420 197640 -5400 % none", "line 11: 6 fields"),
+    ("pcpsp", "OBJECTIVE_FUNCTION:", "RESOURCE_CONSTRAINT_LIMITS:", "line 9: a PCPSP file has OBJECTIVE_FUNCTION here"),
+    ("blocks", "0 0 0 0 2700", "EOF\n0 0 0 0 2700", "line 1: 1 fields, and a block line has 7"),
+    ("blocks", "0 0 0 0 2700", "\x01\n0 0 0 0 2700", "mine.blocks"),
+    ("upit", "0 221940", "\x01\n0 221940", "line 5: field 1 of a line of the objective"),
+    ("pcpsp", "0 0 L 60000", "0 9 L 60000", "line 42: there are 2 resources and 3 periods, from 0"),
+    ("cpit", "0 0 2700", "0 5 2700", "line 15: the resource is 5, and there are 2"),
+    ("blocks", "5 2 0 1", "5 2 -1 1", "line 6: the index y is -1, and no whole number from 0 to 9999"),
+    ("blocks", "5 2 0 1", "5 20000 0 1", "line 6: the index x is 20000, and no whole number from 0 to 9999"),
+    ("blocks", "2700 1.8 0", "-2700 1.8 0", "line 1: the tonnes is -2700, and `pitc check` takes 0 to 1,000,000"),
+    ("blocks", "2700 1.8 0", "2700 1.8 64", "line 1: the zone is 64, and no whole number from 0 to 63"),
     ("pcpsp", "RESOURCE_CONSTRAINT_LIMITS:\n0 0 L 60000\n0 1 L 60000\n0 2 L 60000\n1 0 I 0 120000\n",
      "", "it has no section RESOURCE_CONSTRAINT_LIMITS: was it cut short"),
     ("cpit", "RESOURCE_CONSTRAINT_COEFFICIENTS:\n", "", "mine.cpit"),
-    ("pcpsp", "CONSTRAINT_LIMITS:", "CONSTRAINTS_LIMITS:", "a section `RESOURCE_CONSTRAINTS_LIMITS` "
-     "stands where a PCPSP file has RESOURCE_CONSTRAINT_LIMITS"),
-    ("upit", "OBJECTIVE_FUNCTION:", "OBJECTIVE_FUNCTION:\nOBJECTIVE_FUNCTION:", "a section "
-     "`OBJECTIVE_FUNCTION` stands where a UPIT file has none"),
+    ("pcpsp", "CONSTRAINT_LIMITS:", "CONSTRAINTS_LIMITS:", "line 41: no section that is known: is "
+     "it RESOURCE_CONSTRAINT_LIMITS"),
+    ("upit", "OBJECTIVE_FUNCTION:", "OBJECTIVE_FUNCTION:\nOBJECTIVE_FUNCTION:", "line 5: "
+     "the section stands in line 4 too"),
     ("pcpsp", "NPERIODS: 3", "NPERIODS: 0", "NPERIODS is `0`, and no number from 1 to 100"),
     ("pcpsp", "NDESTINATIONS: 3", "NDESTINATIONS: 0", "NDESTINATIONS is `0`"),
     ("pcpsp", "NDESTINATIONS: 3", "NDESTINATIONS: 100000000", "no number from 1 to 8"),
     ("pcpsp", "NPERIODS: 3", "NPERIODS: 3\nNPERIODS: 3", "NPERIODS stands twice"),
     ("pcpsp", "NPERIODS: 3", "NPERIODS: 3\nAUTHOR: me", "no key `AUTHOR` stands in the header"),
     ("pcpsp", "0 0 0 2700", "NBLOCKS: 6", "no key `NBLOCKS` stands below RESOURCE"),
-    ("pcpsp", "DISCOUNT_RATE: 0.08", "DISCOUNT_RATE: 8", "DISCOUNT_RATE is 8, and no number"),
-    ("upit", "0 221940", "0 99999999999999999999", "line 5: `99999999999999999999` is of more "
-     "digits than can be held")])
+    ("pcpsp", "DISCOUNT_RATE: 0.08", "DISCOUNT_RATE: 8", "DISCOUNT_RATE is `8`, and no number from 0 to 1"),
+    ("upit", "0 221940", "0 99999999999999999999", "line 5: field 2 of a line of the objective, "
+     "`99999999999999999999`, is of more digits than can be held")])
 def test_a_damaged_file_is_refused_by_its_name(tmp_path, text, old, new, told):
     base = mines.six_blocks(tmp_path)
     path = tmp_path / f"mine.{text}"

@@ -12,7 +12,7 @@ import pandas as pd
 import pytest
 
 from pit_tools.deposits.seeded import Deposit
-from pit_tools.instances.files import Outline
+from pit_tools.instances.models import Outline
 from pit_tools.instances.valuation import blocks_of, instance_of
 from pit_tools.plans.file import plan_of
 from pit_tools.surveys.facts import Facts, ZoneFile

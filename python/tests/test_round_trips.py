@@ -17,8 +17,8 @@ import shared
 from pit_tools.cli import main
 from pit_tools.errors import UserError
 from pit_tools.instances import files
-from pit_tools.instances.files import (Blocks, Instance, Limit, Problem, UltimatePit, Uses,
-                                       read_instance, write_instance)
+from pit_tools.instances.arrays import Blocks, Instance, Limit, Problem, UltimatePit, Uses
+from pit_tools.instances.files import read_instance, write_instance
 from pit_tools.instances.identifiers import (Identifiers, order_of, read_identifiers,
                                              write_identifiers)
 from pit_tools.instances.minelib import Columns, read_published, write_published

@@ -12,7 +12,8 @@ from scipy import sparse
 import mines
 from pit_tools.cli import main
 from pit_tools.errors import UserError
-from pit_tools.instances.files import Blocks, Limit, Problem, Uses, read_instance
+from pit_tools.instances.arrays import Blocks, Limit, Problem, Uses
+from pit_tools.instances.files import read_instance
 from pit_tools.schedules import programs
 from pit_tools.schedules.ended import Beside, within
 from pit_tools.schedules.files import Schedule, check

@@ -14,8 +14,8 @@ from scipy import sparse
 import mines
 from pit_tools.cli import main
 from pit_tools.errors import UserError
-from pit_tools.instances.files import (Limit, Problem, Uses, read_instance, read_precedence,
-                                       read_problem)
+from pit_tools.instances.arrays import Limit, Problem, Uses
+from pit_tools.instances.files import read_instance, read_precedence, read_problem
 from pit_tools.schedules.files import (Schedule, check, read_schedule, read_variables,
                                        schedule_of_variables)
 from pit_tools.schedules.programs import by_period, program_of, program_of_upit, schedule_of, solve

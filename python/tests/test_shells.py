@@ -9,7 +9,8 @@ import pytest
 
 import mines
 from pit_tools.cli import main
-from pit_tools.instances.files import Blocks, read_blocks
+from pit_tools.instances.arrays import Blocks
+from pit_tools.instances.block_files import read_blocks
 from pit_tools.pits.shells import shell_of
 from pit_tools.plans.file import plan_of
 from pit_tools.plans.grids import Frame, Turn

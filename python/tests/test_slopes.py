@@ -12,7 +12,7 @@ import pytest
 
 import mines
 from pit_tools.cli import main
-from pit_tools.instances.files import Blocks
+from pit_tools.instances.arrays import Blocks
 from pit_tools.plans.cones import Places
 from pit_tools.plans.contacts import Contacts, contacts_of
 from pit_tools.plans.file import Grid, Slope, Zone

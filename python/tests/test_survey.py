@@ -228,7 +228,7 @@ def test_a_zone_file_in_place_of_blocks_is_refused(tmp_path, capsys):
     base = mines.six_blocks(tmp_path)
     os.replace(base + ".cpit", base + ".blocks")
     assert main(["survey", base + ".plan", base]) == 2
-    assert "no line of a block file" in capsys.readouterr().err
+    assert "mine.blocks: line 1: 2 fields, and a block line has 7: `NAME: pit`" in capsys.readouterr().err
 
 
 BROWSER = next(filter(None, map(shutil.which, ("chromium", "chromium-browser", "google-chrome"))),

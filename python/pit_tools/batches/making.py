@@ -16,7 +16,9 @@ from pit_tools.batches.build import Way, build_told_once
 from pit_tools.batches.listing import Entry
 from pit_tools.errors import UserError
 from pit_tools.files.records import sum_of
-from pit_tools.instances.files import TEXTS, present, read_instance, read_outline
+from pit_tools.instances.arrays import present
+from pit_tools.instances.files import TEXTS, read_instance
+from pit_tools.instances.models import read_outline
 
 #: The columns of SIZES, in order.
 COLUMNS = ("name", "blocks", "arcs", "coefficients", "limits", "cpit", "positive", "bytes",

@@ -18,7 +18,8 @@ from pit_tools.deposits.seeded import ZONES, Deposit
 from pit_tools.errors import UserError
 from pit_tools.files import inputs, kinds, outputs
 from pit_tools.files.records import ENDING, MOST_JSON, File, read_record, status_of
-from pit_tools.instances.files import TEXTS, Instance, cents, present, write_instance
+from pit_tools.instances.arrays import Instance, cents, present
+from pit_tools.instances.files import TEXTS, write_instance
 from pit_tools.instances.valuation import blocks_of, instance_of
 from pit_tools.pits.closure import ultimate_pit
 from pit_tools.plans.file import plan_of

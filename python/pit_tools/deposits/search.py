@@ -16,7 +16,7 @@ from pit_tools.deposits.seeded import Deposit
 from pit_tools.errors import UserError
 from pit_tools.files import inputs, outputs
 from pit_tools.files.records import File, Record
-from pit_tools.instances.files import Instance, Problem, present
+from pit_tools.instances.arrays import Instance, Problem, present
 from pit_tools.pits.closure import fewer_arcs
 from pit_tools.schedules.bounds import bounds_of
 from pit_tools.schedules.files import Schedule, check, read_schedule, write_schedule

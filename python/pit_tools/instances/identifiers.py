@@ -13,7 +13,7 @@ from scipy import sparse
 
 from pit_tools.errors import UserError, quoted
 from pit_tools.files import outputs
-from pit_tools.instances.files import Blocks, Instance, Problem, Uses, arcs_of
+from pit_tools.instances.arrays import Blocks, Instance, Problem, Uses, arcs_of
 from pit_tools.texts import spelling
 from pit_tools.texts.decimals import whole_of
 from pit_tools.texts.lines import block_lines, numbered_lines

@@ -8,154 +8,19 @@ limit `L` or `G`, and infinite ones; and not all of UPIT, CPIT and PCPSP.
 """
 from __future__ import annotations
 
-import os
-from dataclasses import dataclass, replace
+from dataclasses import replace
 from typing import Optional
 
 import numpy as np
 from scipy import sparse
 
 from pit_tools.errors import UserError
-from pit_tools.instances.files import Blocks, Instance, Problem, UltimatePit, Uses, write_instance
+from pit_tools.instances.arrays import Instance, Problem, UltimatePit, Uses
+from pit_tools.instances.block_files import Columns, read_columns
+from pit_tools.instances.files import arcs_in, write_instance
 from pit_tools.instances.identifiers import Identifiers, order_of, reordered
-from pit_tools.instances.published import read_problem, read_upit
-from pit_tools.texts.formats import MOST_AMOUNT, MOST_BLOCKS, MOST_INDEX, MOST_ZONE
-from pit_tools.texts.lines import (Piece, Rounding, Told, integers_of, line_lengths, numbers_of,
-                                   pieces_of, refuse_row)
-
-
-@dataclass(frozen=True)
-class Columns:
-    """Which fields of a block line are what, counted from 1; 0 stands for none. A block's
-    identifier and coordinates are fields 1 to 4, and other fields are skipped."""
-
-    tonnes: int = 0
-    grade: int = 0
-    zone: int = 0
-
-    def __post_init__(self) -> None:
-        for name, field in vars(self).items():
-            if field < 0 or 0 < field < 5:
-                raise UserError(f"field {field} cannot be the {name}: fields 1 to 4 are a block's "
-                                "identifier and coordinates")
-
-
-class _Blocks:
-    """The lines of a block file as they come, and then the blocks in order of identifier."""
-
-    def __init__(self, path: str, columns: Columns, told: Told):
-        self.path, self.told = path, told
-        self.fields = [0, 1, 2, 3] + [field - 1 for field in vars(columns).values() if field]
-        self.names = [name for name, field in vars(columns).items() if field]
-        self.roundings = {"tonnes": Rounding(3), "grade": Rounding(6)}
-        self.parts: list[list[np.ndarray]] = []
-        self.row = 0
-
-    def take(self, piece: Piece) -> None:
-        """Takes the named fields of lines."""
-        numbers = numbers_of(piece, self.fields, "a block line")
-        if not self.parts:
-            self._tell_fields(piece)
-        whole = [piece.whole(numbers[0], "the identifier", 0, MOST_BLOCKS)]
-        whole += [piece.whole(numbers[at], f"the index {name}", -2**31)
-                  for at, name in enumerate("xyz", 1)]
-        own: dict[str, np.ndarray] = {
-            "tonnes": np.zeros(numbers.shape[1]), "grade": np.zeros(numbers.shape[1]),
-            "zone": np.zeros(numbers.shape[1], np.int32)}
-        for name, column in zip(self.names, numbers[4:]):
-            own[name] = self._own(piece, name, column)
-        self.parts.append([*whole, *own.values()])
-
-    def _own(self, piece: Piece, name: str, column: np.ndarray) -> np.ndarray:
-        """A column of tonnes, grades or zones, within what `pitc check` takes."""
-        if name == "zone":
-            return piece.whole(column, "the zone", 0, MOST_ZONE)
-        is_wrong = (column < 0) | (column > MOST_AMOUNT)
-        if is_wrong.any():
-            row = int(is_wrong.argmax())
-            piece.refuse(row, f"the {name} is {column[row]:.15g}, and `pitc check` takes 0 to "
-                              f"{MOST_AMOUNT:,}")
-        return self.roundings[name].of(piece, column, f"the {name}")
-
-    def _tell_fields(self, piece: Piece) -> None:
-        """Tells which fields are left out, by those of the first line."""
-        cells = piece.line_of(0)[1].split()
-        left = [f"{at} (`{cell[:20]}`)" for at, cell in enumerate(cells, 1)
-                if at - 1 not in self.fields]
-        if left:
-            more = f" and {len(left) - 12} more" if len(left) > 12 else ""
-            self.told.tell(f"{os.path.basename(self.path)}: fields that were left out, as the "
-                           f"first line has them: {', '.join(left[:12])}{more}")
-        for name in ("tonnes", "grade"):
-            if name not in self.names:
-                self.told.tell(f"no field was named for {name}: --{name} N; it is 0 for all blocks")
-
-    def blocks(self) -> tuple[Blocks, int]:
-        """The blocks, and the first identifier, 0 or 1."""
-        if not self.parts:
-            raise UserError(f"{self.path}: there are no blocks")
-        ids, *columns = map(np.concatenate, zip(*self.parts))
-        self.parts.clear()
-        first = int(ids.min())
-        if first > 1:
-            refuse_row(pieces_of(self.path), int(ids.argmin()),
-                       "identifiers are not consecutive from 0 or 1: the least is this one")
-        if not np.array_equal(ids, np.arange(first, first + len(ids))):
-            order = np.argsort(ids, kind="stable")
-            steps = np.flatnonzero(np.diff(ids[order]) != 1)
-            if len(steps):
-                refuse_row(pieces_of(self.path), int(order[steps[0] + 1]),
-                           f"identifiers are not consecutive: {ids[order[steps[0]]]} is the one "
-                           "before")
-            columns = [column[order] for column in columns]
-        for name, rounding in self.roundings.items():
-            rounding.tell(pieces_of(self.path), f"{name} were", self.told)
-        axes = [self._index(name, column) for name, column in zip("xyz", columns)]
-        return Blocks(*axes, *columns[3:]), first
-
-    def _index(self, name: str, index: np.ndarray) -> np.ndarray:
-        """A coordinate as an index from 0 on."""
-        least, most = int(index.min()), int(index.max())
-        if least < 0:
-            self.told.tell(f"{name} was moved by {-least}, since indices count from 0")
-            index, most = index - np.int32(least), most - least
-        if most > MOST_INDEX:
-            raise UserError(f"{self.path}: {name} goes to {most}, and indices to {MOST_INDEX}: are "
-                            "these metres?")
-        return index
-
-
-def read_blocks(path: str, columns: Columns, told: Told) -> tuple[Blocks, int]:
-    """The blocks in order of identifier, and the first identifier, 0 or 1.
-
-    Raises UserError, with the line, where identifiers are not consecutive, coordinates are no
-    indices, a named field is lacking, or it is none that `pitc check` takes.
-    """
-    reader = _Blocks(path, columns, told)
-    for piece in pieces_of(path):
-        reader.take(piece)
-    return reader.blocks()
-
-
-def _arcs_of(piece: Piece) -> tuple[np.ndarray, np.ndarray, np.ndarray]:
-    """The identifiers, numbers of predecessors, and predecessors of lines `id k p1 .. pk`."""
-    lengths = line_lengths(piece.text)
-    fields = integers_of(piece.text)
-    starts = np.cumsum(lengths) - lengths
-    if len(fields) != lengths.sum() or lengths.min() < 2:
-        for row, (_, line) in enumerate(piece.lines()):
-            cells = line.split()
-            if len(cells) < 2 or not all(cell.lstrip("+-").isdecimal() for cell in cells):
-                piece.refuse(row, "no line `id k p1 .. pk`")
-        raise UserError(f"{piece.path}: lines from {piece.first} on cannot be read")
-    is_wrong = fields[starts + 1] != lengths - 2
-    if is_wrong.any():
-        row = int(is_wrong.argmax())
-        piece.refuse(row, f"{lengths[row] - 2} predecessors stand in a line `id k p1 .. pk`, and k "
-                          f"is {fields[starts[row] + 1]}")
-    is_predecessor = np.ones(len(fields), dtype=bool)
-    is_predecessor[starts] = is_predecessor[starts + 1] = False
-    return fields[starts], lengths - 2, fields[is_predecessor]
+from pit_tools.instances.models import read_model, read_upit
+from pit_tools.texts.lines import Told, pieces_of, refuse_row
 
 
 def read_precedence(path: str, blocks: int, first: int, told: Told) -> sparse.csr_matrix:
@@ -166,7 +31,7 @@ def read_precedence(path: str, blocks: int, first: int, told: Told) -> sparse.cs
     rows, counts, above = [], [], []
     done = 0
     for piece in pieces_of(path):
-        ids, count, predecessors = _arcs_of(piece)
+        ids, count, predecessors = arcs_in(piece)
         for what, column in (("the block", ids), ("a predecessor", predecessors)):
             is_wrong = (column < first) | (column >= first + blocks)
             if is_wrong.any():
@@ -262,10 +127,10 @@ def read_published(files: dict[str, str], columns: Columns = Columns(), order: O
     lacking = [ending for ending in ("blocks", "prec") if ending not in files]
     if lacking:
         raise UserError(f"give the file of {' and '.join(lacking)}")
-    blocks, first = read_blocks(files["blocks"], columns, told)
+    blocks, first = read_columns(files["blocks"], columns, told)
     precedence = read_precedence(files["prec"], len(blocks), first, told)
     upit = read_upit(files["upit"], first, without_general, told) if "upit" in files else None
-    problems = [read_problem(files[ending], ending.upper(), first, order, without_general, told)
+    problems = [read_model(files[ending], ending.upper(), first, order, without_general, told)
                 if ending in files else None for ending in ("pcpsp", "cpit")]
     mine = _completed(Instance(blocks, precedence, upit, *problems), told)
     for part in (mine.upit, mine.cpit, mine.pcpsp):
@@ -316,7 +181,7 @@ def _with_fields(problem: Optional[Problem], order: str) -> Optional[Problem]:
 
 def write_published(mine: Instance, base: str, order: str = "bdr", with_end: bool = True) -> None:
     """Writes an instance as the library's files are remembered: `EOF` behind each model, and
-    coefficients in an order of their fields, one of published_models.ORDERS.
+    coefficients in an order of their fields, one of models.ORDERS.
 
     Raises UserError as `write_instance` does.
     """

@@ -12,7 +12,7 @@ from typing import Sequence
 import numpy as np
 import pandas as pd
 
-from pit_tools.instances.files import Blocks, Instance, Limit, Problem, UltimatePit, Uses
+from pit_tools.instances.arrays import Blocks, Instance, Limit, Problem, UltimatePit, Uses
 from pit_tools.plans.cones import precedence_of
 from pit_tools.plans.file import Destination, Grid, Plan
 

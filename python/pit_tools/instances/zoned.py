@@ -8,7 +8,7 @@ from typing import Optional, Sequence
 import numpy as np
 
 from pit_tools.errors import UserError
-from pit_tools.instances.files import Instance, Problem, UltimatePit, Uses, present
+from pit_tools.instances.arrays import Instance, Problem, UltimatePit, Uses, present
 
 
 def by_zone(parts: Sequence[tuple[Sequence[int], Instance]]) -> Instance:

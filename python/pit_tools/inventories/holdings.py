@@ -9,7 +9,7 @@ from typing import Any, Mapping, NamedTuple, Optional, Sequence
 
 import numpy as np
 
-from pit_tools.instances.files import Blocks
+from pit_tools.instances.arrays import Blocks
 from pit_tools.plans.file import Grid
 from pit_tools.plans.grids import Frame
 from pit_tools.texts.units import CUBIC_FOOT, Measures

@@ -4,7 +4,7 @@ from __future__ import annotations
 
 import numpy as np
 
-from pit_tools.instances.files import Blocks
+from pit_tools.instances.arrays import Blocks
 from pit_tools.instances.valuation import values_of
 from pit_tools.inventories.holdings import Holdings
 from pit_tools.plans.file import Plan

@@ -19,7 +19,7 @@ from pit_tools.errors import UserError
 from pit_tools.files import outputs
 from pit_tools.files.parquet import bytes_of
 from pit_tools.imports.blocks import Imported
-from pit_tools.instances.files import Blocks
+from pit_tools.instances.arrays import Blocks
 from pit_tools.plans.file import Plan
 from pit_tools.plans.grids import Frame
 from pit_tools.schedules.files import table_of

@@ -17,7 +17,7 @@ import numpy as np
 from scipy import optimize, sparse
 
 from pit_tools.errors import UserError
-from pit_tools.instances.files import Blocks, arcs_of
+from pit_tools.instances.arrays import Blocks, arcs_of
 from pit_tools.pits.compiled import library
 from pit_tools.plans.cones import Places, cone_offsets, precedence_of, size_in_millimetres
 from pit_tools.plans.file import Plan

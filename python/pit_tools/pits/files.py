@@ -7,7 +7,7 @@ import numpy as np
 
 from pit_tools.errors import UserError, quoted
 from pit_tools.files import outputs
-from pit_tools.instances.files import Blocks
+from pit_tools.instances.arrays import Blocks
 from pit_tools.plans.note import PlanNote
 from pit_tools.texts.lines import block_lines
 from pit_tools.texts.spelling import lines_of, multiples_of

@@ -7,7 +7,7 @@ from typing import Iterator
 import numpy as np
 
 from pit_tools.errors import UserError
-from pit_tools.instances.files import Blocks
+from pit_tools.instances.arrays import Blocks
 from pit_tools.plans.file import Grid
 from pit_tools.plans.grids import Frame
 

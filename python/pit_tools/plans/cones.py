@@ -13,7 +13,7 @@ import numpy as np
 from scipy import sparse
 
 from pit_tools.errors import UserError
-from pit_tools.instances.files import Blocks
+from pit_tools.instances.arrays import Blocks
 from pit_tools.plans.file import Grid, Plan, Zone
 
 #: No indices of blocks are further from each other.

@@ -7,7 +7,7 @@ from typing import Iterable, Sequence
 
 import numpy as np
 
-from pit_tools.instances.files import Blocks
+from pit_tools.instances.arrays import Blocks
 from pit_tools.plans.cones import Places, reach_along
 from pit_tools.plans.file import Zone
 

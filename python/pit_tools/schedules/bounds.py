@@ -6,7 +6,7 @@ from typing import Any, Iterator, Optional
 import numpy as np
 
 from pit_tools import progress
-from pit_tools.instances.files import Instance, Problem, present
+from pit_tools.instances.arrays import Instance, Problem, present
 from pit_tools.pits.closure import fewer_arcs, is_compiled, ultimate_pit
 from pit_tools.schedules.certificates import Certificate, told
 from pit_tools.schedules.programs import program_of, solve

@@ -39,7 +39,7 @@ import numpy as np
 from scipy import sparse
 
 from pit_tools.errors import UserError
-from pit_tools.instances.files import Problem
+from pit_tools.instances.arrays import Problem
 from pit_tools.texts.formats import MOST_RESOURCES
 from pit_tools.texts.spelling import multiples_of
 

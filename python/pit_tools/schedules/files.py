@@ -16,7 +16,7 @@ from scipy import sparse
 
 from pit_tools.errors import UserError, quoted
 from pit_tools.files import outputs
-from pit_tools.instances.files import Limit, Problem, arcs_of
+from pit_tools.instances.arrays import Limit, Problem, arcs_of
 from pit_tools.texts.decimals import fault_of, floats_of, is_decimal
 from pit_tools.texts.lines import numbered_lines
 from pit_tools.texts.spelling import (Part, float_parts, joined, laid, shortest, spread,

@@ -18,7 +18,7 @@ import numpy as np
 from scipy import optimize, sparse
 
 from pit_tools import progress
-from pit_tools.instances.files import Problem, arcs_of
+from pit_tools.instances.arrays import Problem, arcs_of
 from pit_tools.pits.closure import closure_of_periods, ultimate_pit
 from pit_tools.schedules import certificates
 from pit_tools.schedules.certificates import PRICE_BITS, Certificate, Factors, NotProved

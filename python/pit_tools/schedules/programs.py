@@ -17,7 +17,7 @@ import numpy as np
 from scipy import optimize, sparse
 
 from pit_tools.errors import UserError
-from pit_tools.instances.files import Problem, UltimatePit, arcs_of
+from pit_tools.instances.arrays import Problem, UltimatePit, arcs_of
 from pit_tools.schedules.ended import within
 from pit_tools.schedules.files import Schedule, schedule_of_shares
 from pit_tools.texts.spelling import Part, joined, laid, spread, whole_parts

@@ -15,7 +15,7 @@ from typing import Optional
 import numpy as np
 from scipy import optimize, sparse
 
-from pit_tools.instances.files import Blocks, Problem, arcs_of
+from pit_tools.instances.arrays import Blocks, Problem, arcs_of
 from pit_tools.pits.closure import ultimate_pit
 from pit_tools.schedules.files import Schedule, check
 from pit_tools.schedules.programs import Program, program_of, schedule_of, solve

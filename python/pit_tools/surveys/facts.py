@@ -14,8 +14,10 @@ import numpy as np
 
 from pit_tools import progress
 from pit_tools.errors import UserError
-from pit_tools.instances.files import (Blocks, Outline, count_predecessors, read_blocks,
-                                       read_outline, remarks_of)
+from pit_tools.instances.arrays import Blocks
+from pit_tools.instances.block_files import read_blocks
+from pit_tools.instances.files import count_predecessors, remarks_of
+from pit_tools.instances.models import Outline, read_outline
 from pit_tools.instances.valuation import values_of
 from pit_tools.inventories.holdings import Holdings, holdings_of
 from pit_tools.pits.closure import is_compiled, pit_by_cones

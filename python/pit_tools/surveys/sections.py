@@ -8,7 +8,8 @@ from matplotlib.figure import Figure
 from matplotlib.lines import Line2D
 
 from pit_tools.errors import UserError, quoted
-from pit_tools.instances.files import Outline, read_blocks
+from pit_tools.instances.block_files import read_blocks
+from pit_tools.instances.models import Outline
 from pit_tools.pits.files import NamedPit
 from pit_tools.plans.file import read_plan
 from pit_tools.plans.note import read_note

@@ -29,7 +29,7 @@ LONGEST = 1 << 26
 #: Characters of a line of few fields, and bytes of a file of such lines.
 MOST_LINE, MOST_FILE = 1 << 16, 2_000_000_000
 
-_COMMENT = re.compile(rb"%[^\n]*")
+_COMMENT, _COMMENT_LINE = re.compile(rb"%[^\n]*"), re.compile(rb"(?m)^[ \t]*%[^\n]*")
 _END = re.compile(rb"(?im)^[ \t]*eof[ \t]*$")
 
 
@@ -187,8 +187,9 @@ def whole_lines(path: str) -> Iterator[bytes]:
             yield rest + b"\n"
 
 
-def pieces_of(path: str) -> Iterator[Piece]:
-    """The lines of a file.
+def pieces_of(path: str, is_own: bool = False) -> Iterator[Piece]:
+    """The lines of a file. In one of `pitc`, `is_own`, a comment is a whole line, a comma is no
+    blank, and `EOF` ends nothing.
 
     Raises UserError where it cannot be opened, is no text, or has lines behind `EOF`.
     """
@@ -197,8 +198,9 @@ def pieces_of(path: str) -> Iterator[Piece]:
         count = text.count(b"\n")
         if b"\0" in text:
             raise UserError(f"{path}: it has bytes of 0: no text of ASCII or UTF-8")
-        piece = Piece(path, number, _plain(text))
-        if end := _END.search(piece.text) if b"f" in text or b"F" in text else None:
+        piece = Piece(path, number, _own(text) if is_own else _plain(text))
+        may_end = not is_own and (b"f" in text or b"F" in text)
+        if end := _END.search(piece.text) if may_end else None:
             behind = piece.between(end.end() + 1, len(piece.text))
             piece, has_ended = piece.between(0, end.start()), True
         elif has_ended:
@@ -208,6 +210,12 @@ def pieces_of(path: str) -> Iterator[Piece]:
         number += count
         if piece.text.strip():
             yield piece
+
+
+def _own(text: bytes) -> bytes:
+    if b"\r" in text:
+        text = text.replace(b"\r\n", b"\n")
+    return _COMMENT_LINE.sub(b"", text) if b"%" in text else text
 
 
 def _plain(text: bytes) -> bytes:
@@ -312,8 +320,10 @@ class Rounding:
         self.rows += numbers.shape[-1]
         return rounded
 
-    def tell(self, pieces: Iterable[Piece], what: str, told: Told) -> None:
-        """Tells how many were rounded, where one was."""
-        if self.count:
+    def tell(self, pieces: Iterable[Piece], what: str, told: Optional[Told]) -> None:
+        """Tells how many were rounded, where one was; raises UserError if there is no `told`."""
+        if self.count and told is None:
+            refuse_row(pieces, self.first, f"a number has more than {self.decimals} decimals")
+        if self.count and told is not None:
             told.tell_rows(pieces, self.first, self.count,
                            f"{what} rounded to {self.decimals} decimals")

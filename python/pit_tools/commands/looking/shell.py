@@ -42,7 +42,7 @@ def run(args: argparse.Namespace) -> int:
     import sys
 
     from pit_tools.imports.record import frame_of
-    from pit_tools.instances.files import read_blocks
+    from pit_tools.instances.block_files import read_blocks
     from pit_tools.pits.files import NamedPit
     from pit_tools.pits.shell_files import writer_of
     from pit_tools.pits.shells import shell_of

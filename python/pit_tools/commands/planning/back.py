@@ -46,7 +46,7 @@ def run(args: argparse.Namespace) -> int:
     from pit_tools.errors import UserError
     from pit_tools.files import outputs
     from pit_tools.imports.record import frame_of
-    from pit_tools.instances.files import read_blocks
+    from pit_tools.instances.block_files import read_blocks
     from pit_tools.pits.back import onto_rows, placed, read_mined
     from pit_tools.plans.file import read_plan
     from pit_tools.plans.note import read_note

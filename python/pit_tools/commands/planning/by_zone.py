@@ -28,7 +28,8 @@ def run(args: argparse.Namespace) -> int:
 
     from pit_tools.errors import UserError
     from pit_tools.files import inputs, outputs
-    from pit_tools.instances.files import present, read_instance, write_instance
+    from pit_tools.instances.arrays import present
+    from pit_tools.instances.files import read_instance, write_instance
     from pit_tools.instances.zoned import by_zone
     from pit_tools.texts.decimals import whole_of
 

@@ -7,7 +7,7 @@ from typing import TYPE_CHECKING
 from pit_tools.commands import add_precedence_option
 
 if TYPE_CHECKING:
-    from pit_tools.instances.files import Instance
+    from pit_tools.instances.arrays import Instance
     from pit_tools.plans.file import Plan
     from pit_tools.plans.note import PlanNote
 
@@ -49,7 +49,8 @@ def add_arguments(parser: argparse.ArgumentParser) -> None:
 def run(args: argparse.Namespace) -> int:
     from pit_tools import progress
     from pit_tools.errors import UserError
-    from pit_tools.instances.files import present, read_instance
+    from pit_tools.instances.arrays import present
+    from pit_tools.instances.files import read_instance
     from pit_tools.pits.closure import ultimate_pit
     from pit_tools.pits.files import told, write_pit
 
@@ -92,7 +93,8 @@ def _by_plan(args: argparse.Namespace) -> int:
     from pit_tools import progress
     from pit_tools.errors import UserError
     from pit_tools.files import outputs
-    from pit_tools.instances.files import present, read_instance
+    from pit_tools.instances.arrays import present
+    from pit_tools.instances.files import read_instance
     from pit_tools.plans.file import read_plan
     from pit_tools.texts.decimals import whole_of
 
@@ -119,7 +121,7 @@ def _pits_by_K(args: argparse.Namespace, plan: Plan, mine: Instance, benches: li
     from dataclasses import replace
 
     from pit_tools import progress
-    from pit_tools.instances.files import present
+    from pit_tools.instances.arrays import present
     from pit_tools.pits.closure import pit_by_cones
     from pit_tools.pits.files import told, write_pit
 

@@ -8,7 +8,7 @@ from typing import TYPE_CHECKING, Iterator, Sequence
 
 if TYPE_CHECKING:
     from pit_tools.imports.record import ImportedFile
-    from pit_tools.instances.files import Blocks
+    from pit_tools.instances.arrays import Blocks
     from pit_tools.plans.contacts import Contacts
     from pit_tools.plans.file import Plan, Zone
     from pit_tools.plans.note import PlanNote

@@ -8,7 +8,7 @@ from typing import TYPE_CHECKING, Optional, Union
 from pit_tools.commands import add_json, add_precedence_option, from_zero, print_json
 
 if TYPE_CHECKING:
-    from pit_tools.instances.files import Instance
+    from pit_tools.instances.arrays import Instance
 
 HELP = """\
 Prints bounds of an instance: the sum of all values above 0; the value of the ultimate pit,
@@ -119,7 +119,8 @@ def _checked(args: argparse.Namespace) -> Optional[dict[str, Bound]]:
     """The bounds that a file of certificates proves; None if one is not proved, which is
     printed."""
     from pit_tools import progress
-    from pit_tools.instances.files import present, read_instance
+    from pit_tools.instances.arrays import present
+    from pit_tools.instances.files import read_instance
     from pit_tools.schedules import certificates
 
     kinds = certificates.kinds_in(args.check)

@@ -70,7 +70,8 @@ def run(args: argparse.Namespace) -> int:
 def _write_flow(args: argparse.Namespace) -> int:
     from pit_tools.errors import UserError
     from pit_tools.files import outputs
-    from pit_tools.instances.files import read_precedence, read_upit
+    from pit_tools.instances.files import read_precedence
+    from pit_tools.instances.models import read_upit
     from pit_tools.pits.closure import fewer_arcs
     from pit_tools.schedules.flows import write_flow
 
@@ -88,7 +89,8 @@ def _write_flow(args: argparse.Namespace) -> int:
 
 def program_by(args: argparse.Namespace) -> Program:
     """The program of the files that the words name."""
-    from pit_tools.instances.files import read_precedence, read_problem, read_upit
+    from pit_tools.instances.files import read_precedence, read_problem
+    from pit_tools.instances.models import read_upit
     from pit_tools.pits.closure import fewer_arcs
     from pit_tools.schedules.programs import program_of, program_of_upit
 

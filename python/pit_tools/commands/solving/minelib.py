@@ -77,9 +77,10 @@ def _bring_in(args: argparse.Namespace, files: dict[str, str]) -> int:
     from dataclasses import replace
 
     from pit_tools.files import outputs
+    from pit_tools.instances.block_files import Columns
     from pit_tools.instances.files import write_instance
     from pit_tools.instances.identifiers import write_identifiers
-    from pit_tools.instances.minelib import Columns, read_published
+    from pit_tools.instances.minelib import read_published
     from pit_tools.pits.closure import immediate
     from pit_tools.texts.lines import Told
 

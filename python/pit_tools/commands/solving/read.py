@@ -7,7 +7,7 @@ from typing import TYPE_CHECKING, Any
 from pit_tools.commands import add_outs, add_precedence_option, by_ending
 
 if TYPE_CHECKING:
-    from pit_tools.instances.files import Instance
+    from pit_tools.instances.arrays import Instance
 
 HELP = """\
 Reads the files of an instance into arrays and sparse matrices, and prints the counts that
@@ -67,7 +67,7 @@ def _write_arrays(mine: Instance, path: str) -> None:
     import numpy as np
 
     from pit_tools.files import outputs
-    from pit_tools.instances.files import present
+    from pit_tools.instances.arrays import present
 
     precedence: Any = present(mine.precedence, "precedence file")
     parts = {f"block_{name}": array

@@ -1,38 +1,52 @@
-"""UPIT, CPIT and PCPSP files as other programs write them: their header and sections, in any order.
+"""UPIT, CPIT and PCPSP files, of `pitc` and of other programs.
 
-What does not fit is refused with its line; what is changed or left out is told.
+A file of `pitc` is read without a `Told`: its keys and sections have one order, and what does not
+fit is refused with its line. Header and sections of other files may have any order; what is changed
+or left out is reported to the `Told`.
 """
 from __future__ import annotations
 
 import difflib
 import os
 import re
+from dataclasses import dataclass
 from itertools import chain
-from typing import Iterator, Optional
+from typing import Iterator, Optional, Union
 
 import numpy as np
 
 from pit_tools.errors import UserError, quoted
-from pit_tools.instances.files import (COEFFICIENTS, KEYS, LIMITS, OBJECTIVE, SECTIONS, Limit,
-                                       Problem, UltimatePit, Uses)
+from pit_tools.instances.arrays import Limit, Problem, UltimatePit, Uses
 from pit_tools.texts.decimals import number_of, whole_of
-from pit_tools.texts.formats import MOST_BLOCKS, MOST_DESTINATIONS, MOST_PERIODS, MOST_RESOURCES
+from pit_tools.texts.formats import (MOST_BLOCKS, MOST_DESTINATIONS, MOST_PERIODS, MOST_RESOURCES,
+                                     WHAT_A_NAME_IS)
 from pit_tools.texts.lines import (Piece, Rounding, Told, line_lengths, numbers_of, pieces_of,
                                    refuse_row)
+from pit_tools.texts.spelling import NotHeld, nearest
+
+OBJECTIVE = "OBJECTIVE_FUNCTION"
+COEFFICIENTS = "RESOURCE_CONSTRAINT_COEFFICIENTS"
+LIMITS = "RESOURCE_CONSTRAINT_LIMITS"
+
+#: The header keys, in the order in which they are written, and the sections after them.
+KEYS = ("NAME", "TYPE", "NBLOCKS", "NPERIODS", "NDESTINATIONS", "NRESOURCE_SIDE_CONSTRAINTS",
+        "NGENERAL_SIDE_CONSTRAINTS", "DISCOUNT_RATE")
+SECTIONS = (OBJECTIVE, COEFFICIENTS, LIMITS)
 
 #: Orders of the fields of a coefficient, in front of its amount: block, destination, resource.
 ORDERS = ("bdr", "brd", "rbd")
 
-#: How limits may be spelled.
+#: How limits may be written, in files of `pitc` by the letters alone.
 LETTERS = {"L": "L", "<=": "L", "<": "L", "LE": "L", "G": "G", ">=": "G", ">": "G", "GE": "G",
            "I": "I"}
 
 
 class Model:
-    """A model file: its header, its values, and where its sections are."""
+    """A model file: its header, and where its sections are."""
 
-    def __init__(self, path: str, kind: str, told: Told):
+    def __init__(self, path: str, kind: str, told: Optional[Told]):
         self.path, self.kind, self.told = path, kind, told
+        self.is_own = told is None
         self.header: dict[str, str] = {}
         self.unknown: list[str] = []
         self.sections: dict[str, int] = {}
@@ -43,11 +57,22 @@ class Model:
         """The file's name without its folder."""
         return os.path.basename(self.path)
 
+    def change(self, fault: str, done: str) -> None:
+        """Reports what is done about a fault, which raises UserError in a file of `pitc`."""
+        if self.told is None:
+            raise UserError(f"{self.path}: {fault}")
+        self.told.tell(f"{self.file_name}: {done}")
+
+    def missing_section(self) -> str:
+        """The next section that a file of `pitc` has, or `none`."""
+        return next(iter(SECTIONS[len(self.sections):1 if self.kind == "UPIT" else None]), "none")
+
     def parts(self) -> Iterator[tuple[str, Piece]]:
         """Pieces of the lines of sections, each with its section's name. Key lines are taken on
         the way; a second way through the file takes none."""
         section, is_first = "", not self.header
-        for piece, is_key in chain.from_iterable(map(Piece.at_keys, pieces_of(self.path))):
+        pieces = pieces_of(self.path, self.is_own)
+        for piece, is_key in chain.from_iterable(map(Piece.at_keys, pieces)):
             if is_key:
                 section = self._key_line(piece, is_first) or section
             elif piece.text.strip():
@@ -62,7 +87,9 @@ class Model:
     def _key_line(self, piece: Piece, is_first: bool) -> str:
         """Takes a line with a colon; answers the section that it begins, if it does."""
         key, _, value = piece.text.decode("utf-8", "replace").partition(":")
-        name, value = re.sub(r"\s+", "_", key.strip()).upper(), value.strip()
+        name, value = key.strip(), value.strip()
+        if not self.is_own:
+            name = re.sub(r"\s+", "_", name).upper()
         if not is_first:
             return "" if value else name
         if value and name not in SECTIONS:
@@ -77,16 +104,24 @@ class Model:
             piece.refuse(0, f"no section that is known{': is it ' + near[0] if near else ''}")
         if name in self.sections:
             piece.refuse(0, f"the section stands in line {self.sections[name]} too")
+        if self.is_own and name != self.missing_section():
+            piece.refuse(0, f"a {self.kind} file has {self.missing_section()} here")
         self.sections[name] = piece.first
         return name
 
     def _header_line(self, piece: Piece, name: str, value: str) -> None:
+        if self.is_own and (name not in KEYS or self.sections):
+            place = f"below {list(self.sections)[-1]}" if self.sections else "in the header"
+            piece.refuse(0, f"no key {quoted(name)} stands {place} of a model")
         if name in self.header:
             piece.refuse(0, f"{name} stands twice")
         if name not in KEYS:
             self.unknown.append(f"{name[:60]} in line {piece.first}")
-            self.told.tell(f"{self.file_name}: line {piece.first}: {name[:60]} is no key that is "
-                           "known, and was left out")
+            self.change("", f"line {piece.first}: {name[:60]} is no key that is known, and was "
+                        "left out")
+        if name == "TYPE" and self.kind != (value if self.is_own else value.upper()):
+            raise UserError(f"{self.path}: TYPE is {quoted(value)}, and it is given as a "
+                            f"{self.kind}")
         self.header[name] = value
 
     def number(self, key: str, least: float, most: float, default: Optional[float] = None) -> float:
@@ -113,10 +148,11 @@ class Model:
 
     def name(self) -> str:
         """Its NAME, or the file's, in characters that a NAME may have."""
-        given = self.header.get("NAME", os.path.splitext(self.file_name)[0])
-        name = re.sub(r"[^A-Za-z0-9_.-]", "_", given)[:64]
-        if name != self.header.get("NAME"):
-            self.told.tell(f"{self.file_name}: NAME is {name} now")
+        given = self.header.get("NAME")
+        name = re.sub(r"[^A-Za-z0-9_.-]", "_", given or os.path.splitext(self.file_name)[0])[:64]
+        if name != given:
+            self.change(f"NAME is {quoted(given or '')}, and has {WHAT_A_NAME_IS}",
+                        f"NAME is {name} now")
         return name
 
 
@@ -131,7 +167,8 @@ class _Values:
 
     def take(self, piece: Piece) -> None:
         """Takes lines `block value ..`, all with as many values."""
-        length = 1 + (len(self.parts[0]) if self.parts else int(line_lengths(piece.text)[0]) - 1)
+        length = 1 + (len(self.parts[0]) if self.parts
+                      else int(line_lengths(piece.text)[:1].sum()) - 1)
         if length < 2 or self.model.kind != "PCPSP" and length != 2:
             piece.refuse(0, f"a line of the objective of a {self.model.kind} is a block and "
                             f"{'its values' if self.model.kind == 'PCPSP' else 'one value'}")
@@ -146,16 +183,18 @@ class _Values:
         ids, values = np.concatenate(self.ids), np.concatenate(self.parts, axis=1).T
         self.rounding.tell(self.model.rows(OBJECTIVE), "values were", self.model.told)
         at = ids - self.first
-        seen = np.zeros(len(ids), dtype=bool)
-        is_wrong = (at < 0) | (at >= len(ids))
-        seen[at[~is_wrong]] = True
-        if not seen.all():
+        is_wrong = at != np.arange(len(at))
+        if not is_wrong.any():
+            return np.ascontiguousarray(values)
+        if not self.model.is_own:
+            is_wrong = (at < 0) | (at >= len(ids))
             if not is_wrong.any():
-                is_wrong = np.ones(len(ids), dtype=bool)
+                is_wrong[:] = True
                 is_wrong[np.unique(at, return_index=True)[1]] = False
+        if is_wrong.any():
             refuse_row(self.model.rows(OBJECTIVE), int(is_wrong.argmax()),
                        f"the objective has {len(ids)} lines, which are not one for each block from "
-                       f"{self.first} on")
+                       f"{self.first} on{' in turn' if self.model.is_own else ''}")
         ordered = np.empty_like(values, order="C")
         ordered[at] = values
         return ordered
@@ -222,8 +261,8 @@ class _Coefficients:
                                 f"{' and '.join(fitting)}, which are other models: say which by "
                                 "--order")
         if not given and fitting[0] != orders[0]:
-            self.model.told.tell(f"{self.model.file_name}: fields of coefficients stand in the "
-                                 f"order {fitting[0]}, the only one that fits")
+            self.model.change("", f"fields of coefficients stand in the order {fitting[0]}, the "
+                              "only one that fits")
         destination = columns["d"] if with_d else np.zeros(len(fields[0]), np.int8)
         return [columns["b"] - np.int32(first), destination, columns["r"]]
 
@@ -234,9 +273,22 @@ class _Coefficients:
             is_wrong = (column < starts[letter]) | (column >= starts[letter] + limits[letter])
             if is_wrong.any():
                 row = int(is_wrong.argmax())
+                place = "" if self.model.is_own else f"in the order {order} of fields "
                 refuse_row(self.model.rows(COEFFICIENTS), row,
-                           f"in the order {order} of fields the {names[letter]} is {column[row]}, "
-                           f"and there are {limits[letter]}")
+                           f"{place}the {names[letter]} is {column[row]}, and there are "
+                           f"{limits[letter]}")
+
+
+class _Count:
+    """The lines of coefficients, which are counted and not read."""
+
+    def __init__(self) -> None:
+        self.lines = 0
+
+    def take(self, piece: Piece) -> None:
+        """Counts lines: those that may be blank one by one."""
+        is_plain = not any(blank in b"\n" + piece.text for blank in (b"\n\n", b" \n", b"\t\n"))
+        self.lines += piece.text.count(b"\n") if is_plain else len(line_lengths(piece.text))
 
 
 def _limit_of(piece: Piece, row: int, line: str, model: Model,
@@ -244,7 +296,8 @@ def _limit_of(piece: Piece, row: int, line: str, model: Model,
     """The limit of a line, None where it sets none."""
     fields = line.split(maxsplit=5)
     resource, period = (whole_of(cell) for cell in [*fields[:2], "", ""][:2])
-    letter = LETTERS.get("".join(fields[2:3]).upper())
+    word = "".join(fields[2:3])
+    letter = LETTERS.get(word.upper() if not model.is_own or word in LETTERS.values() else "")
     numbers = [number for cell in fields[3:] if (number := _end_of(cell)) is not None]
     if resource is None or period is None or letter is None \
             or not (5 if letter == "I" else 4) <= 3 + len(numbers) == len(fields) <= 5:
@@ -252,18 +305,18 @@ def _limit_of(piece: Piece, row: int, line: str, model: Model,
     if not (resource < ends[0] and period < ends[1]):
         piece.refuse(row, f"there are {ends[0]} resources and {ends[1]} periods, from 0")
     if letter != "I" and len(numbers) == 2:
-        model.told.tell(_told(model, piece, row, "the second number was left out"))
+        _change(model, piece, row, "it has a second number", "the second number was left out")
         numbers = numbers[:1]
     least = numbers[0] if letter in "GI" else -np.inf
     most = numbers[-1] if letter in "LI" else np.inf
     if least > most or least == np.inf or most == -np.inf:
         piece.refuse(row, "no amount is within this limit")
     if least == -np.inf and most == np.inf:
-        model.told.tell(_told(model, piece, row, "it sets no limit, and was left out"))
+        _change(model, piece, row, "it sets no limit", "it sets no limit, and was left out")
         return None
     kept = "L" if least == -np.inf else "G" if most == np.inf else "I"
     if kept != letter:
-        model.told.tell(_told(model, piece, row, f"one end is infinite: it is {kept} now"))
+        _change(model, piece, row, "one end is infinite", f"one end is infinite: it is {kept} now")
     return Limit(resource, period, kept, least, most)
 
 
@@ -271,12 +324,13 @@ def _end_of(cell: str) -> Optional[float]:
     """A number of a limit, which may be infinite; None where it is none."""
     if re.fullmatch("[+-]?inf(inity)?", cell.lower()):
         return float(cell)
-    number = number_of(cell)
-    return None if number is None or abs(number) >= 9e9 else number
+    return number_of(cell)
 
 
-def _told(model: Model, piece: Piece, row: int, text: str) -> str:
-    return f"{model.file_name}: line {piece.line_of(row)[0]}: {text}"
+def _change(model: Model, piece: Piece, row: int, fault: str, done: str) -> None:
+    if model.is_own:
+        piece.refuse(row, f"no limit of a file of pitc: {fault}")
+    model.change("", f"line {piece.line_of(row)[0]}: {done}")
 
 
 class _Limits:
@@ -305,42 +359,44 @@ class _Limits:
         return [found[key] for key in sorted(found)]
 
     def _rounded(self, limit: Limit, piece: Piece, row: int) -> Limit:
-        ends = [round(end, 6) for end in limit.ends]
-        if ends != limit.ends:
-            self.model.told.tell(_told(self.model, piece, row, "rounded to 6 decimals"))
-        return Limit.of(limit.resource, limit.period, limit.letter, ends)
+        try:
+            ends, is_finer = nearest(np.array(limit.ends), 6)
+        except NotHeld:
+            piece.refuse(row, "an end is too great to be held")
+        if is_finer.any():
+            _change(self.model, piece, row, "more than 6 decimals", "rounded to 6 decimals")
+        return Limit.of(limit.resource, limit.period, limit.letter, ends.tolist())
 
 
-def _read(path: str, kind: str, first: int, without_general: bool,
-          told: Told) -> tuple[Model, np.ndarray, _Coefficients, _Limits]:
-    """The header and the sections of a model file."""
-    model = Model(path, kind, told)
-    values, uses, limits = _Values(model, first), _Coefficients(model), _Limits(model)
-    takers = {OBJECTIVE: values, COEFFICIENTS: uses, LIMITS: limits}
+_Uses = Union[_Coefficients, _Count]
+
+
+def _read(model: Model, first: int, without_general: bool,
+          uses: _Uses) -> tuple[np.ndarray, _Limits]:
+    """Takes the header and the sections of a model file; answers its values and limits."""
+    values, limits = _Values(model, first), _Limits(model)
+    takers: dict[str, Union[_Values, _Uses, _Limits]] = {OBJECTIVE: values, COEFFICIENTS: uses,
+                                                         LIMITS: limits}
     for section, piece in model.parts():
         if section in takers:
-            if kind == "UPIT" and section != OBJECTIVE:
+            if model.kind == "UPIT" and section != OBJECTIVE:
                 piece.refuse(0, f"a UPIT has no {section}")
-            takers[section].take(piece)  # type: ignore[attr-defined]
+            takers[section].take(piece)
         else:
             model.general += len(line_lengths(piece.text))
     _look_at_general(model, without_general)
-    _look_at_type(model)
+    if "TYPE" not in model.header:
+        model.change("no TYPE", f"no TYPE; it was read as a {model.kind}")
     by_block = values.by_block()
     if "NBLOCKS" not in model.header:
-        told.tell(f"{model.file_name}: no NBLOCKS; the objective has {len(by_block)} blocks")
+        model.change("no NBLOCKS", f"no NBLOCKS; the objective has {len(by_block)} blocks")
     elif model.count("NBLOCKS", 0, MOST_BLOCKS) != len(by_block):
-        raise UserError(f"{path}: NBLOCKS is {quoted(model.header['NBLOCKS'])}, and the objective "
-                        f"has {len(by_block)} lines")
-    return model, by_block, uses, limits
-
-
-def _look_at_type(model: Model) -> None:
-    if "TYPE" not in model.header:
-        model.told.tell(f"{model.file_name}: no TYPE; it was read as a {model.kind}")
-    elif model.header["TYPE"].upper() != model.kind:
-        raise UserError(f"{model.path}: TYPE is {quoted(model.header['TYPE'])}, and it is given as "
-                        f"a {model.kind}")
+        raise UserError(f"{model.path}: NBLOCKS is {quoted(model.header['NBLOCKS'])}, and the "
+                        f"objective has {len(by_block)} lines")
+    if model.is_own and model.missing_section() != "none":
+        raise UserError(f"{model.path}: it has no section {model.missing_section()}: was it cut "
+                        "short?")
+    return by_block, limits
 
 
 def _look_at_general(model: Model, without_general: bool) -> None:
@@ -351,39 +407,79 @@ def _look_at_general(model: Model, without_general: bool) -> None:
         raise UserError(
             f"{model.path}: it has {count} general side constraints, which an instance of pitc has "
             "not: --without-general leaves them out, and makes it another problem")
-    model.told.tell(f"{model.file_name}: {count} general side constraints and their "
-                    f"{model.general} lines were left out")
+    model.change("", f"{count} general side constraints and their {model.general} lines were left "
+                 "out")
 
 
-def read_upit(path: str, first: int, without_general: bool, told: Told) -> UltimatePit:
-    """A UPIT file, of blocks from `first` on. Raises UserError where it is none."""
-    model, values, _, _ = _read(path, "UPIT", first, without_general, told)
+def _head_of(model: Model, destinations: int) -> tuple[int, int, float]:
+    """The periods, the resources, and the rate. Raises UserError where one is none, or blocks have
+    another number of values than there are destinations."""
+    if destinations > MOST_DESTINATIONS:
+        raise UserError(f"{model.path}: {destinations} destinations, and an instance has at most "
+                        f"{MOST_DESTINATIONS}")
+    given = model.count("NDESTINATIONS", 1, MOST_DESTINATIONS,
+                        None if model.is_own and model.kind == "PCPSP" else destinations)
+    if model.kind == "PCPSP" and given != destinations:
+        raise UserError(f"{model.path}: NDESTINATIONS is {given}, and blocks have {destinations} "
+                        "values")
+    periods = model.count("NPERIODS", 1, MOST_PERIODS)
+    resources = model.count("NRESOURCE_SIDE_CONSTRAINTS", 0, MOST_RESOURCES)
+    for section in (COEFFICIENTS, LIMITS):
+        if resources and section not in model.sections:
+            raise UserError(f"{model.path}: no section {section}, and there are {resources} "
+                            "resources")
+    rate = model.number("DISCOUNT_RATE", 0, 1)
+    if round(rate, 6) != rate:
+        model.change("DISCOUNT_RATE has more than 6 decimals",
+                     "DISCOUNT_RATE rounded to 6 decimals")
+    return periods, resources, round(rate, 6)
+
+
+@dataclass(frozen=True)
+class Outline:
+    """A PCPSP or a CPIT without its uses, of which only the number was taken."""
+
+    header: dict[str, str]
+    values: np.ndarray  #: (blocks, destinations)
+    uses: int
+    limits: list[Limit]
+
+
+def read_outline(path: str, kind: str = "PCPSP") -> Outline:
+    """The header, values and limits of a model file of `pitc`; its coefficients are counted and not
+    read.
+
+    Raises UserError where it is none.
+    """
+    model, uses = Model(path, kind, None), _Count()
+    values, limits = _read(model, 0, False, uses)
+    periods, resources, _ = _head_of(model, values.shape[1])
+    model.name()
+    return Outline(model.header, values, uses.lines, limits.limits(resources, periods))
+
+
+def read_upit(path: str, first: int = 0, without_general: bool = False,
+              told: Optional[Told] = None) -> UltimatePit:
+    """A UPIT file, of blocks from `first` on: its values (n,), in units of 100 cents.
+
+    Raises UserError where it is none."""
+    model = Model(path, "UPIT", told)
+    values, _ = _read(model, first, without_general, _Count())
     return UltimatePit(model.name(), values[:, 0])
 
 
-def read_problem(path: str, kind: str, first: int, order: Optional[str], without_general: bool,
-                 told: Told) -> Problem:
+def read_model(path: str, kind: str, first: int = 0, order: Optional[str] = None,
+               without_general: bool = False, told: Optional[Told] = None) -> Problem:
     """A CPIT or a PCPSP file, of blocks from `first` on. `order` is that of a coefficient's
     fields, one of ORDERS, or None where it is to be the one that fits.
 
     Raises UserError where parts are lacking, out of range, or there are general side constraints.
     """
-    model, values, uses, limits = _read(path, kind, first, without_general, told)
-    destinations = values.shape[1]
-    if destinations > MOST_DESTINATIONS:
-        raise UserError(f"{path}: {destinations} destinations, and an instance has at most "
-                        f"{MOST_DESTINATIONS}")
-    given = model.count("NDESTINATIONS", 1, MOST_DESTINATIONS, destinations)
-    if kind == "PCPSP" and given != destinations:
-        raise UserError(f"{path}: NDESTINATIONS is {given}, and blocks have {destinations} values")
-    periods = model.count("NPERIODS", 1, MOST_PERIODS)
-    resources = model.count("NRESOURCE_SIDE_CONSTRAINTS", 0, MOST_RESOURCES)
-    for section in (COEFFICIENTS, LIMITS):
-        if resources and section not in model.sections:
-            raise UserError(f"{path}: no section {section}, and there are {resources} resources")
-    rate = model.number("DISCOUNT_RATE", 0, 1)
-    if round(rate, 6) != rate:
-        told.tell(f"{model.file_name}: DISCOUNT_RATE rounded to 6 decimals")
-    return Problem(kind, model.name(), periods, resources, round(rate, 6), values,
-                   uses.uses(first, (len(values), destinations, resources), order),
+    model = Model(path, kind, told)
+    uses = _Coefficients(model)
+    values, limits = _read(model, first, without_general, uses)
+    blocks, destinations = values.shape
+    periods, resources, rate = _head_of(model, destinations)
+    used = uses.uses(first, (blocks, destinations, resources), ORDERS[0] if model.is_own else order)
+    return Problem(kind, model.name(), periods, resources, rate, values, used,
                    limits.limits(resources, periods))
