@@ -35,7 +35,7 @@ pub fn front_whole(text: &[u8]) -> Option<(u64, &[u8])>
 ///
 /// A decimal with 1 to 12 digits before the point and at most `max_decimals` behind it is always read. `None` says that
 /// the text begins in another way, as with a plus or a point. (`parse_dec` reads a whole text in any spelling.)
-#[inline]
+#[inline(always)]
 pub fn front_dec(text: &[u8], max_decimals: u8) -> Option<(i64, &[u8])>
     requires { max_decimals ≤ 6 }
     ensures decimal { IfSome result (λ x. BeginsWith max_decimals text.now x.0 x.1.now) }

@@ -13,5 +13,5 @@ pub use decimal::{Dec, MILLIONTHS};
 pub use fault::DecFault;
 pub use front::{front_dec, front_whole};
 pub use or_memory::OrMemory;
-pub use reading::{after, parse_dec, parse_within};
+pub use reading::{after, parse_dec, parse_within, usual_dec};
 pub use writing::{append_front, put_dec, write_sign};

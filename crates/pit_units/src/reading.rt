@@ -1,9 +1,11 @@
 //! The decimal that a text states.
 
-ghost use Rattle.std.specs.Prelude.{◌≡◌, ◌+◌, ◌*◌, ◌^◌, ◌≤◌, ◌<◌, ◌==◌, min, drop, slice_index_or, length, not, ◌&&◌, IsTrue, nat_lt, if◌then◌else◌, IfOk, IfSome, Ok, Err, ℤ, ◌≤ℤ◌};
-ghost use Rattle.std.specs.List.{position_or_len};
+ghost use Rattle.std.specs.Prelude.{◌≡◌, ◌+◌, ◌*◌, ◌^◌, ◌≤◌, ◌<◌, ◌==◌, min, drop, slice_index_or, length, not, ◌&&◌, IsTrue, nat_lt, if◌then◌else◌, IfOk, IfSome, IsSome, Ok, Err, [], ℤ, ◌≤ℤ◌};
+ghost use Rattle.std.specs.List.{All, position_or_len};
 ghost use Rattle.std.specs.Str.Parse.{digits_value, without_leading_sign};
 ghost use Rattle.pit_units.specs.Decimal.{all_digits, all_zeros, decimal_of, decimal_within, signed, six_decimals};
+ghost use Rattle.pit_units.specs.Front.{past_digits, past_fraction, past_minus, IsUsual};
+ghost use Rattle.pit_units.specs.Shortest.{IsPlainByte};
 ghost use Rattle.pit_units.specs.StandsFor.{StandsFor};
 
 use crate::decimal::Dec;
@@ -41,8 +43,8 @@ fn decimal_in(text: &[u8], max_decimals: u8) -> Result<Dec, DecFault>
     requires { max_decimals ≤ 6 }
     ensures { result ≡ decimal_of max_decimals text.now }
 {
-    match short_decimal(text, max_decimals) {
-        Some(dec) => Ok(dec),
+    match usual_dec(text, max_decimals) {
+        Some(millionths) => Ok(Dec::new(i128::from(millionths)).unwrap()),
         None => parse_any(text, max_decimals),
     }
 }
@@ -68,17 +70,22 @@ pub fn parse_within(text: &[u8], max_decimals: u8, low: i128, high: i128) -> Res
     }
 }
 
-// The decimal of a text as most are written, read in one pass. `None` says nothing of the text.
+/// Reads the millionths of a text in the usual form, in one pass: an optional minus, digits, and optionally a point with at most
+/// `max_decimals` digits after it. Reads all such texts with 1 to 12 digits before the point. `None` says nothing about the text:
+/// `parse_dec` reads any form.
 #[inline(always)]
-fn short_decimal(text: &[u8], max_decimals: u8) -> Option<Dec>
+pub fn usual_dec(text: &[u8], max_decimals: u8) -> Option<i64>
     requires { max_decimals ≤ 6 }
-    ensures { IfSome result (λ dec. decimal_of max_decimals text.now ≡ Ok dec) }
+    ensures stated { IfSome result (λ m. decimal_of max_decimals text.now ≡ Ok m) }
+    ensures plain { IfSome result (λ _. All IsPlainByte text.now) }
+    ensures taken { IsUsual max_decimals (past_minus text.now)
+        → past_fraction (past_digits (past_minus text.now)) ≡ [] → IsSome result }
 {
     let (millionths, rest) = front_dec(text, max_decimals)?;
     if !rest.is_empty() {
         return None;
     }
-    Some(Dec::new(i128::from(millionths)).unwrap())
+    Some(millionths)
 }
 
 #[inline(never)]
