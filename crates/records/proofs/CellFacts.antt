@@ -1,7 +1,8 @@
 -- What a cell and a record lose at their ends.
-use Rattle.std.proofs.Common.{◌≡◌, ◌<◌, ◌==◌, ◌+◌, ◌-◌, ◌++◌, ℕ, zero, suc, List, [], ◌∷◌, Bool, true, false, arith, refl, sym, ◌∙◌, ap, length, length-append, get_or, map, take, cond, Some, None}
+use Rattle.std.proofs.Common.{All, ◌≡◌, ◌<◌, ◌==◌, ◌+◌, ◌-◌, ◌++◌, ℕ, zero, suc, List, [], ◌∷◌, Bool, true, false, arith, refl, sym, ◌∙◌, ap, length, length-append, get_or, map, take, cond, Some, None}
 use Rattle.std.proofs.lemmas.Bool.{eqb-true}
 use Rattle.std.proofs.lemmas.List.{take_more, take_all, length-map, length-take-le}
+use Rattle.std.proofs.lemmas.List.Elements.{All-get_or, All-head}
 use Rattle.std.proofs.Math.ListN.{get_or-map}
 use Rattle.csv.proofs.RecordFacts.{field-get}
 use Rattle.csv.specs.Records.{field_at}
@@ -42,6 +43,15 @@ pub other_at_end : (xs : List ℕ) → 0 < length xs → is_blank (get_or xs (le
 other_at_end xs some h =
     sym (ap without_trailing_blanks (split_last xs 0 some)) ∙ end_stays is_blank (take (length xs - 1) xs) _ h ∙ split_last xs 0 some
 
+-- a cell without blanks keeps all its bytes
+end_kept : (cell : List ℕ) → 0 < length cell → All (λ b. is_blank b ≡ false) cell → without_trailing_blanks cell ≡ cell
+end_kept cell some h =
+    other_at_end cell some (All-get_or (λ b. is_blank b ≡ false) cell (length cell - 1) 0 (omega (arith, some)) h)
+
+pub all_kept : (cell : List ℕ) → All (λ b. is_blank b ≡ false) cell → trimmed cell ≡ cell
+all_kept [] h = refl
+all_kept (b ∷ cell) h = rw (All-head (λ c. is_blank c ≡ false) b cell h) (end_kept (b ∷ cell) (omega arith) h)
+
 -- a list with no element is empty
 empty_is : {A : Type 0} (xs : List A) → (length xs == 0) ≡ true → xs ≡ []
 empty_is [] h = refl
@@ -70,18 +80,14 @@ pub at_cell : (fields : List (List ℕ)) (i : ℕ) → cell_at (cells_of fields)
 at_cell fields i = cell_stays (map trimmed fields) i ∙ get_or-map trimmed fields i []
 
 -- the field there, by what csv answers for the place
-pub cell_there : (fields : List (List ℕ)) (i : ℕ) (field : List ℕ) → field_at fields i ≡ Some field
-    → trimmed field ≡ trimmed (get_or fields i [])
-cell_there fields i field h = sym (ap trimmed (field-get fields i field h))
+pub field_there : (fields : List (List ℕ)) (i : ℕ) (field : List ℕ) → field_at fields i ≡ Some field → field ≡ get_or fields i []
+field_there fields i field h = sym (field-get fields i field h)
 
-none_there : (fields : List (List ℕ)) (i : ℕ) → field_at fields i ≡ None → get_or fields i [] ≡ []
+pub none_there : (fields : List (List ℕ)) (i : ℕ) → field_at fields i ≡ None → [] ≡ get_or fields i []
 unfolding field_at
 none_there [] i h = refl
 none_there (f ∷ fields) zero h = absurd (cc)
 none_there (f ∷ fields) (suc i) h = none_there fields i h
-
-pub no_cell_there : (fields : List (List ℕ)) (i : ℕ) → field_at fields i ≡ None → [] ≡ trimmed (get_or fields i [])
-no_cell_there fields i h = sym (ap trimmed (none_there fields i h))
 
 -- counting cells in turn: after one more, the count is the place past it where it is not empty
 pub one_empty : (fields : List (List ℕ)) (i n : ℕ) → i < length fields → (length (cell_at (cells_of fields) i) == 0) ≡ true

@@ -68,15 +68,21 @@ pub fn cell_count(row: &ByteRecord) -> usize
 
 /// The cell of a record at a place, trimmed; it is empty where the record has no such cell.
 #[inline(always)]
-#[tactic(auto, using(crate::proofs::CellFacts::at_cell, crate::proofs::CellFacts::cell_there, crate::proofs::CellFacts::no_cell_there))]
+#[tactic(auto, using(crate::proofs::CellFacts::at_cell))]
 pub fn cell_at(row: &ByteRecord, place: usize) -> &[u8]
     ensures value { result.now ≡ cell_at (cells_of (fields_of row.now)) place }
     ensures field { result.now ≡ trimmed (slice_index_or (fields_of row.now) place []) }
 {
-    match row.get(place) {
-        Some(field) => trimmed(field),
-        None => &[],
-    }
+    trimmed(field_at(row, place))
+}
+
+/// Returns the cell of a record at a place with its blanks. It is empty if the record has no such cell.
+#[inline(always)]
+#[tactic(auto, using(crate::proofs::CellFacts::field_there, crate::proofs::CellFacts::none_there))]
+pub fn field_at(row: &ByteRecord, place: usize) -> &[u8]
+    ensures { result.now ≡ slice_index_or (fields_of row.now) place [] }
+{
+    row.get(place).unwrap_or(&[])
 }
 
 /// Whether the cell is the word. Its ASCII letters may be in upper or lower case.
