@@ -1,12 +1,15 @@
 -- What a row's answer tells: that its fault is of its number, and that it states a block exactly where its cells spell the block.
 use Rattle.std.proofs.Common.{◌≡◌, ℕ, ◌*◌, ◌/◌, ◌%◌, ◌^◌, ◌<◌, ◌≤◌, Bool, true, false, List, arith, refl, sym, ◌∙◌, ap, subst, leb-true, ℤ, pos, Ok, Err, min, length}
-use Rattle.std.specs.Prelude.{Result, ◌==◌, nat_le, not, if◌then◌else◌}
+use Rattle.std.specs.Prelude.{All, Result, ◌==◌, ◌≤ℤ◌, int_le, nat_le, not, if◌then◌else◌}
 use Rattle.std.proofs.Math.Nat.{min-eq_left, mul-div_left}
-use Rattle.std.proofs.lemmas.Bool.{eq-eqb, le-leb, not-false}
+use Rattle.std.proofs.lemmas.Bool.{eq-eqb, le-leb, ne_eqb, not-false}
+use Rattle.std.proofs.lemmas.Int.{ints}
+use Rattle.std.proofs.lemmas.List.Elements.{All-weaker}
 use Rattle.pit_units.proofs.Exactly.{Exactly, as_, counted, done, holds, same, tested, then_}
 use Rattle.pit_units.proofs.Multiples.{stands_multiple}
 use Rattle.pit_units.proofs.SpelledFacts.{size_of_number, stands_within, within_stands}
-use Rattle.pit_units.specs.Decimal.{decimal_within}
+use Rattle.pit_units.specs.Decimal.{decimal_of, decimal_within}
+use Rattle.pit_units.specs.Shortest.{IsPlainByte}
 use Rattle.pit_units.specs.SpelledNumbers.{SpellsNumber, SpellsSize}
 use Rattle.pit_units.specs.StandsFor.{StandsFor}
 use Rattle.pit_units.specs.Steps.{◌>>=◌}
@@ -17,6 +20,8 @@ use Rattle.plan_parts.specs.Block.{block_with}
 use Rattle.plan_parts.specs.declared.block.Block.{Block}
 use Rattle.plan_parts.specs.declared.grid.Axis.{Axis}
 use Rattle.plan_parts.specs.declared.grid.Grid.{Grid}
+use Rattle.records.proofs.CellFacts.{all_kept}
+use Rattle.records.specs.Cells.{is_blank, trimmed}
 use Rattle.zone_csv.proofs.CentroidFacts.{centroid_in_grid, centroid_index, centroid_on_step, index_is_centroid}
 use Rattle.zone_csv.specs.Cell.{a_fault, greatest, index_at, is_on_step, least}
 use Rattle.zone_csv.specs.Row.{cell_in, index_said, number_said, row_of, size_said}
@@ -244,3 +249,16 @@ module _ (grid : Grid) (zone : ℕ) (columns : Columns) (number : ℕ) (cells : 
 
       pub row_spelled : Exactly (row_of grid zone columns number cells) (SpellsBlock grid zone columns number cells)
       row_spelled = as_ row_is_read spelled read
+
+not_blank : (b : ℕ) → IsPlainByte b → is_blank b ≡ false
+not_blank b plain = rw (ne_eqb b 32 (λ e. omega (arith, e, plain.0)), ne_eqb b 9 (λ e. omega (arith, e, plain.0))) refl
+
+-- a field of digits, points and minuses alone has no blanks, so its number is also that of the trimmed cell
+pub usual_said : (row : ℕ) (column : Column) (decimals : ℕ) (low high : ℤ) (field : List ℕ) (m : ℤ) → decimal_of decimals field ≡ Ok m
+    → All IsPlainByte field → low ≤ℤ m → m ≤ℤ high → Ok m ≡ number_said row column (decimal_within decimals low high (trimmed field))
+unfolding decimal_within
+usual_said row column decimals low high field m read plain above below =
+    let kept : trimmed field ≡ field = all_kept field (All-weaker IsPlainByte (λ b. is_blank b ≡ false) not_blank field plain) in
+    let from : int_le low m ≡ true = grind (arith, ints, above) in
+    let to : int_le m high ≡ true = grind (arith, ints, below) in
+    rw (kept, read, from, to) refl

@@ -1,8 +1,9 @@
 //! What a cell of a row states.
 
-ghost use Rattle.std.specs.Prelude.{◌≡◌, ℕ, ◌*◌, ◌<◌, ◌≤◌, ◌≤ℤ◌, ◌-ℤ◌, pos, unsigned_abs, Err, IfOk};
+ghost use Rattle.std.specs.Prelude.{◌≡◌, ℕ, ◌*◌, ◌^◌, ◌<◌, ◌≤◌, ◌≤ℤ◌, ◌-ℤ◌, pos, unsigned_abs, Err, IfOk};
 ghost use Rattle.plan_parts.specs.PlanKept.{IsAxis};
 ghost use Rattle.pit_units.specs.Decimal.{decimal_within};
+ghost use Rattle.records.specs.Cells.{trimmed};
 ghost use Rattle.zone_csv.specs.Cell.{a_fault, greatest, least};
 ghost use Rattle.zone_csv.specs.Row.{index_said, number_said, size_said};
 ghost use Rattle.zone_csv.specs.SpelledRow.{IsInGrid};
@@ -10,9 +11,10 @@ ghost use Rattle.zone_csv.specs.inner.RowAnswers.{in_row};
 ghost use Rattle.plan_parts.specs.declared.ranges.TheConstants.{GRID_CELLS};
 
 use crate::row_fault::{Column, RowFault, RowFaultKind};
-use pit_units::{Dec, DecFault, parse_within};
+use pit_units::{DecFault, parse_within, usual_dec};
 use plan_parts::grid::Axis;
 use plan_parts::ranges::GRID_CELLS;
+use records::cells::trimmed;
 
 #[inline(always)]
 pub(crate) fn a_fault(row: u32, column: Column, kind: RowFaultKind) -> RowFault
@@ -42,48 +44,73 @@ fn no_decimal(column: Column, fault: DecFault) -> ColumnFault
     ColumnFault { column, kind }
 }
 
-// The number that a cell states, with so many decimals, from the lowest to the highest millionths.
+// Reads the number in a field without the blanks at its ends: at most `decimals` decimals, from `low` to `high` millionths. Most fields
+// have the usual form and no blanks, and are read in one pass.
 #[inline(always)]
+#[tactic(auto, using(crate::proofs::RowFacts::usual_said))]
 fn number_of(
     column: Column,
     decimals: u8,
-    low: i128,
-    high: i128,
+    low: i64,
+    high: i64,
+    field: &[u8],
+) -> Result<i64, ColumnFault>
+    requires { decimals ≤ 6 }
+    ensures value { (row : ℕ) → in_row row result
+        ≡ number_said row column (decimal_within decimals low high (trimmed field.now)) }
+    ensures in_range { IfOk result (λ number. (low ≤ℤ number) × (number ≤ℤ high)) }
+{
+    match usual_dec(field, decimals) {
+        Some(number) if low <= number && number <= high => Ok(number),
+        _ => any_number(column, decimals, low, high, trimmed(field)),
+    }
+}
+
+// Reads the number in a cell of any form.
+#[inline(never)]
+fn any_number(
+    column: Column,
+    decimals: u8,
+    low: i64,
+    high: i64,
     cell: &[u8],
-) -> Result<Dec, ColumnFault>
+) -> Result<i64, ColumnFault>
     requires { decimals ≤ 6 }
     ensures value { (row : ℕ) → in_row row result
         ≡ number_said row column (decimal_within decimals low high cell.now) }
     ensures in_range { IfOk result (λ number. (low ≤ℤ number) × (number ≤ℤ high)) }
 {
-    parse_within(cell, decimals, low, high).map_err(|fault| no_decimal(column, fault))
+    let number = parse_within(cell, decimals, i128::from(low), i128::from(high)).map_err(
+        |fault| no_decimal(column, fault),
+    )?;
+    Ok(number.millionths() as i64)
 }
 
-// The millionths that a cell states, with so many decimals, from 0 to the most.
+// Reads the millionths in a field without its blanks: at most `decimals` decimals, from 0 to `most`.
 #[inline(always)]
 pub(crate) fn millionths_in(
     column: Column,
     decimals: u8,
     most: u64,
-    cell: &[u8],
+    field: &[u8],
 ) -> Result<u64, ColumnFault>
-    requires { decimals ≤ 6 }
+    requires { (decimals ≤ 6) × (most < 2 ^ 63) }
     ensures value { (row : ℕ) → in_row row result
-        ≡ size_said row column decimals most cell.now }
+        ≡ size_said row column decimals most (trimmed field.now) }
     ensures in_range { IfOk result (λ size. size ≤ most) }
 {
-    let number = number_of(column, decimals, 0, i128::from(most), cell)?;
-    Ok(number.millionths() as u64)
+    Ok(number_of(column, decimals, 0, most as i64, field)? as u64)
 }
 
-// The index of the blocks at the coordinate that a cell states.
+// Returns the index of the blocks at the coordinate in a field without its blanks.
 #[inline(always)]
-pub(crate) fn index_of(column: Column, axis: Axis, cell: &[u8]) -> Result<u16, ColumnFault>
+pub(crate) fn index_of(column: Column, axis: Axis, field: &[u8]) -> Result<u16, ColumnFault>
     requires { IsAxis axis }
-    ensures value { (row : ℕ) → in_row row result ≡ index_said row column axis cell.now }
+    ensures value { (row : ℕ) → in_row row result
+        ≡ index_said row column axis (trimmed field.now) }
     ensures in_grid { IfOk result (λ index. index < GRID_CELLS) }
 {
-    let coordinate = number_of(column, 3, least(axis), greatest(axis), cell)?;
+    let coordinate = number_of(column, 3, least(axis), greatest(axis), field)?;
     let above = above_origin(axis, coordinate);
     let size = size(axis);
     if above % size != 0 {
@@ -95,13 +122,13 @@ pub(crate) fn index_of(column: Column, axis: Axis, cell: &[u8]) -> Result<u16, C
 
 // How far a coordinate stands above the origin, in millionths of a metre.
 #[inline(always)]
-fn above_origin(axis: Axis, coordinate: Dec) -> u64
+fn above_origin(axis: Axis, coordinate: i64) -> u64
     requires axis { IsAxis axis }
     requires in_grid { IsInGrid axis coordinate }
     ensures value { result ≡ unsigned_abs (coordinate -ℤ least axis) }
     ensures low { result < GRID_CELLS * (1000 * axis.size) }
 {
-    (coordinate.millionths() - least(axis)) as u64
+    (coordinate - least(axis)) as u64
 }
 
 #[inline(always)]
@@ -112,16 +139,17 @@ fn size(axis: Axis) -> u64
 }
 
 #[inline(always)]
-fn least(axis: Axis) -> i128
+fn least(axis: Axis) -> i64
+    requires { IsAxis axis }
     ensures { result ≡ least axis }
 {
-    1000 * i128::from(axis.origin)
+    1000 * axis.origin
 }
 
 #[inline(always)]
-fn greatest(axis: Axis) -> i128
+fn greatest(axis: Axis) -> i64
     requires { IsAxis axis }
     ensures { result ≡ greatest axis }
 {
-    least(axis) + i128::from(u64::from(GRID_CELLS) * size(axis)) - 1
+    least(axis) + (u64::from(GRID_CELLS) * size(axis)) as i64 - 1
 }

@@ -14,7 +14,7 @@ use csv::ByteRecord;
 use plan_parts::block::Block;
 use plan_parts::grid::Grid;
 use plan_parts::ranges::{MAX_GRADE, MAX_KG, MAX_ROWS};
-use records::cells::cell_at;
+use records::cells::field_at;
 
 // The number of the last record that may hold a block: the header is record 1, and a file has at most 1,000,000 blocks.
 const LAST_ROW: u32 = MAX_ROWS + 1;
@@ -42,11 +42,11 @@ pub(crate) fn row_of(
         return Err(whole(RowFaultKind::Width));
     }
     let [x, y, z, tonnes, grade] = columns.places;
-    let x = index_of(Column::X, grid.x, cell_at(row, x))?;
-    let y = index_of(Column::Y, grid.y, cell_at(row, y))?;
-    let z = index_of(Column::Z, grid.z, cell_at(row, z))?;
-    let millionths = millionths_in(Column::Tonnes, 3, MAX_KG * 1000, cell_at(row, tonnes))?;
-    let grade = millionths_in(Column::Grade, 6, MAX_GRADE, cell_at(row, grade))?;
+    let x = index_of(Column::X, grid.x, field_at(row, x))?;
+    let y = index_of(Column::Y, grid.y, field_at(row, y))?;
+    let z = index_of(Column::Z, grid.z, field_at(row, z))?;
+    let millionths = millionths_in(Column::Tonnes, 3, MAX_KG * 1000, field_at(row, tonnes))?;
+    let grade = millionths_in(Column::Grade, 6, MAX_GRADE, field_at(row, grade))?;
     Ok(Block {
         x,
         y,

@@ -1,5 +1,6 @@
-use Rattle.std.proofs.Common.{rules, ◌≡◌, ◌*◌, ◌/◌, ◌%◌, ◌<◌, Ok, arith, ap, sym}
+use Rattle.std.proofs.Common.{rules, ◌≡◌, ◌*◌, ◌/◌, ◌%◌, ◌<◌, ◌-ℤ◌, Ok, arith, ap, sym, unsigned_abs}
 use Rattle.pit_units.specs.Decimal.{decimal_within}
+use Rattle.records.specs.Cells.{trimmed}
 use Rattle.zone_csv.specs.Cell.{greatest, least}
 use Rattle.zone_csv.specs.Row.{number_said}
 use Rattle.zone_csv.specs.SpelledRow.{IsInGrid}
@@ -14,6 +15,7 @@ returns-clause-value c = λ row.
     let some : 0 < axis.size = omega arith in
     let within : IsInGrid axis coordinate = search rules in
     let whole : above % (1000 * axis.size) ≡ 0 = search rules in
-    let states : Ok coordinate ≡ number_said row c.args.column (decimal_within 3 (least axis) (greatest axis) c.args.cell.now) = search rules in
-    let facts = whole_sizes axis some coordinate above within c.above_origin-above.ensures.value whole in
-    rw (sym states, facts.0, c.size-size.ensures) (ap (λ n. Ok (n / (1000 * axis.size))) c.above_origin-above.ensures.value)
+    let states : Ok coordinate ≡ number_said row c.args.column (decimal_within 3 (least axis) (greatest axis) (trimmed c.args.field.now)) = search rules in
+    let value : above ≡ unsigned_abs (coordinate -ℤ least axis) = search rules in
+    let facts = whole_sizes axis some coordinate above within value whole in
+    rw (sym states, facts.0, c.size-size.ensures) (ap (λ n. Ok (n / (1000 * axis.size))) value)
