@@ -4,6 +4,8 @@
 // Blocks stand in trees. What a block is worth, in whole units, flows along the arcs to those that it waits for, and is gathered at the
 // root of its tree. A tree whose root has some left is strong: it looks for an arc from one of its blocks to a weak tree, and hangs
 // itself there. Strong trees that find no such arc are the pit.
+//
+// Blocks are added from the last one on, if each waits for later ones alone: what is in the pit then stays there, and is not looked at again.
 #include <algorithm>
 #include <cstdint>
 #include <new>
@@ -14,6 +16,8 @@ namespace {
 using Block = std::int32_t;
 using Units = std::int64_t;
 constexpr Block NONE = -1;
+constexpr std::int32_t SETTLED = 1 << 30;  // the label of a block that is in the pit for good
+constexpr std::size_t PARTS = 256;
 
 // The blocks that block b waits for: above[starts[b]] up to above[starts[b + 1]]. With several periods, node t * blocks + b is block b by
 // the end of period t. It waits for these blocks by the end of the same period and, if periods are joined, for itself by the end of the
@@ -60,18 +64,20 @@ public:
             Node &node = nodes[block];
             node.excess = values[block];
             node.label = values[block] > 0;
-            node.next_arc = arcs.of(block).first;
+            const Arcs::List list = arcs.of(block);
+            node.next_arc = list.first;
+            for (std::int64_t arc = list.first; arc < list.end; arc++) rising &= arcs.target(block, list, arc) > Block(block);
         }
     }
 
-    // Grows the trees of the nodes from `first` up to `last`, which wait for no others.
+    // Grows the trees of the nodes from `first` up to `last`, each a node alone, which wait for no others.
     void grow_all(std::size_t first, std::size_t last) {
-        at_label.assign(2, 0), strong.assign(2, {}), lowest = 1;
-        for (std::size_t block = first; block < last; block++) {
-            at_label[nodes[block].label]++;
-            if (nodes[block].parent == NONE && nodes[block].excess > 0) strong[1].push_back(block);
+        at_label.assign(2, 0);
+        for (const std::size_t step = rising ? (last - first) / PARTS + 1 : last - first; first < last;) {
+            const std::size_t begin = last - std::min(step, last - first);
+            grow_part(begin, last);
+            last = begin;
         }
-        for (Block root = next_strong(); root != NONE; root = next_strong()) grow(root);
     }
 
     // Joins the periods, each of which has been grown: only the arc to the next period can lead from a strong tree to a weak one.
@@ -82,7 +88,8 @@ public:
             nodes[block].label = in_pit[block];
             nodes[block].next_arc = arcs.of(block).own_end;
         }
-        grow_all(0, nodes.size());
+        at_label.assign(2, 0);
+        grow_part(0, nodes.size());
     }
 
     // The flow between each node and its parent, 0 for a root, and its arc: -1 - t if it leads from period t to the next.
@@ -119,6 +126,29 @@ private:
     std::vector<std::int64_t> at_label;       // how many blocks have a label
     std::vector<std::vector<Block>> strong;   // strong roots by label
     std::size_t lowest = 1;
+    bool rising = true;  // whether each node waits for later ones alone
+
+    void grow_part(std::size_t first, std::size_t last) {
+        strong.assign(2, {}), lowest = 1;
+        for (std::size_t block = first; block < last; block++) {
+            at_label[nodes[block].label]++;
+            if (nodes[block].parent == NONE && nodes[block].excess > 0) strong[1].push_back(block);
+        }
+        for (Block root = next_strong(); root != NONE; root = next_strong()) grow(root);
+        for (const std::vector<Block> &roots : strong) {
+            for (const Block root : roots) settle(root);
+        }
+    }
+
+    void settle(Block root) {
+        std::vector<Block> waiting{root};
+        while (!waiting.empty()) {
+            const Block block = waiting.back();
+            waiting.pop_back();
+            set_label(block, SETTLED);
+            for (Block child = nodes[block].first_child; child != NONE; child = nodes[child].younger) waiting.push_back(child);
+        }
+    }
 
     void put_strong(Block root) {
         const std::size_t label = nodes[root].label;
@@ -143,12 +173,24 @@ private:
         return root;
     }
 
-    void raise(Block block) {
+    void set_label(Block block, std::int32_t label) {
         Node &node = nodes[block];
         at_label[node.label]--;
-        if (at_label.size() <= std::size_t(++node.label)) at_label.push_back(0);
-        at_label[node.label]++;
-        node.next_arc = arcs.of(block).first;
+        node.label = label, node.next_arc = arcs.of(block).first;
+        if (label == SETTLED) return;
+        if (at_label.size() <= std::size_t(label)) at_label.resize(label + 1);
+        at_label[label]++;
+    }
+
+    // Raises a root without children to where it can be hung next. It is settled if all that it waits for is.
+    void raise_alone(Block root) {
+        const Arcs::List list = arcs.of(root);
+        std::int32_t least = SETTLED;
+        for (std::int64_t arc = list.first; arc < list.end && least > nodes[root].label; arc++) {
+            least = std::min(least, nodes[arcs.target(root, list, arc)].label);
+        }
+        set_label(root, least == SETTLED ? SETTLED : least + 1);
+        if (least != SETTLED) put_strong(root);
     }
 
     // Raises a block, unless one of its children still has its label.
@@ -157,7 +199,7 @@ private:
         for (; node.to_scan != NONE; node.to_scan = nodes[node.to_scan].younger) {
             if (nodes[node.to_scan].label == node.label) return;
         }
-        raise(block);
+        set_label(block, node.label + 1);
     }
 
     void attach(Block child, Block parent) {
@@ -229,6 +271,7 @@ private:
     void grow(Block root) {
         nodes[root].to_scan = nodes[root].first_child;
         if (merge_from(root, root)) return;
+        if (nodes[root].first_child == NONE) return raise_alone(root);
         raise_behind_children(root);
         for (Block at = root; at != NONE;) {
             while (nodes[at].to_scan != NONE) {
