@@ -1,10 +1,12 @@
 """What `pit-tools compile` adds to a line in which pitc rejects an input."""
 import os
+import re
 
 import pytest
 
 import mines
 from pit_tools.cli import main
+from pit_tools.instances import refusals
 from pit_tools.instances.refusals import reasons
 
 
@@ -54,3 +56,26 @@ def test_compile_says_where_and_what_after_the_line_of_pitc(monkeypatch, tmp_pat
         f"pitc: plan row {number}: Range",
         f"pit-tools compile: wrong.plan: line {number}: `rate,8`: it is out of range: a rate of 8 % "
         "is 0.08, K is 20 at most, periods count from 0"]
+
+
+PAGE = os.path.join(mines.TOP, "docs", "causes.md")
+
+
+def section(title):
+    """The text of a section of the page of causes."""
+    with open(PAGE, encoding="utf-8") as page:
+        return re.search(rf"(?ms)^## {title}$(.*?)^## ", page.read())[1]
+
+
+@pytest.mark.parametrize("title, advice", [("The plan", refusals.OF_PLAN), ("Zone files", refusals.OF_ZONES)])
+def test_the_page_of_causes_has_the_errors_for_which_there_is_advice(title, advice):
+    own = set(re.findall(r"(?m)^\| `[^`|]*: (\w+)`", section(title)))
+    common = set(re.findall(r"\b[A-Z]\w+", " ".join(re.findall(r"(?m)^\| ([A-Z][^|]*) \|", section("All files")))))
+    assert own <= set(advice) <= own | common and len(own) > 9
+
+
+def test_the_page_of_causes_has_the_numbers_of_the_advice():
+    with open(PAGE, encoding="utf-8") as page:
+        known = set(re.findall(r"[\d.]*\d", page.read().replace(",000,000", " million")))
+    for name, text in {**refusals.OF_PLAN, **refusals.OF_ZONES, **refusals.OF_RUN}.items():
+        assert set(re.findall(r"[\d.]*\d", text)) <= known, name
