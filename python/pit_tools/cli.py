@@ -167,7 +167,7 @@ def joined(words: Sequence[str]) -> list[str]:
 
 
 def run(words: Sequence[str]) -> int:
-    """Runs a command line; answers the status."""
+    """Runs a command line; returns the status."""
     if words[:1] == ["help"]:
         words = [*words[1:2], "--help"]
     if not words or words[0] in ("--help", "-h"):
@@ -277,8 +277,8 @@ def _is_own(error: BaseException) -> bool:
 
 
 def main(words: Optional[Sequence[str]] = None) -> int:
-    """Runs a command line; answers the status: 0 done, 1 what the command calls wrong, 2 words or
-    an input are refused, 3 a fault of this program, 130 ended by Ctrl-C."""
+    """Runs a command line; returns the status: 0 done, 1 what the command calls wrong, 2 words
+    or an input are refused, 3 a fault of this program, 130 ended by Ctrl-C."""
     words = list(sys.argv[1:] if words is None else words)
     name = " ".join(["pit-tools", *(words[:1] if words and words[0] in COMMANDS else [])])
     try:

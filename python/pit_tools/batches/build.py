@@ -19,9 +19,9 @@ from pit_tools.pits.compiled import SOURCE
 
 @dataclass(frozen=True)
 class Way:
-    """How the instances of a batch are made: the folder that names of its list are of; pitc with
-    its options, and pitc_thin where files without arcs that others imply are wanted; and the
-    seconds of a relaxation at most, None where there is to be none."""
+    """How the instances of a batch are made: the folder that names of its list are of; pitc
+    with its options, and pitc_thin where files without arcs that others imply are wanted; and
+    the seconds of a relaxation at most, None if there is to be none."""
 
     folder: str
     pitc: str
@@ -31,7 +31,7 @@ class Way:
 
 
 def found_program(name: str, option: str) -> str:
-    """The path of a program. Raises UserError where there is none."""
+    """The path of a program. Raises UserError if there is none."""
     found = shutil.which(name)
     if found is None:
         raise UserError(f"no program `{name}` is in the PATH: give {option}")
@@ -39,8 +39,8 @@ def found_program(name: str, option: str) -> str:
 
 
 def build_told(way: Way) -> str:
-    """The versions and the sums of pitc and pitc_thin, the options, and what made the table: the
-    tool and its packages. Raises UserError where one of the programs does not work."""
+    """The versions and the sums of pitc and pitc_thin, the options, and what made the table:
+    the tool and its packages. Raises UserError if one of the programs does not work."""
     packages = " ".join(f"{name} {metadata.version(name)}" for name in ("numpy", "scipy", "pandas"))
     programs = _program_told(way.pitc, "pitc") + (_program_told(way.thin, "pitc_thin") if way.thin
                                                   else "")

@@ -98,8 +98,8 @@ def by_dask(address: str) -> Engine:
     same path, and have the same programs and packages. What a worker was making that ends is made
     by another.
 
-    Raises UserError where the package is not there, nothing answers at the address, or there is no
-    worker."""
+    Raises UserError if the package is not there, nothing answers at the address, or there is
+    no worker."""
     try:
         import distributed
     except ImportError:

@@ -45,7 +45,7 @@ class Part:
 
     @classmethod
     def read(cls, text: str) -> "Part":
-        """A part as it is written, `2/5`. Raises UserError where it is none."""
+        """A part as it is written, `2/5`. Raises UserError if it is none."""
         found = re.fullmatch("([1-9][0-9]{0,8})/([1-9][0-9]{0,8})", text)
         if not found or int(found[1]) > int(found[2]):
             raise UserError(f"`{text}` is no part of a list, as 2/5")
@@ -76,9 +76,9 @@ class BatchList:
 def read_list(path: str, texts: Sequence[str] = TEXTS, others: Sequence[str] = ()) -> BatchList:
     """The lines of a list, also the last one where it has no line end; words may be quoted.
 
-    Raises UserError, with the line, where a plan comes twice, ends with something else than .plan,
-    has no zone file, a file is not there, or one would be written over by a text of an instance, a
-    table of the batch, or another file that it writes.
+    Raises UserError, with the line, if a plan comes twice, ends with something else than .plan,
+    has no zone file, a file is not there, or one would be written over by a text of an instance,
+    a table of the batch, or another file that it writes.
     """
     with open(path, "rb") as file:
         content = file.read(MOST_BYTES + 1)

@@ -103,7 +103,7 @@ def clear_unfinished(entries: Iterable[Entry], folder: str) -> None:
 
 
 def _ran(way: Way, words: Sequence[str]) -> str:
-    """What a step printed. Raises UserError where it failed."""
+    """What a step printed. Raises UserError if it failed."""
     done = subprocess.run(words, capture_output=True, text=True, errors="replace", cwd=way.folder,
                           check=False)
     if done.returncode:
@@ -130,11 +130,11 @@ def _measured(entry: Entry, way: Way, base: str) -> list[str]:
 
 def row_of(name: str, base: str, counts: str, seconds: Optional[float] = None,
            thin_arcs: Optional[int] = None) -> list[str]:
-    """The row of SIZES of an instance of which `pitc check` told these counts. Its pit is found by
-    BASE.thin where that has so many arcs; the relaxations are left out where there are no seconds
+    """The row of SIZES of an instance of which `pitc check` told these counts. Its pit is found
+    by BASE.thin where that has so many arcs; the relaxations are omitted if there are no seconds
     for them.
 
-    Raises UserError where this tool counts otherwise."""
+    Raises UserError if this tool counts otherwise."""
     from pit_tools.pits.closure import ultimate_pit
     from pit_tools.pits.files import told
     from pit_tools.schedules.bounds import bounds_of

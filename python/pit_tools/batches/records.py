@@ -41,8 +41,8 @@ def record_path(folder: str, part: Part = Part()) -> str:
 
 
 def recorded_in(folder: str) -> Iterator[Recorded]:
-    """The instances of all records of a folder, the newer lines of a file behind the older ones. A
-    line that was cut short is left out. Raises UserError where a file of such a name is no
+    """The instances of all records of a folder, the newer lines of a file behind the older
+    ones. A line that was cut short is omitted. Raises UserError if a file of such a name is no
     record."""
     for name in sorted(os.listdir(folder)):
         if re.fullmatch(rf"{NAME}(-\d+-of-\d+)?", name):
@@ -53,7 +53,7 @@ def recorded_in(folder: str) -> Iterator[Recorded]:
 
 
 def build_of(path: str) -> Optional[str]:
-    """The text of BUILD that a record begins with; None where there is no record, or nothing in
+    """The text of BUILD that a record begins with; None if there is no record, or nothing in
     it."""
     try:
         with inputs.looking():
@@ -141,7 +141,7 @@ class Sums:
         self.found: dict[str, Optional[str]] = {}
 
     def of(self, name: str) -> Optional[str]:
-        """The sum of a file, None where it cannot be read."""
+        """The sum of a file, None if it cannot be read."""
         if name not in self.found:
             try:
                 with inputs.looking():

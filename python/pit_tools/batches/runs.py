@@ -33,7 +33,7 @@ LOCK = ".batch-lock"
 def locked(folder: str, part: Part = Part()) -> Iterator[None]:
     """Holds a folder for one batch alone; or for a part of one, beside its other parts.
 
-    Raises UserError where another one holds it."""
+    Raises UserError if another one holds it."""
     told = f"{os.path.abspath(folder)}: another batch runs in this folder"
     with ExitStack() as opened:
         lock(opened, os.path.join(folder, LOCK), fcntl.LOCK_EX if part.is_whole else fcntl.LOCK_SH,
@@ -231,7 +231,7 @@ class Joining:
 
 
 def _common_build(folders: Sequence[str], found: Sequence[Recorded]) -> str:
-    """The text of BUILD that all records have. Raises UserError where there is none, or they
+    """The text of BUILD that all records have. Raises UserError if there is none, or they
     differ."""
     by_build = {one.build: one.path for one in found}
     if not by_build:

@@ -130,7 +130,7 @@ class Bench:
         return not self.failed and len(self.done) == len(self.tasks)
 
     def write(self, ratio: float) -> Any:
-        """Writes the table, and the profiles, of what is done; answers the table. They replace
+        """Writes the table, and the profiles, of what is done; returns the table. They replace
         those of the base, or none is replaced."""
         from pit_tools.benches.profile_picture import profile_picture
         from pit_tools.files.parquet import bytes_of

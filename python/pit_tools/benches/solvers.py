@@ -77,8 +77,8 @@ def _filled(word: str, values: dict[str, str]) -> str:
 
 
 def _judge_quotes(solver: Solver) -> None:
-    """Raises UserError where a place stands within quotes of the shell. Its value has quotes of its
-    own if it needs some, which would end these, or be a part of the name of a file."""
+    """Raises UserError if a place stands within quotes of the shell. Its value has quotes of
+    its own if it needs some, which would end these, or be a part of the name of a file."""
     [text] = solver.command
     for place in sorted(solver.places):
         values = {one: "\1 \1" if one == place else "x" for one in solver.places}

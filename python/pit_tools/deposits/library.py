@@ -72,7 +72,7 @@ def sums_of(folder: str, name: str) -> dict[str, File]:
 
 
 def table_of(folder: str, name: str) -> pd.DataFrame:
-    """TABLE or FOUND of a library, as words. Raises UserError where it is not there."""
+    """TABLE or FOUND of a library, as words. Raises UserError if it is not there."""
     path = os.path.join(folder or FOLDER, name)
     if status_of(path) is None:
         raise UserError(f"{folder}: no library, since it has no {name}: `library --out` makes "
@@ -82,7 +82,7 @@ def table_of(folder: str, name: str) -> pd.DataFrame:
 
 
 def _table(path: str, name: str) -> pd.DataFrame:
-    """TABLE or FOUND of a path. Raises UserError where it is none."""
+    """TABLE or FOUND of a path. Raises UserError if it is none."""
     columns = {"TABLE": COLUMNS, "FOUND": FOUND_COLUMNS}[name]
     try:
         if os.path.getsize(path) > MOST_JSON:
@@ -99,7 +99,7 @@ def _table(path: str, name: str) -> pd.DataFrame:
 
 
 def known(name: str, folder: str = "") -> Known:
-    """What the library says of a deposit. Raises UserError where it has none of the name."""
+    """What the library says of a deposit. Raises UserError if it has none of the name."""
     table = table_of(folder, "TABLE")
     rows = table[table["name"] == name]
     if len(rows) != 1:

@@ -39,7 +39,7 @@ class Finding:
     how: str
 
     def given(self) -> Schedule:
-        """Its schedule. Raises UserError where there is none."""
+        """Its schedule. Raises UserError if there is none."""
         if self.schedule is None:
             raise UserError(f"{self.deposit.name} {self.kind}: no schedule was found by {self.how}")
         return self.schedule
@@ -54,7 +54,7 @@ class Finding:
 def named(text: str) -> tuple[Deposit, str]:
     """The deposit and the kind that a word as lens1.cpit means, or a file lens1.cpit-schedule.
 
-    Raises UserError where the library has none of this name."""
+    Raises UserError if the library has none of this name."""
     found = NAMED.fullmatch(os.path.basename(text))
     for deposit in library.DEPOSITS:
         if found and deposit.name == found[1]:
@@ -63,7 +63,7 @@ def named(text: str) -> tuple[Deposit, str]:
 
 
 def instance_of(deposit: Deposit, folder: str) -> Instance:
-    """The instance of a deposit of a library. Raises UserError where this tool makes it
+    """The instance of a deposit of a library. Raises UserError if this tool makes it
     otherwise."""
     with tempfile.TemporaryDirectory() as made:
         mine = library.make(deposit, made)
@@ -91,9 +91,9 @@ def sought(mine: Instance, deposit: Deposit, kind: str, seconds: float,
 
 
 def handed_in(path: str, by: str, how: str, folder: str) -> str:
-    """Takes a schedule's file into a library, where it is better; answers what it did.
+    """Takes a schedule's file into a library, where it is better; returns what it did.
 
-    Raises UserError where it does not hold, or is worth more than its bound."""
+    Raises UserError if it does not hold, or is worth more than its bound."""
     deposit, kind = named(path)
     mine = instance_of(deposit, folder)
     schedule = read_schedule(path, mine.problem(kind))
@@ -101,8 +101,8 @@ def handed_in(path: str, by: str, how: str, folder: str) -> str:
 
 
 def search_on(word: str, seconds: float, folder: str) -> str:
-    """Seeks a better schedule and a lower bound than a library has, and takes them; answers what it
-    did. A PCPSP begins with the schedule of the CPIT too."""
+    """Seeks a better schedule and a lower bound than a library has, and takes them; returns
+    what it did. A PCPSP begins with the schedule of the CPIT too."""
     deposit, kind = named(word)
     mine = instance_of(deposit, folder)
     problem = mine.problem(kind)
@@ -115,8 +115,8 @@ def search_on(word: str, seconds: float, folder: str) -> str:
 
 
 def taken(found: Finding, mine: Instance, folder: str) -> str:
-    """Takes what is better of a finding into a library, the schedule, its bound or both; answers
-    what it did."""
+    """Takes what is better of a finding into a library, the schedule, its bound or both;
+    returns what it did."""
     name, kind = found.deposit.name, found.kind
     row = library.known(name, folder).row
     best, bound = float(row[f"{kind}_best"]), float(row[f"{kind}_bound"])
@@ -135,7 +135,7 @@ def taken(found: Finding, mine: Instance, folder: str) -> str:
 
 
 def _worth(found: Finding, schedule: Schedule, mine: Instance, bound: float) -> float:
-    """What a schedule is worth. Raises UserError where it cannot be."""
+    """What a schedule is worth. Raises UserError if it cannot be."""
     told = check(schedule, mine.problem(found.kind), mine.precedence)
     if not told.holds:
         raise UserError(f"{found.deposit.name} {found.kind}: the schedule does not hold: "

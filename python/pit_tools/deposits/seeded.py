@@ -1,6 +1,6 @@
 """Deposits by seed, size and shape: a plan and the zone files oxide, west and east.
 
-The same name, seed, size and shape make the same files to the byte, on every machine: whole numbers
+The same name, seed, size and shape make the same files byte for byte, on every machine: integers
 alone are used. The ground falls to the south, so upper benches have holes.
 """
 from __future__ import annotations
@@ -27,7 +27,7 @@ MOST_SEED = 1_000_000
 
 
 class _Chances:
-    """A fixed sequence of whole numbers."""
+    """A fixed sequence of integers."""
 
     def __init__(self, seed: Optional[int]):
         self.state, self.factor, self.step, self.cycle = \
@@ -90,7 +90,7 @@ class Deposit:
     a million, moves the ore and draws its width and grade, and with none the deposit is always the
     same.
 
-    Raises UserError where a name, a shape, a seed or a size is none."""
+    Raises UserError if a name, a shape, a seed or a size is none."""
 
     name: str = "deposit"
     seed: Optional[int] = None
@@ -158,7 +158,7 @@ class Deposit:
         return ["".join(part) for part in lines]
 
     def write(self, folder: str = ".") -> list[str]:
-        """Writes NAME.plan and the zone files NAME-oxide.csv and so on; answers the names of
+        """Writes NAME.plan and the zone files NAME-oxide.csv and so on; returns the names of
         all."""
         names = [f"{self.name}.plan", *(f"{self.name}-{zone}.csv" for zone in ZONES)]
         with outputs.together():

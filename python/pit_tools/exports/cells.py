@@ -99,9 +99,9 @@ class Marks:
 
 @dataclass
 class Spelled:
-    """Cells of a column: plain decimals, with a point; their floats, NaN where there is none; where
-    they say that nothing is known; where they are no number; and where they have a sign of
-    percent."""
+    """Cells of a column: plain decimals, with a point; their floats, NaN if there is none;
+    where they say that nothing is known; where they are no number; and where they have a sign
+    of percent."""
 
     texts: pd.Series
     floats: np.ndarray
@@ -110,8 +110,7 @@ class Spelled:
     percent: np.ndarray
 
     def parts(self, places: int) -> np.ndarray:
-        """The decimals as whole numbers of 10**-places, rounded as decimals; 0 where there is
-        none."""
+        """The decimals as integers of 10**-places, rounded as decimals; 0 if there is none."""
         return parts_of(self.texts, places, self.floats)[0]
 
 
@@ -119,7 +118,7 @@ def marks_of(columns: Iterable[pd.Series], *, decimal: str = "", thousands: str 
              missing: Sequence[str] = ()) -> Marks:
     """The marks of a file, by cells of its columns of numbers; those that are named are taken.
 
-    It raises UserError where a mark may be read in two ways, or cells contradict one another."""
+    Raises UserError if a mark may be read in two ways, or cells contradict one another."""
     columns = list(columns)
     known = frozenset([*MISSING, *(text.strip().casefold() for text in missing)])
     numbers = tuple(float(text) for text in missing if is_decimal(text.strip()))
@@ -178,7 +177,7 @@ def _decimal_of(cells: Sequence[str], thousands: str) -> str:
 
 
 def _judge_points(columns: Sequence[pd.Series], known: frozenset[str]) -> None:
-    """Stops where a column has whole numbers up to 999, and points before three digits in all
+    """Stops where a column has integers up to 999, and points before three digits in all
     others: so thousands are written."""
     for column in columns:
         cells = [text.strip() for text in column.unique() if text.strip().casefold() not in known]

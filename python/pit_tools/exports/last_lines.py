@@ -14,9 +14,9 @@ TAIL = 1 << 20
 def last_line_told(source: Source) -> list[str]:
     """A line about the last line of a text, where it has no line end; else none.
 
-    It raises UserError where its last cell is shorter than others can be: an empty one among others
-    that are not, fewer decimals where others have one or two numbers of them, or the
-    beginning of a text that other rows have whole."""
+    Raises UserError if its last cell is shorter than others can be: an empty one among others
+    that are not, fewer decimals where others have one or two numbers of them, or the beginning
+    of a text that other rows have whole."""
     lines = _lines_at_end(source)
     if len(lines) < 3:
         return []

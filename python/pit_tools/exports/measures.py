@@ -178,7 +178,7 @@ class Measured:
         return np.rint(values * 1000).astype(np.int64)
 
     def measure(self, key: str, places: int) -> tuple[np.ndarray, np.ndarray]:
-        """A measure in 10**-places of the unit of pitc, int64, and where it is missing."""
+        """A measure in 10**-places of the unit of pitc, int64, and if it is missing."""
         measure = self.columns.measures[key]
         at = measure.plain_column
         if at is not None:

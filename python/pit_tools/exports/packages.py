@@ -55,7 +55,7 @@ def words_by_package(words: Words, paths: Sequence[str]) -> tuple[Words, str]:
     """The words with what the package says of these exports, and a line that tells it. What the
     words say already stays.
 
-    It raises UserError where exports have several frames, or the package says too little."""
+    Raises UserError if exports have several frames, or the package says too little."""
     package = PACKAGES[words.package]
     found = [Frames(path, package, words).read() for path in paths]
     for path, other in zip(paths[1:], found[1:]):
@@ -137,7 +137,7 @@ class Frames:
         return self.found
 
     def _numbers(self, *more: Sequence[int]) -> pd.DataFrame:
-        """The numbers of the columns that tell of the frame, NaN where there is none."""
+        """The numbers of the columns that tell of the frame, NaN if there is none."""
         package, keys = self.package, self.columns.keys
         wanted = [keys[name] for names in (package.corner, package.counts, package.origin,
                                            package.angles, package.axes, [package.index])
@@ -153,7 +153,7 @@ class Frames:
         return table[table[wanted[0]].notna()] if wanted else table
 
     def _one(self, name: str) -> Optional[float]:
-        """The one value of a column, or None where there is none. It raises UserError where it has
+        """The one value of a column, or None if there is none. Raises UserError if it has
         several."""
         at = self.columns.keys.get(name)
         if at is None:

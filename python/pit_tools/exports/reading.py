@@ -28,7 +28,7 @@ FINE = {"tonnes": 6, "grade": 9}
 EDGE = re.compile("(x|y|z|east|easting|north|northing|rl|elev|elevation)(min|max|low|lower|high|"
                   "upper|corner|origin|from|to|start|end|left|right|bottom|top)")
 
-# How many times the greatest other number such a one has to be, to be taken for a mark: ore is
+# How many times the greatest other number such a one must be, to be taken for a mark: ore is
 # never that far above all other ore, and a cut of grades leaves the others just below it.
 NINES_ABOVE = 5
 
@@ -67,7 +67,7 @@ class Reading:
             self.pieces.setdefault(name, []).append(values)
 
     def agree_on(self, unnamed: Unnamed, source: Source) -> None:
-        """Keeps what a header has beside what is read. It raises UserError where another export has
+        """Keeps what a header has beside what is read. Raises UserError if another export has
         no such columns of sizes."""
         if self.source_at and bool(unnamed.sizes) != bool(self.unnamed.sizes):
             raise UserError(f"{source.path}: of the exports some have columns of sizes, and others "
@@ -80,7 +80,7 @@ class Reading:
         return np.concatenate(pieces) if pieces else None
 
     def column(self, name: str) -> np.ndarray:
-        """The same of a column that each row has. It raises KeyError where it was not read."""
+        """The same of a column that each row has. Raises KeyError if it was not read."""
         found = self.joined(name)
         if found is None:
             raise KeyError(name)
@@ -295,7 +295,7 @@ class Piece(Measured):
             self.reading.keep(**{"size_" + axis: size * 1000})
 
     def take_unnamed(self) -> None:
-        """Columns that nobody named, as floats: NaN where there is no number above 0, but 0 of a
+        """Columns that nobody named, as floats: NaN if there is no number above 0, but 0 of a
         share."""
         found = self.columns.unnamed
         kept = {"own_size_" + axis: at for axis, at in zip(COORDINATES, found.sizes)}
@@ -350,7 +350,7 @@ class Piece(Measured):
 
     def densities(self) -> np.ndarray:
         """Tonnes a cubic metre, by the column and, where that is missing, by the table of rock
-        codes; NaN where there is none."""
+        codes; NaN if there is none."""
         values = np.full(len(self.table), np.nan)
         if "density" in self.columns.measures:
             values = self.in_pitc_units("density")
@@ -372,7 +372,7 @@ class Piece(Measured):
         self.reading.keep(grade=np.where(missing, -1, grade))
 
     def zones(self) -> np.ndarray:
-        """The number of each row's zone, int32, -1 where there is none."""
+        """The number of each row's zone, int32, -1 if there is none."""
         if self.columns.zones:
             names = self.found_in(self.columns.zones).fillna("")
         elif self.columns.zone:

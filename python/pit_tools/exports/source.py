@@ -103,7 +103,7 @@ UNPACKERS: list[tuple[bytes, Unpacker]] = [(b"\x1f\x8b", gzip.open), (b"BZh", bz
 
 
 class Unpacked(io.RawIOBase):
-    """What an archive holds. It raises UserError where that is damaged, cut short, or grows beyond
+    """What an archive holds. Raises UserError if that is damaged, cut short, or grows beyond
     all measure."""
 
     def __init__(self, path: str, unpack: Unpacker) -> None:
@@ -211,9 +211,9 @@ class Source:
     """An export: how it is written, and its columns.
 
     `names` are those of the header, or of `--names`. `above` is how many lines stand above the
-    header or, where there is none, above the first row; `units` are the rows between the header and
-    the first number. `sheet` has the cells of a workbook's sheet as texts, and of Parquet the
-    columns as pandas reads them."""
+    header or, if there is none, above the first row; `units` are the rows between the header
+    and the first number. `sheet` has the cells of a workbook's sheet as texts, and of Parquet
+    the columns as pandas reads them."""
 
     path: str
     encoding: str
@@ -279,9 +279,9 @@ class Source:
                 text.close()
 
     def chunks(self, columns: Sequence[int]) -> Iterator[pd.DataFrame]:
-        """The rows as texts, the columns being numbers of the header's; the index counts records
-        from 0, the header being record 0 where there is one. It raises UserError for a row of
-        another width."""
+        """The rows as texts, the columns being numbers of the header's; the index counts
+        records from 0, the header being record 0 if there is one. It raises UserError for a
+        row of another width."""
         wanted = sorted(columns)
         if self.sheet is not None and self.kind == "Parquet":
             for start in range(0, len(self.sheet), CHUNK):
@@ -310,8 +310,8 @@ class Source:
 
     @property
     def is_read_as_text(self) -> bool:
-        """Whether its bytes do not show its lines: signs have two and more, or CR alone stands
-        behind each line."""
+        """Whether its bytes do not show its lines: signs have two and more, or CR alone
+        follows each line."""
         if self.encoding.startswith(("utf-16", "utf-32")):
             return True
         with opened(self.path) as file:
@@ -345,8 +345,7 @@ class Source:
                 line += piece.count(b"\n")
 
     def line_behind(self, file: BinaryIO, piece: bytes, line: int) -> bytes:
-        """The rest of the line in which a piece ends. It raises UserError where that does not
-        end."""
+        """The rest of the line in which a piece ends. Raises UserError if that does not end."""
         rest = file.readline(MOST_LINE)
         if len(rest) == MOST_LINE and not rest.endswith(b"\n") and b"\r" not in rest:
             last = line + piece.count(b"\n")
@@ -527,11 +526,11 @@ def gslib_of(path: str, head: str, encoding: str, told: str) -> Optional[Source]
 
 def sources_of(path: str, resolve: Callable[[Sequence[str]], object], *, encoding: str = "",
                separator: str = "", names: Sequence[str] = (), sheet: str = "") -> list[Source]:
-    """Opens an export: one text, the sheets of a workbook, or Parquet. `resolve` is called with the
-    names of a header that may be one, and raises Lacking where a column is not among them: the
+    """Opens an export: one text, the sheets of a workbook, or Parquet. `resolve` is called with
+    the names of a header that may be one, and raises Lacking if a column is not among them: the
     first line that it accepts is the header.
 
-    It raises UserError where no line has all the columns, and tells what the closest one has."""
+    Raises UserError if no line has all the columns, and tells what the closest one has."""
     refuse_pipe(path)
     with open(path, "rb") as file:
         is_parquet = file.read(len(MARK)) == MARK
@@ -598,7 +597,7 @@ def text_of(path: str, resolve: Callable[[Sequence[str]], object], encoding: str
 
 
 def _judged_encoding(path: str, given: str) -> str:
-    """The name of an encoding in Python. It raises UserError where there is none of this name, or
+    """The name of an encoding in Python. Raises UserError if there is none of this name, or
     the text is written in another one."""
     try:
         name = codecs.lookup(given).name
@@ -682,9 +681,9 @@ def headerless(path: str, resolve: Callable, head: str, encoding: str, told: str
 
 def workbook_of(path: str, resolve: Callable[[Sequence[str]], object], names: Sequence[str],
                 sheet: str) -> list[Source]:
-    """All sheets of a workbook that have all the columns, or the one that is named. It raises
-    UserError where their headers differ, or another sheet has rows of as many numbers below another
-    header."""
+    """All sheets of a workbook that have all the columns, or the one that is named. Raises
+    UserError if their headers differ, or another sheet has rows of as many numbers below
+    another header."""
     found: list[Source] = []
     others: dict[str, pd.DataFrame] = {}
     numbers: list[int] = []

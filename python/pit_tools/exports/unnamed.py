@@ -59,8 +59,8 @@ def unnamed_in(names: Sequence[str], words: Words) -> Unnamed:
 
 
 def sizes_in(names: Sequence[str]) -> tuple[int, ...]:
-    """The columns of sizes along x, y and z, as XINC, dim_x, `_x_size` or `x length`; none where
-    one lacks or stands twice."""
+    """The columns of sizes along x, y and z, as XINC, dim_x, `_x_size` or `x length`; none
+    where one lacks or is repeated."""
     plain = [re.sub(r"[\W_]", "", short_name(name)) for name in names]
     found = []
     for axis in AXES:

@@ -318,8 +318,8 @@ def table_of(text: str, value: str, names: Sequence[str]) -> Table:
 
 
 def _records_of(path: str) -> list[list[str]]:
-    """The cells of a table in a file, by its lines that have any. It raises UserError, with the
-    line, where one has more or fewer cells than the first."""
+    """The cells of a table in a file, by its lines that have any. Raises UserError, with the
+    line,  if one has more or fewer cells than the first."""
     records: list[list[str]] = []
     inputs.reads(path)
     try:
@@ -353,7 +353,7 @@ def column_of(name: str, names: Sequence[str]) -> int:
 
 
 def columns_of(words: Words, names: Sequence[str]) -> Columns:
-    """The formulas for the columns of a header. It raises Lacking where one has a name that is none
+    """The formulas for the columns of a header. Raises Lacking if one has a name that is none
     of them."""
     measures: dict[str, Measure] = {}
     is_money, hits = False, 0
@@ -413,7 +413,7 @@ def unit_doubts(columns: Columns, names: Sequence[str],
 def grade_units(columns: Columns, names: Sequence[str], units: Sequence[Sequence[str]],
                 path: str) -> list[str]:
     """Lines that tell where a header or a row of units names another unit than the one that is
-    given with --grade. It raises UserError where none is given and the named one is no g/t: the
+    given with --grade. Raises UserError if none is given and the named one is no g/t: the
     metal would be another."""
     measure = columns.measures["grade"]
     at = measure.formula.plain_column

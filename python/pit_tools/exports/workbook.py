@@ -28,8 +28,8 @@ LEAST_PLACES = 1_000_000
 
 
 def sheets_of(path: str, sheet: str) -> Iterator[tuple[str, pd.DataFrame]]:
-    """The names and cells of all sheets, or of the one that is named. It raises UserError where
-    that is not there, or the workbook cannot be read."""
+    """The names and cells of all sheets, or of the one that is named. Raises UserError if that
+    is not there, or the workbook cannot be read."""
     import openpyxl
 
     # The library goes by a name's ending, and by none where it gets an open file.

@@ -16,8 +16,8 @@ Name = Union[str, bytes, "os.PathLike[str]", "os.PathLike[bytes]"]
 
 
 def identity(path: Name) -> Optional[Identity]:
-    """What a regular file is, by whichever of its names; None of all else. Raises OSError where the
-    system does not say."""
+    """What a regular file is, by whichever of its names; None of all else. Raises OSError if
+    the system does not say."""
     status = status_of(os.fsdecode(path))
     return (status.st_dev, status.st_ino) if status and stat.S_ISREG(status.st_mode) else None
 
@@ -73,9 +73,9 @@ class Program:
 
 @contextmanager
 def of_command(force: bool = False, is_edited: bool = False, name: str = "") -> Iterator[None]:
-    """Within it each file that is opened to read is one that nothing may be written over, and a
-    file is replaced only by one of its kind, but with `force`. Inputs have to be those that records
-    name, but with `is_edited`."""
+    """Within it each file that is opened to read is one that nothing may be written over, and
+    a file is replaced only by one of its kind, but with `force`. Inputs must be those that
+    records name, but with `is_edited`."""
     if not Command.is_hooked:
         sys.addaudithook(_hook)
         Command.is_hooked = True
@@ -104,7 +104,7 @@ def reads(*paths: str) -> None:
     """Says that the command reads these inputs, itself or by another program: what it writes is
     made of them.
 
-    Raises UserError where records say that they are of different runs."""
+    Raises UserError if records say that they are of different runs."""
     command = Command.now
     if command is None:
         Program.note(paths)

@@ -1,7 +1,7 @@
 """Ctrl-C, TERM and HUP while files are being written: what is unfinished is taken away first.
 
-Outside of `caught` they do what they do everywhere. Within it each raises an exception, so that who
-cleans up is called; and within `held` they wait, so that a step which has to be whole is whole.
+Outside of `caught` they do what they do everywhere. Within it each raises an exception, so that
+who cleans up is called; and within `held` they wait, so that a step which must be whole is whole.
 """
 from __future__ import annotations
 

@@ -15,7 +15,7 @@ from pit_tools.errors import UserError
 def held(base: str) -> Iterator[None]:
     """Holds the base of an instance for one command, by a file that goes with the lock.
 
-    Raises UserError where another one holds it, or its folder cannot be written."""
+    Raises UserError if another one holds it, or its folder cannot be written."""
     path = os.path.join(os.path.dirname(base), f".{os.path.basename(base)}.lock")
     with ExitStack() as opened:
         while True:
@@ -37,7 +37,7 @@ def held(base: str) -> Iterator[None]:
 
 
 def lock(opened: ExitStack, path: str, how: int, told: str) -> int:
-    """Opens a file and locks it; answers its descriptor, which is closed with those opened."""
+    """Opens a file and locks it; returns its descriptor, which is closed with those opened."""
     descriptor = os.open(path, os.O_RDWR | os.O_CREAT | os.O_CLOEXEC, 0o666)
     opened.callback(os.close, descriptor)
     try:

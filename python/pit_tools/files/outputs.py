@@ -43,10 +43,10 @@ def together(reading: Iterable[str] = (), record: str = "",
     leaves it. One `together` within another is a part of that. `reading` are files that are read
     where no command runs, which knows its own.
 
-    In a command a record RECORD.sums comes last where there are several files. With `others`, names
-    that belong beside the same base, none of these and none that the record named before stays
-    unless it is written: what was changed since, or was never of a record, is refused, but with
-    `force` removed."""
+    In a command a record RECORD.sums comes last if there are several files. With `others`,
+    names that belong beside the same base, none of these and none that the record named before
+    stays unless it is written: what was changed since, or was never of a record, is refused,
+    but with `force` removed."""
     group = getattr(_here, "group", None)
     if group is not None:
         group.note(reading)
@@ -98,8 +98,8 @@ def opened(place: str, kind: str, encoding: Optional[str] = None,
     """A file to be written, of bytes, or of text where an encoding is given. It comes to its place
     at the end of the `together` around it, or at its own end.
 
-    Raises UserError where the command reads that file, another kind of file is there, or the name
-    is that of a standard stream; OSError, with the name, for all that the system refuses.
+    Raises UserError if the command reads that file, another kind of file is there, or the name is
+    that of a standard stream; OSError, with the name, for all that the system refuses.
     """
     if place == "-":
         raise UserError("-: this goes to a file alone: give its name, ./- if that is meant")

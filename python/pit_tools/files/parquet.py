@@ -18,8 +18,8 @@ LACKING = ("no package is there that reads and writes Parquet: install pyarrow (
 
 
 def frame_of(path: str) -> pd.DataFrame:
-    """The columns of a file, as pandas reads them, an index with a name among them. It raises
-    UserError where no package reads Parquet, or this file cannot be read."""
+    """The columns of a file, as pandas reads them, an index with a name among them. Raises
+    UserError if no package reads Parquet, or this file cannot be read."""
     try:
         frame = pd.read_parquet(path)
     except ImportError:
@@ -65,7 +65,7 @@ def _text_of(value: object) -> str:
 
 
 def bytes_of(frame: pd.DataFrame) -> bytes:
-    """The file of a frame. It raises UserError where no package writes Parquet, or two columns have
+    """The file of a frame. Raises UserError if no package writes Parquet, or two columns have
     one name."""
     names = frame.columns[frame.columns.duplicated()]
     if len(names):

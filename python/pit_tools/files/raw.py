@@ -37,8 +37,8 @@ def with_name(error: OSError, place: str) -> OSError:
 
 
 class Raw(io.FileIO):
-    """A file whose faults have its name, and whose sum is taken while it is written; `sum` is None
-    where it was written in another order, as an archive is."""
+    """A file whose faults have its name, and whose sum is taken while it is written; `sum` is
+    None if it was written in another order, as an archive is."""
 
     def __init__(self, descriptor: int, place: str, is_summed: bool = False):
         super().__init__(descriptor, "w")

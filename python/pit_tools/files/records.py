@@ -170,8 +170,8 @@ def read_record(path: str) -> Optional[Record]:
 
 
 def records_in(folder: str, is_replacing: bool = False) -> Iterator[Record]:
-    """The records in a folder. One that is damaged or cannot be read raises UserError; it is left
-    out where it may be replaced, or where a run was ended while writing it."""
+    """The records in a folder. One that is damaged or cannot be read raises UserError; it is
+    omitted where it may be replaced, or where a run was ended while writing it."""
     try:
         names = os.listdir(folder)
     except PermissionError:

@@ -16,7 +16,7 @@ from pit_tools.files import records
 from pit_tools.files.raw import Raw, with_name
 from pit_tools.files.records import File
 
-#: How much of a name stands in that of an unfinished file: with the rest it has to have 255 bytes.
+#: How much of a name stands in that of an unfinished file: with the rest it must have 255 bytes.
 NAME_KEPT = 200
 
 #: Seconds in which another command has put its files into a folder.
@@ -74,8 +74,8 @@ class Step:
 
 
 def beside(target: str, what: str, make: Callable[[str], Made]) -> tuple[str, Made]:
-    """Makes a file beside another one, under a name that is not taken; answers it, and what `make`
-    does."""
+    """Makes a file beside another one, under a name that is not taken; returns it, and what
+    `make` does."""
     above, name = os.path.split(target)
     path = os.path.join(above, f"{name[:NAME_KEPT]}.{what}-{os.getpid()}")
     for number in range(1, 1000):

@@ -100,8 +100,8 @@ class Imported:
                         for name in self.zones)]
 
     def file_names(self, base: str) -> list[str]:
-        """The path of each zone's file, with a number where a zone has several. It raises
-        UserError where two zones would have one."""
+        """The path of each zone's file, with a number where a zone has several. Raises
+        UserError if two zones would have one."""
         names: dict[str, str] = {}
         for at, zone in enumerate(self.zones):
             number = f"-{self.zones[:at].count(zone) + 1}" if self.zones.count(zone) > 1 else ""

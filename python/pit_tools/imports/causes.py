@@ -1,6 +1,6 @@
 """What the causes may be where rows lie on no grid, each with a row that shows it.
 
-Coordinates are whole numbers of thousandths of the export's unit of length, int64."""
+Coordinates are integers of thousandths of the export's unit of length, int64."""
 from __future__ import annotations
 
 from itertools import permutations
@@ -195,9 +195,9 @@ def judge_neighbours(places: Sequence[np.ndarray], steps: Sequence[int],
 
 
 def likelier_order(rock: np.ndarray, blocks: Sequence[int], order: Sequence[str]) -> Optional[str]:
-    """Of a list, another order of the axes in which rock has far fewer borders with what is none
-    than in this one; None where there is none. `rock` says of each row, in the order of the list,
-    whether it is rock."""
+    """Of a list, another order of the axes in which rock has far fewer borders with what is
+    none than in this one; None if there is none. `rock` says of each row, in the order of the
+    list, whether it is rock."""
     borders = {}
     for axes in permutations("xyz"):
         box = rock.reshape([blocks["xyz".index(axis)] for axis in reversed(axes)])

@@ -18,8 +18,8 @@ ROUNDED = 0.005
 
 class Masses:
     """Tonnes of the rows. `taken` gives a column of what was read, a row for each part of the
-    export's rows; `volume` are cubic metres of each row's block; `unit_of` is the unit that stands
-    behind a word."""
+    export's rows; `volume` are cubic metres of each row's block; `unit_of` is the unit that
+    follows a word."""
 
     def __init__(self, words: Words, reading: Reading, report: Report,
                  taken: Callable[[str], Optional[np.ndarray]], volume: np.ndarray,
@@ -30,12 +30,12 @@ class Masses:
         self.cut, self.with_cells, self.unit_of = cut, with_cells, unit_of
         self.grade = self.column("grade")
         self.density: Optional[np.ndarray] = None
-        # the part of each row's block that is rock, where it is given
+        # the part of each row's block that is rock, if it is given
         self.share: Optional[np.ndarray] = None
         self.fine = reading.fine["tonnes"]
 
     def column(self, key: str) -> np.ndarray:
-        """A column that was read. It raises KeyError where it was not."""
+        """A column that was read. Raises KeyError if it was not."""
         found = self.taken(key)
         if found is None:
             raise KeyError(key)

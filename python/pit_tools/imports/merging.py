@@ -1,4 +1,4 @@
-"""Rows to blocks: air and rows that stand twice are left out, parts are summed, zones numbered.
+"""Rows to blocks: air and rows that stand twice are omitted, parts are summed, zones numbered.
 
 What rows of one place are is told by their weight: parts add up to what other blocks weigh, and
 rows that stand twice to double."""
@@ -26,7 +26,7 @@ HEAVY, LIGHT = 4.2, 1.2
 @dataclass
 class Weights:
     """Of places with several rows, in the middle: tonnes a cubic metre of one row and of all
-    together; and of places with one row, None where they are few."""
+    together; and of places with one row, None if they are few."""
 
     one: float
     all: float
@@ -215,7 +215,7 @@ class Merging:
         return rows, air
 
     def tell_zeros(self, rows: pd.DataFrame, air: pd.DataFrame) -> None:
-        """Tells of rows below rock that were left out since they have 0, which may be waste."""
+        """Tells of rows below rock that were omitted since they have 0, which may be waste."""
         if "zero" not in air or not air["zero"].any():
             return
         tops = rows.groupby(["ix", "iy"])["iz"].max()
@@ -238,7 +238,7 @@ class Merging:
 
     def one_row_a_block(self, rows: pd.DataFrame, axes: Sequence[Axis]) -> pd.DataFrame:
         """Sums up the rows of each block, where that is asked for; else it stops where a place
-        stands twice."""
+        is repeated."""
         words, key = self.words, key_of(rows)
         spot = key if self.read.spot is None else self.read.spot[rows["row"].to_numpy()]
         again = np.zeros(len(rows), bool) if words.drop_repeats else is_again(rows, spot)

@@ -78,7 +78,7 @@ class Places:
         return axes, places
 
     def axes_of(self, values: Sequence[np.ndarray]) -> list[Axis]:
-        """The grid that coordinates lie on. It raises UserError with what may be the cause where
+        """The grid that coordinates lie on. It raises UserError with what may be the cause if
         there is none."""
         words = self.words
         sizes: list[Optional[int]] = (list(sizes_of(words.size, "--size")) if words.size

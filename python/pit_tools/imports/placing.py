@@ -42,7 +42,7 @@ class Placing:
         self.places, self.telling = Places(self.read), Telling(self.read)
 
     def imported(self) -> Imported:
-        """The export as blocks of a grid. It raises UserError where it is none."""
+        """The export as blocks of a grid. Raises UserError if it is none."""
         report, merging, zoning = self.report, Merging(self.read), Zoning(self.read)
         axes, places = self.places.placed()
         rows = self.rows_of(axes, places)

@@ -45,7 +45,7 @@ class Read:
         return columns_of(self.words, self.sources[0].names).measures[key] if text else None
 
     def unit_of(self, key: str) -> str:
-        """The unit that stands behind a word, or none."""
+        """The unit that follows a word, or none."""
         measure = self.measure_of(key)
         return measure.unit if measure else ""
 
@@ -55,7 +55,7 @@ class Read:
         return [column for column in found if column is not None]
 
     def taken(self, name: str) -> Optional[np.ndarray]:
-        """A column of what was read, a row for each part of the export's rows; None where it was
+        """A column of what was read, a row for each part of the export's rows; None if it was
         not read of all."""
         column = self.reading.joined(name)
         if column is None or len(column) != self.count:

@@ -52,7 +52,7 @@ class ImportedFile:
 
 
 def read_imported(path: str) -> ImportedFile:
-    """Reads BASE.json. It raises UserError where it is none, OSError where it cannot be read."""
+    """Reads BASE.json. Raises UserError if it is none, OSError if it cannot be read."""
     inputs.reads(path)
     try:
         told = read_json(path, "replace")

@@ -108,8 +108,8 @@ class Parts:
 def parts_of(values: Sequence[np.ndarray], sizes: Optional[Sizes], corners: Sequence[int],
              parents: Sequence[int], with_cells: Callable[[int], str], has_corner: bool,
              may_cross: bool = False) -> Parts:
-    """The places of sub-blocks, and of blocks that take several, whose borders have to be those of
-    places, unless blocks `may_cross` these: such are cut there."""
+    """The places of sub-blocks, and of blocks that take several, whose borders must be those
+    of places, unless blocks `may_cross` these: such are cut there."""
     spans: list[tuple[np.ndarray, np.ndarray, np.ndarray]] = []
     many = []
     for axis, name in enumerate(AXES):

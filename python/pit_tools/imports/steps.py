@@ -30,9 +30,9 @@ def import_export(paths: Sequence[str], words: Words, wanted: Wanted = Wanted())
     """Reads exports, one behind the other, puts their rows on one grid, and lays a resource report
     beside them where one is wanted.
 
-    It raises UserError for what cannot be right, with its cause and, where there is one, its line;
-    what may be wrong is told by the report, and figures that differ from a resource report by
-    `reconciliation.judge` of the answer. Nothing is written."""
+    It raises UserError for what cannot be right, with its cause and, if there is one, its
+    line; what may be wrong is told by the report, and figures that differ from a resource
+    report by `reconciliation.judge` of the answer. Nothing is written."""
     report = Report()
     has_package = bool(words.package)
     if has_package:

@@ -42,7 +42,7 @@ class Telling:
                                     "by --where")
 
     def tell_rows(self) -> None:
-        """Tells how many rows were read, what was left out, and how cells were read."""
+        """Tells how many rows were read, what was omitted, and how cells were read."""
         self.judge_nines()
         counts, facts = self.reading.counts, self.report.facts
         facts.append(f"{counts['rows'] + counts['filtered']:,} rows read")

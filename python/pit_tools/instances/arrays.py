@@ -143,7 +143,7 @@ class Instance:
     def problem(self, kind: str) -> Problem:
         """The CPIT or the PCPSP, by its kind in letters of either case.
 
-        Raises UserError where it was not read."""
+        Raises UserError if it was not read."""
         return present({"cpit": self.cpit, "pcpsp": self.pcpsp}[kind.lower()], kind.upper())
 
 
@@ -151,9 +151,9 @@ _Part = TypeVar("_Part")
 
 
 def present(part: Optional[_Part], what: str) -> _Part:
-    """A part of an instance that has to be there, as in `present(mine.upit, "UPIT")`.
+    """A part of an instance that must be there, as in `present(mine.upit, "UPIT")`.
 
-    Raises UserError where it was not read.
+    Raises UserError if it was not read.
     """
     if part is None:
         raise UserError(f"there is no {what} of this instance")
@@ -163,7 +163,7 @@ def present(part: Optional[_Part], what: str) -> _Part:
 def cents(values: np.ndarray) -> np.ndarray:
     """Values, of any shape, in units of 100 cents, as whole cents, int64: their sums are exact.
 
-    Raises UserError where one is infinite, NaN, above about 90,000 billion, or no whole cents:
+    Raises UserError if one is infinite, NaN, above about 90,000 billion, or no whole cents:
     `spelling.multiples_of` takes finer ones.
     """
     return spelling.multiples_of(values, [2])[0]
@@ -173,7 +173,7 @@ def arcs_of(precedence: Any) -> sparse.csr_matrix:
     """Arcs as a CSR matrix (n, n) whose columns rise in each row and whose entries are not 0. It
     may be of any format of scipy, or an array; a CSR matrix that is so already is not copied.
 
-    Raises UserError where it is not square.
+    Raises UserError if it is not square.
     """
     # The class would give indices and starts one type, of up to twice the size.
     arcs = (precedence if isinstance(precedence, sparse.csr_matrix)

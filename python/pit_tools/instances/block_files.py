@@ -73,7 +73,7 @@ class _Blocks:
         return self.roundings[name].of(piece, column, f"the {name}")
 
     def _tell_fields(self, piece: Piece, told: Told) -> None:
-        """Tells which fields are left out, by those of the first line."""
+        """Tells which fields are omitted, by those of the first line."""
         cells = piece.line_of(0)[1].split()
         left = [f"{at} (`{cell[:20]}`)" for at, cell in enumerate(cells, 1)
                 if at - 1 not in self.fields]
@@ -126,7 +126,7 @@ class _Blocks:
 def read_columns(path: str, columns: Columns, told: Optional[Told]) -> tuple[Blocks, int]:
     """The blocks in order of identifier, and the first identifier, 0 or 1.
 
-    Raises UserError, with the line, where identifiers are not consecutive, coordinates are no
+    Raises UserError, with the line, if identifiers are not consecutive, coordinates are no
     indices, a named field is lacking, or it is none that `pitc check` takes.
     """
     reader = _Blocks(path, columns, told)
@@ -138,7 +138,7 @@ def read_columns(path: str, columns: Columns, told: Optional[Told]) -> tuple[Blo
 def read_blocks(path: str) -> Blocks:
     """A block file, `id x y z tonnes grade zone`: tonnes in t, grades in g/t.
 
-    Raises UserError where a line has other fields or numbers than `pitc check` takes, or
-    identifiers are not 0, 1, 2, ..
+    Raises UserError if a line has other fields or numbers than `pitc check` takes, or identifiers
+    are not 0, 1, 2, ..
     """
     return read_columns(path, Columns(5, 6, 7), None)[0]

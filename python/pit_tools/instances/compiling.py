@@ -16,11 +16,11 @@ INTERVAL = 0.2
 
 
 def compile_shown(words: Sequence[str], reads: Sequence[str], base: str) -> tuple[int, str]:
-    """Runs a command line that reads some files and writes an instance at a base; answers its
+    """Runs a command line that reads some files and writes an instance at a base; returns its
     status, or 128 and the number of the signal that ended it, and its errors. What it prints is
     handed on unchanged, behind the bar.
 
-    Raises UserError where the program cannot be run.
+    Raises UserError if the program cannot be run.
     """
     is_shown = progress.is_terminal()
     pipe = subprocess.PIPE

@@ -1,4 +1,4 @@
-"""The files of an instance as arrays and sparse matrices, and back to the byte.
+"""The files of an instance as arrays and sparse matrices, and back byte for byte.
 
     from pit_tools import read_instance, write_instance
     mine = read_instance("deposit")              # deposit.blocks, .prec, .upit, .pcpsp, .cpit
@@ -71,7 +71,7 @@ def arcs_in(piece: Piece) -> tuple[np.ndarray, np.ndarray, np.ndarray]:
 
 
 def _in_turn(piece: Piece, ids: np.ndarray, done: int) -> None:
-    """Raises UserError, with the line, where identifiers do not go on by one."""
+    """Raises UserError, with the line, if identifiers do not go on by one."""
     is_wrong = ids != np.arange(done, done + len(ids))
     if is_wrong.any():
         piece.refuse(int(is_wrong.argmax()), "identifiers are not 0, 1, 2, ..")
@@ -80,8 +80,8 @@ def _in_turn(piece: Piece, ids: np.ndarray, done: int) -> None:
 def read_precedence(path: str, blocks: Optional[int] = None) -> sparse.csr_matrix:
     """A precedence file as a matrix (n, n), 1 at (b, p) where block b waits for block p.
 
-    It takes 5 bytes an arc. Raises UserError where a line is no `id k p1 .. pk`, identifiers are
-    not 0, 1, 2, .., there are not as many lines as blocks, and where a predecessor is none of them.
+    It takes 5 bytes an arc. Raises UserError if a line is no `id k p1 .. pk`, identifiers are not
+    0, 1, 2, .., there are not as many lines as blocks, and where a predecessor is none of them.
     """
     counts, above, done = [], [], 0
     for piece in pieces_of(path, True):
@@ -111,7 +111,7 @@ def count_predecessors(path: str) -> np.ndarray:
     """How many predecessors each line of a precedence file names by its second field, (n,).
 
     What follows that field is skipped, so a file of hundreds of millions of arcs takes seconds.
-    Raises UserError where identifiers are not 0, 1, 2, ..
+    Raises UserError if identifiers are not 0, 1, 2, ..
     """
     counts, done = [], 0
     for piece in pieces_of(path, True):
@@ -144,7 +144,7 @@ def read_problem(path: str, kind: Optional[str] = None) -> Problem:
     """A PCPSP or a CPIT file: values (n, D) in units of 100 cents, uses and limits in tonnes, the
     rate for one period. The kind is that of the file's ending where none is given.
 
-    Raises UserError where it is none, a section is lacking, or its parts do not fit.
+    Raises UserError if it is none, a section is lacking, or its parts do not fit.
     """
     kind = kind or os.path.splitext(path)[1][1:].upper()
     return read_model(path, kind if kind in ("PCPSP", "CPIT") else _kind_of(path))
@@ -163,9 +163,9 @@ def _kind_of(path: str) -> str:
 def read_instance(base: str, texts: Sequence[str] = TEXTS,
                   precedence: Optional[str] = None) -> Instance:
     """The files BASE.blocks and so on, those of `texts`; BASE.upit and BASE.cpit may be lacking.
-    The precedence file is the one at `precedence` where it is given, as that of `pitc_thin`.
+    The precedence file is the one at `precedence` if it is given, as that of `pitc_thin`.
 
-    Raises UserError where a file is none, or they are of other numbers of blocks.
+    Raises UserError if a file is none, or they are of other numbers of blocks.
     """
     readers: dict[str, Callable[[str], Any]] = {
         "blocks": read_blocks, "prec": read_precedence, "upit": read_upit,

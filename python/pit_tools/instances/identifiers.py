@@ -47,7 +47,7 @@ def write_identifiers(identifiers: Identifiers, path: str) -> None:
 def read_identifiers(path: str) -> Identifiers:
     """The file that `write_identifiers` makes.
 
-    Raises UserError where it is none.
+    Raises UserError if it is none.
     """
     rows: list[list[Optional[int]]] = []
     for number, line in numbered_lines(path):
@@ -66,7 +66,7 @@ def read_identifiers(path: str) -> Identifiers:
 def lines_renamed(path: str, identifiers: Identifiers, to_published: bool) -> Iterator[str]:
     """The lines of a pit or a schedule, the block that begins each one by its other identifier.
 
-    Raises UserError, with the line, where one begins with no block of these.
+    Raises UserError, with the line, if one begins with no block of these.
     """
     first = 0 if to_published else identifiers.first
     names = (identifiers.published if to_published else identifiers.blocks()).tolist()
@@ -77,8 +77,8 @@ def lines_renamed(path: str, identifiers: Identifiers, to_published: bool) -> It
 
 
 def order_of(precedence: sparse.csr_matrix) -> Optional[np.ndarray]:
-    """The rows (n,) in an order in which each one's predecessors stand behind it; None where they
-    do as it is. Raises UserError where rows wait for one another in a ring."""
+    """The rows (n,) in an order in which each one's predecessors stand behind it; None if they
+    do as it is. Raises UserError if rows wait for one another in a ring."""
     precedence = arcs_of(precedence)
     rows = np.repeat(np.arange(precedence.shape[0]), np.diff(precedence.indptr))
     if np.all(precedence.indices > rows):

@@ -26,7 +26,7 @@ from pit_tools.texts.lines import Told, pieces_of, refuse_row
 def read_precedence(path: str, blocks: int, first: int, told: Told) -> sparse.csr_matrix:
     """The precedences: `id k p1 .. pk` in any order; blocks without a line have none.
 
-    Raises UserError, with the line, where a number of predecessors or an identifier is wrong.
+    Raises UserError, with the line, if a number of predecessors or an identifier is wrong.
     """
     rows, counts, above = [], [], []
     done = 0
@@ -119,9 +119,9 @@ def read_published(files: dict[str, str], columns: Columns = Columns(), order: O
                    without_general: bool = False,
                    told: Optional[Told] = None) -> tuple[Instance, Identifiers]:
     """An instance of published files, by the endings blocks, prec, upit, cpit and pcpsp, and the
-    identifiers that its blocks had; blocks, prec and one of the others have to be there.
+    identifiers that its blocks had; blocks, prec and one of the others must be there.
 
-    Raises UserError where a file is none, or they are not of the same blocks.
+    Raises UserError if a file is none, or they are not of the same blocks.
     """
     told = told if told is not None else Told()
     lacking = [ending for ending in ("blocks", "prec") if ending not in files]

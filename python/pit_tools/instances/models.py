@@ -85,7 +85,7 @@ class Model:
         return (piece for name, piece in self.parts() if name == section)
 
     def _key_line(self, piece: Piece, is_first: bool) -> str:
-        """Takes a line with a colon; answers the section that it begins, if it does."""
+        """Takes a line with a colon; returns the section that it begins, if it does."""
         key, _, value = piece.text.decode("utf-8", "replace").partition(":")
         name, value = key.strip(), value.strip()
         if not self.is_own:
@@ -125,7 +125,7 @@ class Model:
         self.header[name] = value
 
     def number(self, key: str, least: float, most: float, default: Optional[float] = None) -> float:
-        """The number behind a key. Raises UserError where it is none or lies outside."""
+        """The number behind a key. Raises UserError if it is none or lies outside."""
         if key not in self.header:
             if default is not None:
                 return default
@@ -293,7 +293,7 @@ class _Count:
 
 def _limit_of(piece: Piece, row: int, line: str, model: Model,
               ends: tuple[int, int]) -> Optional[Limit]:
-    """The limit of a line, None where it sets none."""
+    """The limit of a line, None if it sets none."""
     fields = line.split(maxsplit=5)
     resource, period = (whole_of(cell) for cell in [*fields[:2], "", ""][:2])
     word = "".join(fields[2:3])
@@ -321,7 +321,7 @@ def _limit_of(piece: Piece, row: int, line: str, model: Model,
 
 
 def _end_of(cell: str) -> Optional[float]:
-    """A number of a limit, which may be infinite; None where it is none."""
+    """A number of a limit, which may be infinite; None if it is none."""
     if re.fullmatch("[+-]?inf(inity)?", cell.lower()):
         return float(cell)
     return number_of(cell)
@@ -373,7 +373,7 @@ _Uses = Union[_Coefficients, _Count]
 
 def _read(model: Model, first: int, without_general: bool,
           uses: _Uses) -> tuple[np.ndarray, _Limits]:
-    """Takes the header and the sections of a model file; answers its values and limits."""
+    """Takes the header and the sections of a model file; returns its values and limits."""
     values, limits = _Values(model, first), _Limits(model)
     takers: dict[str, Union[_Values, _Uses, _Limits]] = {OBJECTIVE: values, COEFFICIENTS: uses,
                                                          LIMITS: limits}
@@ -412,8 +412,8 @@ def _look_at_general(model: Model, without_general: bool) -> None:
 
 
 def _head_of(model: Model, destinations: int) -> tuple[int, int, float]:
-    """The periods, the resources, and the rate. Raises UserError where one is none, or blocks have
-    another number of values than there are destinations."""
+    """The periods, the resources, and the rate. Raises UserError if one is none, or blocks
+    have another number of values than there are destinations."""
     if destinations > MOST_DESTINATIONS:
         raise UserError(f"{model.path}: {destinations} destinations, and an instance has at most "
                         f"{MOST_DESTINATIONS}")
@@ -449,7 +449,7 @@ def read_outline(path: str, kind: str = "PCPSP") -> Outline:
     """The header, values and limits of a model file of `pitc`; its coefficients are counted and not
     read.
 
-    Raises UserError where it is none.
+    Raises UserError if it is none.
     """
     model, uses = Model(path, kind, None), _Count()
     values, limits = _read(model, 0, False, uses)
@@ -462,7 +462,7 @@ def read_upit(path: str, first: int = 0, without_general: bool = False,
               told: Optional[Told] = None) -> UltimatePit:
     """A UPIT file, of blocks from `first` on: its values (n,), in units of 100 cents.
 
-    Raises UserError where it is none."""
+    Raises UserError if it is none."""
     model = Model(path, "UPIT", told)
     values, _ = _read(model, first, without_general, _Count())
     return UltimatePit(model.name(), values[:, 0])
@@ -471,9 +471,9 @@ def read_upit(path: str, first: int = 0, without_general: bool = False,
 def read_model(path: str, kind: str, first: int = 0, order: Optional[str] = None,
                without_general: bool = False, told: Optional[Told] = None) -> Problem:
     """A CPIT or a PCPSP file, of blocks from `first` on. `order` is that of a coefficient's
-    fields, one of ORDERS, or None where it is to be the one that fits.
+    fields, one of ORDERS, or None if it is to be the one that fits.
 
-    Raises UserError where parts are lacking, out of range, or there are general side constraints.
+    Raises UserError if parts are lacking, out of range, or there are general side constraints.
     """
     model = Model(path, kind, told)
     uses = _Coefficients(model)

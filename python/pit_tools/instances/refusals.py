@@ -61,7 +61,7 @@ class Row(NamedTuple):
 
 
 def row_of(path: str, number: int) -> Optional[Row]:
-    """The row of a number in a file; None where it cannot be read again, as a pipe, or has none."""
+    """The row of a number in a file; None if it cannot be read again, as a pipe, or has none."""
     if not os.path.isfile(path):
         return None
     header: list[str] = []

@@ -50,7 +50,7 @@ def worth_in_cents(destination: Destination, kilograms: np.ndarray,
 
 def _exact_worth(kilograms: np.ndarray, grade: np.ndarray, per_metal: np.ndarray,
                  costs: np.ndarray) -> list[int]:
-    """The same by whole numbers of Python: T g r P has up to 32 digits."""
+    """The same by integers of Python: T g r P has up to 32 digits."""
     metal = kilograms.astype(object) * grade * per_metal
     return [value // 10**15 for value in metal - costs.astype(object) * 10**12]
 
@@ -98,7 +98,7 @@ def instance_of(plan: Plan, blocks: Blocks) -> Instance:
     cents. It lists all arcs, and is for instances that tools make and solve themselves; those that
     are published come from `pitc`.
 
-    Raises UserError where there is no block, or blocks lie too far apart.
+    Raises UserError if there is no block, or blocks lie too far apart.
     """
     values = values_of(plan, blocks)
     best = values.argmax(axis=1)

@@ -15,7 +15,7 @@ def by_zone(parts: Sequence[tuple[Sequence[int], Instance]]) -> Instance:
     """Instances of the same blocks, each with the zones that it is for, as one. Names, limits and
     precedences are those of the first.
 
-    It raises UserError where blocks, periods, destinations, resources or rates differ, or a zone is
+    Raises UserError if blocks, periods, destinations, resources or rates differ, or a zone is
     in none or in two."""
     first = parts[0][1]
     blocks = present(first.blocks, "block file")

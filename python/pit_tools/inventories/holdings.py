@@ -93,8 +93,8 @@ class Holdings:
         return self.count(rows[~self.is_graded[rows]])
 
     def extents(self, zone: str = "") -> Optional[list[tuple[float, float]]]:
-        """The least and the largest coordinate of centroids along each axis, in the export's own
-        coordinates; None where there is no row."""
+        """The least and the largest coordinate of centroids along each axis, in the export's
+        own coordinates; None if there is no row."""
         rows = self.rows_of(zone)
         if len(rows) == 0:
             return None
@@ -124,11 +124,11 @@ class Holdings:
                  "extents": self.extents(zone)} for zone in [*self.names, ""]]
 
     def left_out(self, zone: str) -> int:
-        """The rows of a zone that were left out, or of all."""
+        """The rows of a zone that were omitted, or of all."""
         return self.aside.get(zone, 0) if zone else sum(self.aside.values())
 
     def table(self, measures: Measures) -> list[str]:
-        """A line for each zone and one of all: what it holds, the rows that were left out, and
+        """A line for each zone and one of all: what it holds, the rows that were omitted, and
         those that are kept at grade 0; and where each zone lies."""
         width = max(len("zone"), *map(len, self.names))
         metal, factor = metal_unit(measures)

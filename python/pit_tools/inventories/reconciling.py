@@ -131,7 +131,7 @@ class Reconciliation:
         return f"{name}, {units[name]}" if name in units else name
 
     def judge(self) -> None:
-        """Raises UserError where a figure differs beyond the tolerance: the first, its likely
+        """Raises UserError if a figure differs beyond the tolerance: the first, its likely
         cause, and the others by their zones."""
         wrong = self.wrong
         if not wrong:
@@ -186,7 +186,7 @@ class Reconciliation:
         return f"a second metal: {' and '.join(told)}" if told and len(counts) > 1 else ""
 
     def _left_out(self, one: Difference) -> str:
-        """Rows that were left out and would have about what is missing."""
+        """Rows that were omitted and would have about what is missing."""
         zone, held = one.row.zone, self.held.of(one.row.zone)
         aside = self.held.aside
         rows = aside.get(zone, 0) if zone else sum(aside.values())
@@ -318,8 +318,8 @@ class Reconciled:
         return [self.part_of.get(zone, zone) for zone in zones]
 
     def judge(self, held: Holdings, measures: Measures, whose: str) -> None:
-        """Raises UserError where zones do not hold what was reconciled: files in another order, of
-        another import, or changed since."""
+        """Raises UserError if zones do not hold what was reconciled: files in another order,
+        of another import, or changed since."""
         rows = [Stated(zone, whose, {"tonnes": Value(tonnes, 0.001),
                                      "grade": Value(metal / tonnes if tonnes else 0.0, 1e-6),
                                      "blocks": Value(blocks, 0)})

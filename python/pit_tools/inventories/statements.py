@@ -102,7 +102,7 @@ class Statement:
     ignored: list[str] = field(default_factory=list)
 
     def add(self, row: Stated) -> None:
-        """Adds a row. It raises UserError where its zone has one of this cut-off."""
+        """Adds a row. Raises UserError if its zone has one of this cut-off."""
         for other in self.rows:
             if (other.zone, other.cut_off) == (row.zone, row.cut_off):
                 raise UserError(f"{row.place}: {row.zone or 'the total'} has a row already in "
@@ -235,7 +235,7 @@ def _header_of(records: Sequence[tuple[int, list[str]]], known: Known,
 
 
 def _kind_of(header: str, known: Known) -> Optional[tuple[str, str]]:
-    """The kind of a column and the unit in its header, or None where it is none of them."""
+    """The kind of a column and the unit in its header, or None if it is none of them."""
     words = re.sub(r"[_\[\](){},]+", " ", header).split()
     plain = " ".join(words).casefold()
     names = {name: kind for kind, some in NAMES.items() for name in some}
@@ -271,7 +271,7 @@ def _judge_unit(unit: str, kind: str, known: Known, place: str) -> None:
 
 
 def _marks_of(cells: Sequence[str], path: str) -> Marks:
-    """How numbers are spelled in these cells, whose units are left out."""
+    """How numbers are spelled in these cells, whose units are omitted."""
     found = (NUMBER.fullmatch(cell.strip()) for cell in cells if len(cell.strip()) <= MOST_CELL)
     texts = [one[1].strip() for one in found if one]
     try:

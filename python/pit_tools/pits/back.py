@@ -63,7 +63,7 @@ class Mined:
 def read_mined(path: str, plan: Plan, blocks: int) -> Mined:
     """A pit or a schedule.
 
-    Raises UserError where lines have not as many fields, or one is no block, period or destination.
+    Raises UserError if lines have not as many fields, or one is no block, period or destination.
     """
     table = table_of(path, len(FIELDS) + 1)
     if table.empty:
@@ -140,7 +140,7 @@ def by_block(plan: Plan, mined: Mined, blocks: int, with_shares: bool = False) -
     destination of its greatest share, empty texts where it is not mined. With shares there is
     besides a column `share_T` for each period T.
 
-    Raises UserError where shares are asked for of a pit, which has no periods.
+    Raises UserError if shares are asked for of a pit, which has no periods.
     """
     shares = mined.shares()
     total = np.zeros(blocks)
@@ -174,10 +174,10 @@ def onto_rows(imported_path: str, plan: Plan, blocks: Blocks, mined: Mined,
     rows there are, how many have a block, and how many blocks that are mined have no row.
 
     `imported_path` is BASE.json of `pit-tools import`, by which the export is read again. Cells
-    stay as they are; rows that are no block, as air, have empty cells, and a row of several blocks
-    has the first and the means of what is mined. Raises UserError where the export is another than
-    `import` read or cannot be read again, or its grid is not the plan's. Of an export in Parquet
-    the rows are Parquet too, with numbers in the columns behind, and need a place.
+    stay as they are; rows that are no block, as air, have empty cells, and a row of several
+    blocks has the first and the means of what is mined. Raises UserError if the export is another
+    than `import` read or cannot be read again, or its grid is not the plan's. Of an export in
+    Parquet the rows are Parquet too, with numbers in the columns behind, and need a place.
     """
     from pit_tools.imports.record import read_imported
     from pit_tools.imports.steps import import_export
@@ -218,7 +218,7 @@ class Behind:
 
     def rows(self, index: pd.Index, of_record: pd.Series,
              cut: Optional[pd.DataFrame]) -> tuple[pd.DataFrame, np.ndarray]:
-        """Texts behind these records, and their blocks, -1 where there is none."""
+        """Texts behind these records, and their blocks, -1 if there is none."""
         ids = of_record.reindex(index).fillna(-1).to_numpy(np.int64)
         found = self.told.iloc[np.maximum(ids, 0)].astype(object)
         found.loc[ids < 0, :] = ""

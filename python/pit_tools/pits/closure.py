@@ -23,7 +23,7 @@ from pit_tools.plans.cones import Places, cone_offsets, precedence_of, size_in_m
 from pit_tools.plans.file import Plan
 from pit_tools.texts.spelling import multiples_of
 
-#: Arcs up to which HiGHS is asked where there is no compiler.
+#: Arcs up to which HiGHS is asked if there is no compiler.
 MOST_ARCS_OF_HIGHS = 2_000_000
 
 
@@ -45,8 +45,8 @@ def ultimate_pit(values: np.ndarray, precedence: sparse.spmatrix) -> np.ndarray:
     """Which blocks are in the pit, bool (n,), by their values (n,), in units of 100 cents, and all
     arcs (n, n), a matrix of any format of scipy, or an array.
 
-    Raises UserError where values have more than six decimals or are too great for theirs, memory
-    was refused, or there is no C++ compiler and there are more arcs than HiGHS would end with.
+    Raises UserError if values have more than six decimals or are too great for theirs, memory was
+    refused, or there is no C++ compiler and there are more arcs than HiGHS would end with.
     """
     worth, precedence = multiples_of(values)[0], arcs_of(precedence)
     if len(worth) != precedence.shape[0]:
@@ -92,13 +92,13 @@ class Periods:
 
 def closure_of_periods(values: np.ndarray, precedence: sparse.csr_matrix,
                        with_flows: bool = False) -> Periods:
-    """The closure of greatest value of blocks by the ends of periods, by the whole numbers that
-    each block counts if it is mined by then, int64 (periods, n). A block is in it by the end of a
+    """The closure of greatest value of blocks by the ends of periods, by the integers that each
+    block counts if it is mined by then, int64 (periods, n). A block is in it by the end of a
     period only with all that it waits for, and then by the ends of all later ones. Without
     `with_flows` the lists are empty.
 
-    Raises UserError where memory was refused, there is no C++ compiler, or there are too many
-    blocks and periods.
+    Raises UserError if memory was refused, there is no C++ compiler, or there are too many blocks
+    and periods.
     """
     periods, n = values.shape
     if not is_compiled():
@@ -133,7 +133,7 @@ def pit_of_plan(values: np.ndarray, blocks: Blocks, plan: Plan) -> tuple[np.ndar
     """The same of blocks whose arcs follow from a plan's cones, without listing all of them: bool
     (n,), and how many arcs there are that no others imply.
 
-    Raises UserError where memory was refused, or there is no C++ compiler.
+    Raises UserError if memory was refused, or there is no C++ compiler.
     """
     if not is_compiled():
         raise UserError("no C++ compiler is there: apt-get install g++")
@@ -159,7 +159,7 @@ def pit_by_cones(values: np.ndarray, blocks: Blocks, plan: Plan) -> np.ndarray:
     """The pit of blocks whose arcs follow from a plan's cones, bool (n,), by the program of C++ or,
     where no compiler is there, by HiGHS. There may be no block.
 
-    Raises UserError where memory was refused, or there are more arcs than HiGHS would end with.
+    Raises UserError if memory was refused, or there are more arcs than HiGHS would end with.
     """
     if len(blocks) == 0:
         return np.zeros(0, dtype=bool)
@@ -174,7 +174,7 @@ def immediate(precedence: sparse.spmatrix) -> sparse.csr_matrix:
     same. The arcs (n, n) are a matrix of any format, or an array; predecessors come after their
     block, as in files of `pitc`.
 
-    Raises UserError where they do not, where memory was refused, or there is no C++ compiler.
+    Raises UserError if they do not, where memory was refused, or there is no C++ compiler.
     """
     if not is_compiled():
         raise UserError("no C++ compiler is there: apt-get install g++")

@@ -14,9 +14,9 @@ from pit_tools.texts.spelling import lines_of, multiples_of
 
 
 def read_pit(path: str, blocks: Optional[int] = None) -> np.ndarray:
-    """The blocks of a pit's file in rising order, int64. Further fields of a line are left out.
+    """The blocks of a pit's file in rising order, int64. Further fields of a line are omitted.
 
-    Raises UserError where a line begins with no identifier below `blocks`, or one stands twice.
+    Raises UserError if a line begins with no identifier below `blocks`, or one is repeated.
     """
     found = []
     for number, block, fields in block_lines(path):
@@ -51,7 +51,7 @@ class NamedPit(NamedTuple):
 def write_pit(in_pit: np.ndarray, path: str) -> None:
     """Writes the identifiers of the blocks that are in the pit, bool (n,), one a line.
 
-    Raises OSError, with the name, where the file cannot be written.
+    Raises OSError, with the name, if the file cannot be written.
     """
     with outputs.opened(path, "pit") as file:
         file.writelines(lines_of([(np.flatnonzero(in_pit), 0)]))

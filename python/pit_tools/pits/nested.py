@@ -42,7 +42,7 @@ class NestedPit:
 def factors_of(words: str) -> list[Decimal]:
     """Factors of a price, as 0.5,0.75,1, in rising order.
 
-    Raises UserError where one is no number above 0, has too many decimals, or stands twice.
+    Raises UserError if one is no number above 0, has too many decimals, or is repeated.
     """
     found = []
     for word in words.split(","):
@@ -60,7 +60,7 @@ def factors_of(words: str) -> list[Decimal]:
 def priced(plan: Plan, factor: Decimal) -> Plan:
     """The plan at so many times its price, rounded as `vary` rounds it.
 
-    Raises UserError where it has no price.
+    Raises UserError if it has no price.
     """
     return plan_of(varied(plan.text(), plan.name, [("price", f"x{factor:f}")]))
 
@@ -70,7 +70,7 @@ def nested_pits(facts: Facts, factors: Sequence[Decimal],
     """The pits at these factors, which rise, the greatest first. Each lies within that before it,
     and the first within the pit of a greater factor, bool (n,), where one is known.
 
-    Raises UserError where the values of the instance are not the plan's, so that prices say nothing
+    Raises UserError if the values of the instance are not the plan's, so that prices say nothing
     of them.
     """
     if facts.strange_values:

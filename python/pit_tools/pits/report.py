@@ -34,7 +34,7 @@ class Sums(NamedTuple):
 
     @property
     def strip(self) -> Optional[float]:
-        """Tonnes of waste for one of ore, None where there is no ore."""
+        """Tonnes of waste for one of ore, None if there is no ore."""
         return self.waste / self.ore if self.ore else None
 
     def told(self, measures: Measures) -> str:
@@ -181,7 +181,7 @@ class Report:
         return [*found, Table("sides", [Column("side"), Column("blocks")], self.sides())]
 
     def table(self) -> Table:
-        """All of them in one: the part, its name, and empty cells where it has none."""
+        """All of them in one: the part, its name, and empty cells if it has none."""
         last = [] if self.mined.period is None else [self._discounted_head()]
         heads = [Column("part"), Column("name"), Column("z (m)", 3), *columns(self.measures), *last]
         rows: list[list[Cell]] = []

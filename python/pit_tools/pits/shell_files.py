@@ -104,7 +104,7 @@ def _write_obj(shells: Sequence[Shell], place: str) -> None:
 
 
 def _lines(letter: bytes, table: np.ndarray, decimals: int) -> Iterator[bytes]:
-    """The rows of a table of whole numbers with so many decimals, a letter before each."""
+    """The rows of a table of integers with so many decimals, a letter before each."""
     for piece in lines_of([(table[:, at], decimals) for at in range(3)]):
         yield b"".join(letter + b" " + line for line in piece.splitlines(True))
 

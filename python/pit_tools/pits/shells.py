@@ -73,7 +73,7 @@ def outer_faces(places: np.ndarray) -> Iterator[tuple[int, int, np.ndarray]]:
     """The faces of blocks at places from 0, (n, 3), with none beside them: for each axis and each
     way along it, 1 or -1, the places of the blocks that have one there, (f, 3).
 
-    Raises UserError where the places lie too far apart.
+    Raises UserError if the places lie too far apart.
     """
     shape = places.max(axis=0) + 3
     box = int(np.prod(shape, dtype=object))

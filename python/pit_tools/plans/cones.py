@@ -1,5 +1,4 @@
-"""The cones of a plan's zones: which blocks a block waits for, by whole numbers as `pitc` counts
-them.
+"""The cones of a plan's zones: which blocks a block waits for, by integers as `pitc` counts them.
 
 A block waits for those blocks up to K benches above it that lie in the cone of its zone's slopes
 (docs/formats.md). Lengths are millimetres, so that nothing is rounded.
@@ -39,8 +38,8 @@ def cone_offsets(size: Sequence[int], zone: Zone, benches: Optional[int] = None,
     """The places of a zone's cone beside a block at its apex: rows dx, dy, dz, int32, in order of
     (dz, dy, dx).
 
-    `size` is that of a block in millimetres. `benches` is K where it is not the zone's own. Places
-    further away than `most` along x or y are left out.
+    `size` is that of a block in millimetres. `benches` is K where it is not the zone's own.
+    Places further away than `most` along x or y are omitted.
     """
     east, west, north, south = ((slope.rise, slope.run) for slope in zone.slopes)
     sx, sy, sz = size

@@ -46,7 +46,7 @@ class Grid:
 
 @dataclass(frozen=True)
 class Slope:
-    """Rise over run, whole numbers."""
+    """Rise over run, integers."""
 
     rise: int
     run: int
@@ -95,7 +95,7 @@ class Destination:
 
     @property
     def break_even(self) -> Optional[float]:
-        """The least grade, in g/t, at which a tonne is worth 0 or more here; None where none is."""
+        """The least grade, in g/t, at which a tonne is worth 0 or more here; None if none is."""
         ends = [start for start, _ in self.bands[1:]] + [Decimal("Infinity")]
         for (start, share), end in zip(self.bands, ends):
             if share and self.price:
@@ -115,7 +115,7 @@ class Resource:
 
 @dataclass(frozen=True)
 class Limit:
-    """A limit of tonnes in a period: letter L, G or I; `lower` or `upper` is None where there is
+    """A limit of tonnes in a period: letter L, G or I; `lower` or `upper` is None if there is
     none."""
 
     resource: int
@@ -225,8 +225,8 @@ _MOST_RECORDS, _MOST_ZONES, _MOST_BANDS = 10_000, MOST_ZONE + 1, 16
 
 class _Reader:
     """Takes the records of a plan one after the other, and refuses what `pitc` refuses, in its
-    order: the key, the number of cells, the cells from left to right, what stands twice, falls, or
-    is one too many."""
+    order: the key, the number of cells, the cells from left to right, what is repeated, falls,
+    or is one too many."""
 
     def __init__(self, source: str) -> None:
         self.source, self.row, self.key = source, 0, ""
@@ -403,7 +403,7 @@ class _Reader:
 
 
 def read_text(path: str) -> str:
-    """The text of a plan. It raises UserError where it is longer than any plan, OSError for a file
+    """The text of a plan. Raises UserError if it is longer than any plan, OSError for a file
     that cannot be read."""
     content = inputs.content_of(path, MOST_PLAN_BYTES, ", and so it is no plan")
     return content.decode("utf-8", "replace").removeprefix("\ufeff")
@@ -436,8 +436,8 @@ def read_plan(path: str) -> Plan:
 
 
 def grid_and_zones(path: str) -> tuple[Grid, tuple[Zone, ...]]:
-    """The `grid` and the `zone` records of a text that may have no others, as what `import` prints.
-    It raises UserError where there is no grid or no zone."""
+    """The `grid` and the `zone` records of a text that may have no others, as what `import`
+    prints. Raises UserError if there is no grid or no zone."""
     reader = _taken(read_text(path), path)
     if "grid" not in reader.once or not reader.zones:
         raise UserError(f"{path}: the plan has no `grid` or no `zone`")

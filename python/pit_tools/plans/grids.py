@@ -1,7 +1,7 @@
 """The grid of blocks that rows lie on: its sizes, found or given; turned models; parents of
 sub-blocks.
 
-Coordinates are whole numbers of thousandths of the export's unit of length, int64."""
+Coordinates are integers of thousandths of the export's unit of length, int64."""
 from __future__ import annotations
 
 import math
@@ -128,9 +128,9 @@ def axis_of(values: np.ndarray, size: Optional[int], name: str,
             first: Optional[int] = None) -> Axis:
     """The places that coordinates lie on, of this size or of one that is found.
 
-    A size is found where the coordinates are those of a grid of which nine tenths of the places are
-    taken, also where each lies beside its place by a little. It raises UserError where there is
-    none, and says what the distances are like."""
+    A size is found where the coordinates are those of a grid of which nine tenths of the
+    places are taken, also where each lies beside its place by a little. Raises UserError if
+    there is none, and says what the distances are like."""
     unique = np.unique(values)
     if size is None:
         size = _size_of(unique, name)
@@ -220,7 +220,7 @@ def _size_in_noise(unique: np.ndarray) -> Optional[int]:
 
 def turned_by(x: np.ndarray, y: np.ndarray, z: np.ndarray) -> Optional[float]:
     """By how many degrees, from 0 to 90, the directions to nearest neighbours of one bench are
-    turned counterclockwise, where they agree; None where they do not, or are along the axes."""
+    turned counterclockwise, where they agree; None if they do not, or are along the axes."""
     levels, counts = np.unique(z, return_counts=True)
     on_level = np.flatnonzero(z == levels[counts.argmax()])[:20_000]
     points = np.unique(np.column_stack([x[on_level], y[on_level]]).astype(float), axis=0)

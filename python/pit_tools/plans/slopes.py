@@ -46,7 +46,7 @@ def slopes_of(text: str) -> FourSlopes:
     """Slopes in words: `45` for all sides, `E 56, W 45, N 51, S 48`, also as +x, -x, +y, -y; a
     slope may be p:q too.
 
-    Each of the four sides has to be named where one is. It raises UserError."""
+    Each of the four sides must be named where one is. It raises UserError."""
     parts = [part.strip() for part in text.split(",") if part.strip()]
     if len(parts) == 1 and not re.search("[a-z]", parts[0], re.IGNORECASE):
         one = _one_slope(parts[0])
@@ -148,7 +148,7 @@ def too_steep_by_rise(grid: Grid, zone: Zone, K: int, rise: int) -> np.ndarray:
 
 
 def _too_small(over: np.ndarray, with_all: np.ndarray, K: int, wanted: int, within: float) -> str:
-    """What is told of a K that makes walls steeper than they have to be; nothing where they are
+    """What is told of a K that makes walls steeper than they must be; nothing if they are
     within, or as steep by all arcs."""
     worse = np.where(over > within, over - with_all, 0)
     at = int(worse.argmax())
@@ -185,8 +185,8 @@ def _flatter_told(grid: Grid, zone: Zone, benches: int, within: float) -> str:
 
 
 def _flatter(grid: Grid, zone: Zone, benches: int, within: float) -> Optional[int]:
-    """By how many whole degrees all slopes have to be flatter, so that walls are within the slopes
-    that were asked."""
+    """By how many whole degrees all slopes must be flatter, so that walls are within the
+    slopes that were asked."""
     asked = asked_straight(zone)
     for less in range(1, 16):
         if min(degrees_of(slope) for slope in zone.slopes) - less < 1:

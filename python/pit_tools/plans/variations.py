@@ -52,7 +52,7 @@ def _trimmed(record: list[str]) -> list[str]:
 
 def varied(text: str, name: str, settings: Sequence[tuple[str, str]]) -> str:
     """The text of a plan under another name, with these cells. `x1.1` multiplies a number, and
-    rounds it to what the cell may hold. Raises UserError where no record has such a cell."""
+    rounds it to what the cell may hold. Raises UserError if no record has such a cell."""
     records = [_trimmed(record) for record in records_of(text)]
     for record in records:
         if record and record[0].lower() == "name":
@@ -106,7 +106,7 @@ def _set(record: list[str], number: int, cell: str, value: str) -> bool:
 
 
 def _value(old: str, value: str) -> str:
-    """A value, or the old one times what stands behind an x."""
+    """A value, or the old one times what follows an x."""
     if not value.startswith("x"):
         return value
     before, times = number_of(old), number_of(value[1:])
@@ -119,7 +119,7 @@ def _value(old: str, value: str) -> str:
 def variations(text: str, base: str, changes: Sequence[Change]) -> Iterator[tuple[str, str]]:
     """The names and texts of all combinations: BASE-K4-price5000000 and so on.
 
-    Raises UserError where a name would be no NAME of a plan, or come twice.
+    Raises UserError if a name would be no NAME of a plan, or come twice.
     """
     seen = set()
     for values in itertools.product(*(change.values for change in changes)):

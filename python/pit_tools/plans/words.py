@@ -403,7 +403,7 @@ class _Destinations:
         return f"{Measures(grade_unit=unit).grade(float(grade)):.4g} {unit}"
 
     def mill(self, text: str) -> Destination:
-        """A mill by its words. It raises UserError where they are none of one."""
+        """A mill by its words. Raises UserError if they are none of one."""
         name, parts = _named(text, "mill")
         recovery, cost = self._word(parts, "recovery"), self._word(parts, "cost")
         share = (1000 if self.words.is_return and not recovery
@@ -415,7 +415,7 @@ class _Destinations:
                         self._break_even(one))
 
     def leach(self, text: str) -> Destination:
-        """A leach by its words. It raises UserError where they are none of one."""
+        """A leach by its words. Raises UserError if they are none of one."""
         name, parts = _named(text, "leach")
         cost = self._word(parts, "cost")
         bands = []

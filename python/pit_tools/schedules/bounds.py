@@ -22,7 +22,7 @@ def bounds_of(mine: Instance, seconds: Optional[float] = None) -> dict[str, Opti
     the seconds, or limits cannot be met. Larger ones are proved bounds, by prices of the limits: if
     the time is up they are above the relaxation's value.
 
-    Raises UserError where the UPIT or the precedences were not read.
+    Raises UserError if the UPIT or the precedences were not read.
     """
     found: dict[str, Optional[float]] = {**bounds_by_values(mine)}
     precedence: Any = present(mine.precedence, "precedence file")
@@ -56,8 +56,8 @@ def certified(problem: Problem, precedence: Any, seconds: Optional[float] = None
     """The bound of a CPIT or a PCPSP with its certificate. The search for prices takes about as
     long as given, and the proof one step more. The sums are those of the instance's files.
 
-    Raises UserError where there is no C++ compiler, memory was refused, or numbers or blocks are
-    too many or too great.
+    Raises UserError if there is no C++ compiler, memory was refused, or numbers or blocks are too
+    many or too great.
     """
     # HiGHS and pandas take long to load, and a check needs neither.
     from pit_tools.schedules import lagrangian

@@ -228,9 +228,9 @@ def _hold(holds: bool, message: str) -> None:
 
 def check(one: Certificate, problem: Problem, precedence: sparse.csr_matrix,
           sums: Optional[tuple[str, str]] = None) -> Fraction:
-    """The bound that a certificate claims, in units of 100 cents, once it is proved: by its prices
-    and flows for this instance, in whole numbers. The sums are those of the instance's files, if
-    it was read from some.
+    """The bound that a certificate claims, in units of 100 cents, once it is proved: by its
+    prices and flows for this instance, in integers. The sums are those of the instance's files,
+    if it was read from some.
 
     Raises NotProved if it is a certificate of other files, or does not prove exactly its bound.
     """
@@ -262,7 +262,7 @@ def write(certificates: Iterable[Certificate], file: IO[bytes]) -> None:
 
 @contextmanager
 def _opened(path: str) -> Iterator[zipfile.ZipFile]:
-    """A file of certificates. Raises UserError where it is none, or is damaged."""
+    """A file of certificates. Raises UserError if it is none, or is damaged."""
     if os.path.exists(path) and not os.path.isfile(path):
         # A device may have no end, and a pipe no beginning.
         raise UserError(f"{path}: no file of certificates: give the file that --out wrote")
@@ -278,7 +278,7 @@ def _opened(path: str) -> Iterator[zipfile.ZipFile]:
 def kinds_in(path: str) -> list[str]:
     """The kinds of problems, `cpit` and `pcpsp`, of which a file has certificates.
 
-    Raises UserError where it has none, is damaged or is cut short; OSError where it cannot be read.
+    Raises UserError if it has none, is damaged or is cut short; OSError if it cannot be read.
     """
     with _opened(path) as archive:
         names = archive.namelist()
@@ -291,8 +291,8 @@ def kinds_in(path: str) -> list[str]:
 def read(path: str, kind: str, problem: Problem) -> Certificate:
     """The certificate for a CPIT or a PCPSP in a file, by the kind in letters of either case.
 
-    Raises UserError where the file has none, is damaged or is cut short, or arrays are longer than
-    the problem needs; OSError where it cannot be read.
+    Raises UserError if the file has none, is damaged or is cut short, or arrays are longer than
+    the problem needs; OSError if it cannot be read.
     """
     kind, most = kind.upper(), 2 * len(problem.values) * problem.periods
     with _opened(path) as archive:
@@ -303,7 +303,7 @@ def read(path: str, kind: str, problem: Problem) -> Certificate:
 
 
 def _array(archive: zipfile.ZipFile, name: str, dtype: str, most: int) -> np.ndarray:
-    """An array of at most so many numbers of a type. Raises ValueError where there is another."""
+    """An array of at most so many numbers of a type. Raises ValueError if there is another."""
     part = archive.getinfo(name)
     if part.file_size > most * np.dtype(dtype).itemsize + 4096:
         raise ValueError(f"{name} is too long")

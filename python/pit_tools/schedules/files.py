@@ -110,7 +110,7 @@ def table_of(path: str, fields: int, most: Optional[int] = None) -> pd.DataFrame
 def read_schedule(path: str, problem: Problem) -> Schedule:
     """A schedule's file for a problem: lines (m,), shares from 0 to 1 of a block.
 
-    Raises UserError, with the line, where a line has other fields or names no block, period or
+    Raises UserError, with the line, if a line has other fields or names no block, period or
     destination, or there are far more lines than these.
     """
     is_pcpsp = problem.kind == "PCPSP"
@@ -146,7 +146,7 @@ def write_schedule(schedule: Schedule, path: str, is_pcpsp: bool) -> None:
     """Writes a schedule, a line for each of its own; a share stands where it is not 1, and
     destinations where the problem is a PCPSP.
 
-    Raises OSError, with the name, where the file cannot be written.
+    Raises OSError, with the name, if the file cannot be written.
     """
     count = len(schedule)
     parts: list[Part] = [*whole_parts(schedule.block), b" ", *whole_parts(schedule.period)]
@@ -187,7 +187,7 @@ def check(schedule: Schedule, problem: Problem, precedence: sparse.spmatrix,
     one period, in a PCPSP at one or more destinations; `relaxed` lets it be split over periods, as
     in the relaxations.
 
-    Raises UserError where a line names a block, period or destination that is not there, the arcs
+    Raises UserError if a line names a block, period or destination that is not there, the arcs
     are of other blocks, or there are more blocks and periods than it can hold.
     """
     arcs = arcs_of(precedence)
@@ -273,7 +273,7 @@ def read_variables(path: str) -> dict[tuple, float]:
     """The variables of a solution of `cbc` or `glpsol --output`, by (letter, numbers..): the first
     number behind each name. Those that `cbc` leaves out are 0.
 
-    Raises UserError where there is none.
+    Raises UserError if there is none.
     """
     found: dict[tuple, float] = {}
     name = None
@@ -293,8 +293,9 @@ def read_variables(path: str) -> dict[tuple, float]:
 
 
 def schedule_of_variables(found: dict[tuple, float], problem: Problem) -> Schedule:
-    """The schedule that variables w (mined by the end of a period), x (mined in it) and y (shares
-    at destinations) state. In a CPIT x decides where there is one, else w; in a PCPSP y does."""
+    """The schedule that variables w (mined by the end of a period), x (mined in it) and y
+    (shares at destinations) state. In a CPIT x decides if there is one, else w; in a PCPSP y
+    does."""
     n, periods = len(problem.values), problem.periods
     tables = {"w": np.zeros((n, periods)), "x": np.zeros((n, periods)),
               "y": np.zeros((n, problem.destinations, periods))}

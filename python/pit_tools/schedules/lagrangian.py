@@ -101,8 +101,8 @@ class _Model:
 
 @dataclass(frozen=True)
 class Found:
-    """The least bound of a search, in units of 100 cents, its prices of the limits, and what the
-    bound cannot be less than by any prices: None where that is not known."""
+    """The least bound of a search, in units of 100 cents, its prices of the limits, and what
+    the bound cannot be less than by any prices: None if that is not known."""
 
     bound: float
     prices: np.ndarray
@@ -318,8 +318,8 @@ class _Master:
         return self._matrix(parts, row.size)
 
     def solve(self, seconds: float) -> Optional[tuple[np.ndarray, float, np.ndarray]]:
-        """The prices of the limits, what the groups are worth, and w of each group and period; None
-        where HiGHS did not end in time."""
+        """The prices of the limits, what the groups are worth, and w of each group and period;
+        None if HiGHS did not end in time."""
         model, scale = self.model, self.unit
         rows, ends, slack, which = [], [], [], []
         for limit, (least, most) in enumerate(zip(model.least, model.most)):

@@ -60,8 +60,8 @@ def _named(program: Program, chosen: np.ndarray, first: bytes, last: bytes) -> I
 
 def _terms(program: Program, columns: np.ndarray, factors: np.ndarray, decimals: int,
            new_line: np.ndarray, without_plus: np.ndarray) -> list[Part]:
-    """Terms: a blank, or a new line at these places; a sign, unless it is a plus that is left out,
-    bool (terms,); a factor, unless it is 1; and a name."""
+    """Terms: a blank, or a new line at these places; a sign, unless it is a plus that is
+    omitted, bool (terms,); a factor, unless it is 1; and a name."""
     count = len(factors)
     parts: list[Part] = [b" ", np.where(factors < 0, ord("-"), ord("+")).astype(np.uint8), b" "]
     if without_plus.any():

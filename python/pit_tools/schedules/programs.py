@@ -275,9 +275,9 @@ GRACE = 2.0
 
 @dataclass(frozen=True)
 class Answer:
-    """What HiGHS answered: `status` is `best`, `within the ratio`, `stopped`, or `none`, where
-    there is no solution; `bound` is what no solution is worth more than; `values` are those of the
-    variables, None where none was found."""
+    """What HiGHS answered: `status` is `best`, `within the ratio`, `stopped`, or `none`, if
+    there is no solution; `bound` is what no solution is worth more than; `values` are those of
+    the variables, None if none was found."""
 
     status: str
     value: Optional[float]

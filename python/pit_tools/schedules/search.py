@@ -32,8 +32,8 @@ SECONDS_OF_A_PART, BLOCKS_OF_A_PART = 12.0, 60
 
 @dataclass(frozen=True)
 class Found:
-    """The best schedule of a search, None where there is none, what no schedule is worth more than,
-    None where that is not known, and how the schedule was found."""
+    """The best schedule of a search, None if there is none, what no schedule is worth more
+    than, None if that is not known, and how the schedule was found."""
 
     schedule: Optional[Schedule]
     bound: Optional[float]
@@ -63,10 +63,10 @@ def start_of(problem: Problem, precedence: sparse.spmatrix) -> Found:
 
 
 def from_shells(problem: Problem, tonnes: np.ndarray, precedence: sparse.spmatrix) -> Schedule:
-    """Blocks shell by shell, those that others wait for first, each into the first period in which
-    no upper limit is passed, at the destination of most value that there is room for. Predecessors
-    have to come behind their block, as in files of `pitc`. Lower limits are not looked at: `check`
-    tells."""
+    """Blocks shell by shell, those that others wait for first, each into the first period in
+    which no upper limit is passed, at the destination of most value that there is room for.
+    Predecessors must come behind their block, as in files of `pitc`. Lower limits are not
+    looked at: `check` tells."""
     precedence = arcs_of(precedence)
     shell = shells(tonnes, problem.values.max(axis=1), precedence)
     order = [block

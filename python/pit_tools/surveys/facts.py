@@ -324,7 +324,7 @@ class Facts:
 
     @cached_property
     def pit(self) -> Optional[np.ndarray]:
-        """The ultimate pit of the plan, bool (n,), or None where it would take minutes: cones are
+        """The ultimate pit of the plan, bool (n,), or None if it would take minutes: cones are
         wide, or no compiler is there and it is too great for HiGHS."""
         if self._pit is not None:
             return self._pit
@@ -339,8 +339,8 @@ class Facts:
         return self._pit is not None
 
     def is_soon_found(self, places: int, arcs: int) -> bool:
-        """Whether a pit is to be sought: by the program of C++ where cones have no more places than
-        these, and where no compiler is there by HiGHS, where there are no more arcs either."""
+        """Whether a pit is to be sought: by the program of C++ where cones have no more places
+        than these, and where no compiler is there by HiGHS, if there are no more arcs either."""
         return (self._places_of_cones <= places
                 and (is_compiled() or int(self.arcs.sum()) <= arcs))
 
@@ -365,7 +365,7 @@ class Facts:
         return {side: ~has_blocks[y + up, x + right] for side, (up, right) in steps.items()}
 
     def floor(self, pit: np.ndarray) -> np.ndarray:
-        """The lowest index of a pit in each column, (y, x), nan where it has none."""
+        """The lowest index of a pit in each column, (y, x), nan if it has none."""
         wide, deep = (axis.most - axis.least + 1 for axis in self.axes[:2])
         lowest = np.full(wide * deep, np.inf)
         np.minimum.at(lowest, self.column[pit], self.blocks.z[pit])
@@ -376,7 +376,7 @@ class Facts:
 def read_valued(plan_path: str, base: str) -> Facts:
     """The facts of a plan and the files BASE.blocks and BASE.pcpsp; arcs are not read, and count 0.
 
-    Raises UserError where one cannot be read, or they are not of the same blocks and destinations.
+    Raises UserError if one cannot be read, or they are not of the same blocks and destinations.
     """
     plan, blocks = read_plan(plan_path), read_blocks(base + ".blocks")
     outline = _outline_of(base, plan, blocks)
@@ -398,7 +398,7 @@ def read_facts(plan_path: str, base: str, zone_paths: Sequence[str] = (),
                pit_path: Optional[str] = None) -> Facts:
     """The facts of a plan and the files BASE.blocks, BASE.prec and BASE.pcpsp.
 
-    Raises UserError where one cannot be read, or they are not of the same blocks and destinations.
+    Raises UserError if one cannot be read, or they are not of the same blocks and destinations.
     """
     from pit_tools.pits.files import NamedPit
 

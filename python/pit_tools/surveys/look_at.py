@@ -53,7 +53,7 @@ def look_at(facts: Facts) -> list[Finding]:
 
 
 def notes(facts: Facts) -> list[Finding]:
-    """What is no mistake and has to be known, in the same order."""
+    """What is no mistake and must be known, in the same order."""
     parts = [("ROCK", _density), ("SLOPES", lambda facts: facts.slopes.notes),
              ("BEST FOR", _little_used), ("RESOURCES", _rest_left), ("FILES", _note)]
     return [Finding(part, told) for part, find in parts for told in find(facts)]

@@ -209,8 +209,7 @@ class Plane(NamedTuple):
 
 
 def plane_at(facts: Facts, normal: str, metres: float) -> Plane:
-    """The plane of blocks nearest to a coordinate. It raises UserError where no block lies
-    there."""
+    """The plane of blocks nearest to a coordinate. Raises UserError if no block lies there."""
     number = PLANES[normal][0]
     away = (metres - facts.origin[number]) / facts.metres[number]
     index = round(away) if abs(away) < MOST_HEIGHT else -1

@@ -26,9 +26,9 @@ MOST_PLACES, MOST_ARCS = 1_000_000_000, 50_000
 
 @dataclass(frozen=True)
 class PitParts:
-    """The lines of a pit by zone and by bench, as a report has them, each with one of all last; and
-    by nested pit, the least factor first, of what each adds to that before it. Where nested pits
-    are left out, there are no lines, and `why_not` says why."""
+    """The lines of a pit by zone and by bench, as a report has them, each with one of all
+    last; and by nested pit, the least factor first, of what each adds to that before it. Where
+    nested pits are omitted, there are no lines, and `why_not` says why."""
 
     zones: list[Line]
     benches: list[Line]
@@ -38,7 +38,7 @@ class PitParts:
 
 @lru_cache(maxsize=1)
 def pit_parts(facts: Facts) -> Optional[PitParts]:
-    """The parts of the pit of a survey, or None where it is not known or has no blocks. Its text
+    """The parts of the pit of a survey, or None if it is not known or has no blocks. Its text
     and its pictures ask for them, and nested pits are sought once."""
     if facts.pit is None or not facts.pit.any():
         return None

@@ -120,7 +120,7 @@ def _legend(facts: Facts) -> str:
 
 
 def _first_class(facts: Facts) -> int:
-    """The first shade of ore: what pays nowhere has one of its own, where there is one."""
+    """The first shade of ore: what pays nowhere has one of its own, if there is one."""
     return int(any(one.break_even for one in facts.plan.destinations))
 
 

@@ -1,4 +1,4 @@
-"""Decimals held as whole numbers, as `pitc` holds them: texts to numbers and back without binary
+"""Decimals held as integers, as `pitc` holds them: texts to numbers and back without binary
 fractions.
 
 A decimal with `places` decimals is an int64 of so many parts: 2700.5 t with 3 places is 2700500 kg.
@@ -133,8 +133,7 @@ def _floats_of(texts: pd.Series) -> np.ndarray:
 
 def parts_of(texts: pd.Series, places: int,
              floats: Optional[np.ndarray] = None) -> tuple[np.ndarray, np.ndarray]:
-    """Decimals, as texts with a point, as whole numbers of 10**-places, rounded half away from
-    zero.
+    """Decimals, as texts with a point, as integers of 10**-places, rounded half away from zero.
 
     Each is rounded by a float where that is far enough from the middle of two numbers for the
     float's error to say nothing, and by a decimal where it is not: so the answer is always that of
@@ -159,8 +158,7 @@ def parts_of(texts: pd.Series, places: int,
 
 
 def texts_of(parts: Union[np.ndarray, Sequence[int]], places: int) -> np.ndarray:
-    """Whole numbers of 10**-places as texts with exactly so many decimals, an object array of
-    str."""
+    """Integers of 10**-places as texts with exactly so many decimals, an object array of str."""
     numbers = np.asarray(parts, np.int64)
     if not places:
         return numbers.astype(str).astype(object)
@@ -193,5 +191,5 @@ def decimal_of(text: str, what: str) -> Decimal:
 
 
 def whole_of(text: str) -> Optional[int]:
-    """A whole number from 0 on, of 18 digits at the most; None where the text is none."""
+    """A whole number from 0 on, of 18 digits at the most; None if the text is none."""
     return int(text) if len(text) <= 18 and text.isascii() and text.isdecimal() else None

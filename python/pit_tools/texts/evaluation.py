@@ -52,7 +52,7 @@ def called(node: ast.AST) -> str:
 
 
 def listed(node: ast.expr) -> list[ast.expr]:
-    """What stands in a list. It raises TypeError where the node is none."""
+    """What stands in a list. Raises TypeError if the node is none."""
     if not isinstance(node, (ast.List, ast.Tuple)):
         raise TypeError("`in` goes with a list, as ('ORE', 'WASTE')")
     return node.elts

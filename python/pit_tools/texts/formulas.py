@@ -270,8 +270,8 @@ def _judge_call(node: ast.Call, text: str) -> None:
 
 
 def number_columns(formula: Formula) -> tuple[set[int], set[int]]:
-    """The columns that are read as numbers, and those that are compared with texts. It raises
-    UserError where one is both."""
+    """The columns that are read as numbers, and those that are compared with texts. Raises
+    UserError if one is both."""
     numbers: set[int] = set()
     texts: set[int] = set()
     nodes = list(ast.walk(_body(formula.code)))

@@ -81,7 +81,7 @@ class Piece:
               most: int = 2**31 - 1) -> np.ndarray:
         """Numbers of its rows as int32.
 
-        Raises UserError, with the line, where one is not whole or lies outside.
+        Raises UserError, with the line, if one is not whole or lies outside.
         """
         is_wrong = (numbers != np.floor(numbers)) | (numbers < least) | (numbers > most)
         if is_wrong.any():
@@ -149,15 +149,15 @@ def numbered_lines(path: str, most: int = MOST_LINE) -> Iterator[tuple[int, str]
 
 
 def block_lines(path: str) -> Iterator[tuple[int, Optional[int], list[str]]]:
-    """The lines of a pit or a schedule that have fields: their numbers, the block that begins each,
-    None where that is none, and the fields. Raises UserError as `numbered_lines` does."""
+    """The lines of a pit or a schedule that have fields: their numbers, the block that begins
+    each, None if that is none, and the fields. Raises UserError as `numbered_lines` does."""
     for number, line in numbered_lines(path):
         if fields := line.split():
             yield number, whole_of(fields[0]), fields
 
 
 def opened(path: str) -> BinaryIO:
-    """A file that the command reads. Raises UserError where it cannot be opened."""
+    """A file that the command reads. Raises UserError if it cannot be opened."""
     try:
         inputs.reads(path)
         return open(path, "rb")
@@ -168,7 +168,7 @@ def opened(path: str) -> BinaryIO:
 def whole_lines(path: str) -> Iterator[bytes]:
     """The bytes of a file, cut at line ends, without a mark at the front.
 
-    Raises UserError where it cannot be opened and, with the line, where one is longer than 64 MB.
+    Raises UserError if it cannot be opened and, with the line, where one is longer than 64 MB.
     """
     with opened(path) as file:
         rest, number = file.read(3), 1
@@ -191,7 +191,7 @@ def pieces_of(path: str, is_own: bool = False) -> Iterator[Piece]:
     """The lines of a file. In one of `pitc`, `is_own`, a comment is a whole line, a comma is no
     blank, and `EOF` ends nothing.
 
-    Raises UserError where it cannot be opened, is no text, or has lines behind `EOF`.
+    Raises UserError if it cannot be opened, is no text, or has lines behind `EOF`.
     """
     number, has_ended = 1, False
     for text in whole_lines(path):
@@ -238,7 +238,7 @@ def line_lengths(text: bytes) -> np.ndarray:
 
 
 def integers_of(text: bytes) -> np.ndarray:
-    """The whole numbers of a text, int64, with blanks between; none of them where one is none."""
+    """The integers of a text, int64, with blanks between; none of them where one is none."""
     with warnings.catch_warnings():
         warnings.simplefilter("error", DeprecationWarning)
         try:
@@ -251,7 +251,7 @@ def numbers_of(piece: Piece, fields: Sequence[int], what: str,
                length: Optional[int] = None) -> np.ndarray:
     """The numbers of some fields of each row, float64 (fields, rows); fields count from 0.
 
-    Raises UserError, with the line, where a row has not `length` fields or lacks one of these, and
+    Raises UserError, with the line, if a row has not `length` fields or lacks one of these, and
     where one is no number, infinite, NaN, or so small that it would become 0.
     """
     lengths = line_lengths(piece.text)
@@ -306,7 +306,7 @@ class Rounding:
     def of(self, piece: Piece, numbers: np.ndarray, what: str) -> np.ndarray:
         """The numbers (rows,) or (columns, rows), each as the float nearest to its decimals.
 
-        Raises UserError, with the line, where one is too great for them.
+        Raises UserError, with the line, if one is too great for them.
         """
         try:
             rounded, is_off = nearest(numbers, self.decimals)

@@ -117,7 +117,7 @@ def _groups(numbers: np.ndarray, count: int) -> list[np.ndarray]:
 
 
 def whole_parts(numbers: np.ndarray) -> list[Part]:
-    """Whole numbers from 0 on."""
+    """Integers from 0 on."""
     most = int(numbers.max(initial=0))
     numbers = numbers.astype(np.uint32 if most < 2**32 else np.uint64)
     groups = _groups(numbers, (len(str(most)) + 3) // 4)
@@ -131,7 +131,7 @@ def whole_parts(numbers: np.ndarray) -> list[Part]:
 
 
 def decimal_parts(whole: np.ndarray, fraction: np.ndarray, decimals: int) -> list[Part]:
-    """Decimals from 0 on as their shortest texts: a whole number, and a fraction of so many
+    """Decimals from 0 on as their shortest texts: an integer, and a fraction of so many
     decimals."""
     parts = whole_parts(whole)
     if not fraction.any():
@@ -149,7 +149,7 @@ def decimal_parts(whole: np.ndarray, fraction: np.ndarray, decimals: int) -> lis
 
 
 def rounded(sizes: np.ndarray, decimals: int) -> tuple[np.ndarray, np.ndarray]:
-    """Floats from 0 on as `format` rounds them to decimals: whole numbers and fractions, uint64.
+    """Floats from 0 on as `format` rounds them to decimals: integers and fractions, uint64.
 
     Raises NotHeld where one is infinite, NaN or 10^18 and above.
     """
@@ -213,8 +213,8 @@ def lines_of(columns: Sequence[tuple[np.ndarray, int]], ends: Union[bytes, np.nd
     """Lines of n rows that begin with the same bytes, their fields with one blank between, some
     thousand rows a piece.
 
-    A column is n whole numbers and how many decimals these count: (array([25]), 1) is 2.5. If
-    `ends` is an array (n,), the byte ends[i] follows row i.
+    A column is n integers and how many decimals these count: (array([25]), 1) is 2.5. If `ends`
+    is an array (n,), the byte ends[i] follows row i.
     """
     for at in range(0, len(columns[0][0]), ROWS):
         rows = slice(at, at + ROWS)
@@ -227,8 +227,8 @@ def lines_of(columns: Sequence[tuple[np.ndarray, int]], ends: Union[bytes, np.nd
 
 def lines_of_values(whole: Sequence[np.ndarray], values: Sequence[np.ndarray],
                     choices: Sequence[int]) -> Iterator[bytes]:
-    """Lines of whole numbers and then of values, by the fewest of these decimals that hold them
-    all, or each value by its own where some are too great for that.
+    """Lines of integers and then of values, by the fewest of these decimals that hold them all,
+    or each value by its own where some are too great for that.
 
     Raises NotHeld where one is infinite, NaN, too great for two decimals, or has more decimals than
     any of the choices.

@@ -182,8 +182,8 @@ class _Blocks:
                            Places(self.blocks))
 
     def reconciled(self, plan: Plan, explained: Told) -> Iterator[str]:
-        """What zones are worth, where a resource report was laid beside the import. It raises
-        UserError where zone files do not hold what was reconciled."""
+        """What zones are worth, where a resource report was laid beside the import. Raises
+        UserError if zone files do not hold what was reconciled."""
         from pit_tools.inventories.holdings import holdings_of
         from pit_tools.inventories.worths import worth_lines
 

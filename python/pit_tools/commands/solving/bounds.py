@@ -34,7 +34,7 @@ status is 1 if the certificate belongs to other files or does not prove exactly 
 WRITES = "certificates"
 
 
-#: A bound as a number, exact if it is a certificate's; None where none was found.
+#: A bound as a number, exact if it is a certificate's; None if none was found.
 Bound = Union[float, Fraction, None]
 
 

@@ -58,7 +58,7 @@ def add_arguments(parser: argparse.ArgumentParser) -> None:
 
 
 def run(args: argparse.Namespace) -> int:
-    """Does it; answers the status."""
+    """Does it; returns the status."""
     from pit_tools.errors import UserError
 
     files = {ending: getattr(args, ending) for ending in ENDINGS if getattr(args, ending)}
