@@ -1,11 +1,11 @@
-"""A bar on standard error for work that takes long, where that is a terminal; elsewhere nothing.
+"""A bar on standard error for work that takes long, if that is a terminal; elsewhere nothing.
 
     with progress.shown("survey", 3):
         progress.step("the ultimate pit")
         ...
 
-Steps are told from wherever the work is done: outside of `shown` they tell nothing. Bars are those
-of tqdm, and where that is lacking there is none.
+Steps are told from wherever the work is done: outside of `shown` they tell nothing. Bars are
+those of tqdm, and if that is missing there is none.
 """
 from __future__ import annotations
 
@@ -32,7 +32,7 @@ def is_terminal() -> bool:
 
 
 def _made(**words: object) -> Optional[tqdm]:
-    """A bar, where it is to be seen."""
+    """A bar, if it is to be seen."""
     if not is_terminal():
         return None
     try:
@@ -46,7 +46,7 @@ def _made(**words: object) -> Optional[tqdm]:
 
 
 class _Steps:
-    """A bar of steps, where it is to be seen, and how many of them were begun."""
+    """A bar of steps, if it is to be seen, and how many of them were begun."""
 
     #: The one that is shown now.
     now: Optional[_Steps] = None
@@ -56,7 +56,7 @@ class _Steps:
         self.begun = 0
 
     def tell(self, count: Optional[int], what: str) -> None:
-        """Shows how many steps are done, where that is given, and a text."""
+        """Shows how many steps are done, if that is given, and a text."""
         if self.drawn is not None:
             self.drawn.n = self.drawn.n if count is None else min(count, self.drawn.total)
             self.drawn.set_postfix_str(what)

@@ -85,9 +85,9 @@ def _end_with_parent() -> None:
 
 
 def _end(_number: int, _frame: object) -> None:
-    """Ends a process by an exception, so that what is under way is taken away. The executor takes
-    that for a fault of the instance, and goes on to wait for the next one, perhaps for a lock that
-    another process had when it ended: so the system ends it a while later."""
+    """Ends a process by an exception, so that what is under way is taken away. The executor
+    takes that for a fault of the instance, and continues to wait for the next one, perhaps for
+    a lock that another process had when it ended: so the system ends it a while later."""
     signal.signal(signal.SIGALRM, signal.SIG_DFL)
     signal.alarm(PATIENCE)
     sys.exit(143)

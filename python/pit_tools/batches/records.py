@@ -85,7 +85,7 @@ def _made_in(path: str) -> Iterator[Made]:
 
 
 def _parsed(line: str) -> dict[str, Any]:
-    """What a line says by name: nothing, where it is no record."""
+    """What a line says by name: nothing, if it is no record."""
     try:
         found = json.loads(line)
     except (ValueError, RecursionError):
@@ -97,7 +97,7 @@ class Record:
     """A record that is being written."""
 
     def __init__(self, path: str, build: str, goes_on: bool):
-        """Goes on with the record that is there, where it is of this BUILD, or begins it anew."""
+        """Goes on with the record that is there, if it is of this BUILD, or begins it anew."""
         self.path = path
         goes_on = build_of(self.path) == build and goes_on
         if not goes_on:

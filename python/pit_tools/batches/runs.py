@@ -43,7 +43,7 @@ def locked(folder: str, part: Part = Part()) -> Iterator[None]:
         yield
 
 
-#: What is told where nothing has succeeded.
+#: What is reported where nothing has succeeded.
 STOPPED = "stopped: {} failed, and none succeeded"
 
 
@@ -64,9 +64,10 @@ class Batch:
 
     def run(self, engine: Engine = in_turn, goes_on: bool = False,
             stop_at: Optional[int] = None) -> bool:
-        """Makes each instance, or where it goes on those that are not whole; then BUILD, SIZES, and
-        MANIFEST where nothing failed. A part makes none of these. Nothing is taken away before it
-        is known that pitc works. It stops when `stop_at` instances have failed and none is whole.
+        """Makes each instance, or where it continues those that are not whole; then BUILD, SIZES,
+        and MANIFEST where nothing failed. A part makes none of these. Nothing is taken away
+        before it is known that pitc works. It stops when `stop_at` instances have failed and none
+        is whole.
         """
         with locked(self.way.folder, self.part):
             build = build_told(self.way)
@@ -243,7 +244,7 @@ def _common_build(folders: Sequence[str], found: Sequence[Recorded]) -> str:
 
 
 def _copied(folder: str, made: Made) -> None:
-    """Brings the texts of an instance from a folder, where that is another one."""
+    """Brings the texts of an instance from a folder, if that is another one."""
     if os.path.samefile(folder, "."):
         return
     with outputs.together():

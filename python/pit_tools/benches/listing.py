@@ -10,7 +10,7 @@ from pit_tools.texts.lines import numbered_lines
 
 
 def read_names(path: str) -> tuple[str, ...]:
-    """The bases of a list's instances, in its order: a plan NAME.plan stands for NAME.
+    """The bases of a list's instances, in its order: a plan NAME.plan means NAME.
 
     Raises UserError, with the line, if a base comes twice, cannot be split into words, or there is
     none."""

@@ -8,8 +8,8 @@ from pit_tools.surveys.pictures import figure
 
 
 def profile_picture(profiles: dict[str, np.ndarray], instances: int) -> Figure:
-    """For each solver the share of all instances that it solves in at most so many times the least
-    seconds of any solver."""
+    """For each solver the share of all instances that it solves in at most so many times the
+    smallest seconds of any solver."""
     drawn = figure(7, 4.5)
     axes = drawn.add_subplot()
     most = max((ratios[-1] for ratios in profiles.values() if len(ratios)), default=1.0)

@@ -58,8 +58,9 @@ def shown(table: pd.DataFrame) -> pd.DataFrame:
 
 
 def profile_of(table: pd.DataFrame) -> dict[str, np.ndarray]:
-    """The performance profiles (Dolan and More 2002): for each solver how many times the least
-    seconds of any solver it took, rising, of each instance for which its schedule is best."""
+    """The performance profiles (Dolan and More 2002): for each solver how many times the
+    smallest seconds of any solver it took, rising, of each instance for which its schedule is
+    best."""
     best = table[table["best"]]
     seconds = best["seconds"].clip(lower=1e-3)
     least = seconds.groupby(best["name"]).transform("min")

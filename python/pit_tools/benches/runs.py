@@ -1,5 +1,5 @@
-"""Benches: solvers over the instances of a list, recorded run by run, so that one that was cut goes
-on."""
+"""Benches: solvers over the instances of a list, recorded run by run, so that one that was cut
+continues."""
 from __future__ import annotations
 
 import fcntl
@@ -58,7 +58,7 @@ class Bench:
 
     def run(self, engine: Engine = in_turn, goes_on: bool = False,
             stop_at: Optional[int] = None) -> None:
-        """Does each task, or where it goes on those that no record has of the same files and
+        """Does each task, or where it continues those that no record has of the same files and
         solver. It stops when `stop_at` solvers' runs have failed and none has given a schedule.
 
         Raises UserError if it is to go on from records of another setting."""

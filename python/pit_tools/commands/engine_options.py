@@ -9,7 +9,7 @@ if TYPE_CHECKING:
 
 
 def add(parser: argparse.ArgumentParser, lacking: str) -> None:
-    """Adds the options; a part leaves out what is lacking then."""
+    """Adds the options; a part omits what is missing then."""
     parser.add_argument("--jobs", type=int, metavar="N", help="N at a time")
     parser.add_argument("--part", metavar="I/N", help=f"the I-th of N parts alone, and {lacking}")
     parser.add_argument("--scheduler", metavar="ADDRESS",

@@ -57,7 +57,7 @@ COMMANDS = {"dimacs": "lp --dimacs --all-arcs", "section": "survey", "slopes": "
 
 
 def renewed(words: Sequence[str]) -> list[str]:
-    """A command line as it is written now; if it has a former name, that is told.
+    """A command line as it is written now; if it has a former name, that is reported.
 
     Raises UserError if it cannot be written so."""
     if words[0] == "python":

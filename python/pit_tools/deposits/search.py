@@ -91,7 +91,7 @@ def sought(mine: Instance, deposit: Deposit, kind: str, seconds: float,
 
 
 def handed_in(path: str, by: str, how: str, folder: str) -> str:
-    """Takes a schedule's file into a library, where it is better; returns what it did.
+    """Takes a schedule's file into a library, if it is better; returns what it did.
 
     Raises UserError if it does not hold, or is worth more than its bound."""
     deposit, kind = named(path)

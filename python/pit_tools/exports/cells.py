@@ -1,5 +1,5 @@
-"""The spelling of numbers in an export: decimal and thousands marks, what stands for a missing
-value, negatives in parentheses.
+"""The spelling of numbers in an export: decimal and thousands marks, what means a missing value,
+negatives in parentheses.
 
 What a file's marks are is found in its first rows, where these can only mean one thing, or is
 named."""

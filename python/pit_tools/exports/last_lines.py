@@ -12,7 +12,7 @@ TAIL = 1 << 20
 
 
 def last_line_told(source: Source) -> list[str]:
-    """A line about the last line of a text, where it has no line end; else none.
+    """A line about the last line of a text, if it has no line end; else none.
 
     Raises UserError if its last cell is shorter than others can be: an empty one among others
     that are not, fewer decimals where others have one or two numbers of them, or the beginning

@@ -307,7 +307,7 @@ class Frames:
 
     def _fits(self, places: Sequence[int], turns: Sequence[tuple[str, float]],
               parents: Optional[Sequence[float]]) -> bool:
-        """Whether rows of the greatest size lie on one grid of it, so turned."""
+        """Whether rows of the largest size lie on one grid of it, so turned."""
         table = self.table
         sizes = np.array(table[self.sizes].max() if self.sizes else parents)
         if self.sizes:

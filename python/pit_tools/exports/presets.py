@@ -15,13 +15,13 @@ class Package:
     brackets, blanks, points and underscores but a leading one; of several triples the first that
     the header has is taken.
 
-    `world` are coordinates along the map's axes beside `places` that are along the model's own.
-    `corner`, `counts`, `origin`, `angles` and `axes` are columns with one value in all rows: the
-    least corner, how many parents there are, the corner in world coordinates, and turns about axes
-    by number. `has_parents` where no block is greater than a parent. `bearing` says what an
-    azimuth above the header means: where the model's +x or its +y points. `order` is that of three
-    numbers above the header. `marks` stand for what is missing, `signs` are columns by which a
-    header is known, all of a group."""
+    `world` are coordinates along the map's axes beside `places` that are along the model's
+    own. `corner`, `counts`, `origin`, `angles` and `axes` are columns with one value in all
+    rows: the smallest corner, how many parents there are, the corner in world coordinates, and
+    turns about axes by number. `has_parents` where no block is greater than a parent.
+    `bearing` says what an azimuth above the header means: where the model's +x or its +y
+    points. `order` is that of three numbers above the header. `marks` stand for what is
+    missing, `signs` are columns by which a header is known, all of a group."""
 
     title: str
     places: Sequence[Triple]

@@ -28,8 +28,8 @@ FINE = {"tonnes": 6, "grade": 9}
 EDGE = re.compile("(x|y|z|east|easting|north|northing|rl|elev|elevation)(min|max|low|lower|high|"
                   "upper|corner|origin|from|to|start|end|left|right|bottom|top)")
 
-# How many times the greatest other number such a one must be, to be taken for a mark: ore is
-# never that far above all other ore, and a cut of grades leaves the others just below it.
+# How many times the largest other number such a one must be, to be taken for a mark: ore is never
+# that far above all other ore, and a cut of grades leaves the others just below it.
 NINES_ABOVE = 5
 
 
@@ -58,7 +58,7 @@ class Reading:
         # with the first line
         self.lacking: dict[str, tuple[int, str]] = {}
         # by the name of a column of grades or densities, how often it has marks as 999, with the
-        # first line, and the greatest of its other numbers
+        # first line, and the largest of its other numbers
         self.nines: dict[str, dict[float, tuple[int, str]]] = {}
         self.largest: dict[str, float] = {}
 
@@ -236,7 +236,7 @@ class Piece(Measured):
                           file=np.full(len(self.table), self.reading.source_at, np.int16))
 
     def drop_lines_that_are_no_rows(self) -> None:
-        """Leaves out rows that are empty where formulas look, the header where it stands again, and
+        """Omits rows that are empty where formulas look, the header where it stands again, and
         totals behind the last row."""
         numeric = self.columns.numeric
         kept = np.zeros(len(self.table), bool)
@@ -275,7 +275,7 @@ class Piece(Measured):
                                 "as a file of their own, with the same names")
 
     def filter(self) -> None:
-        """Leaves out the rows that a filter does not let through."""
+        """Omits the rows that a filter does not let through."""
         kept = np.ones(len(self.table), bool)
         for formula in self.columns.filters:
             known, standing = self.values(formula, has_negatives=False)
@@ -349,7 +349,7 @@ class Piece(Measured):
                             f"it says none, 0 in place of {whole}")
 
     def densities(self) -> np.ndarray:
-        """Tonnes a cubic metre, by the column and, where that is missing, by the table of rock
+        """Tonnes a cubic metre, by the column and, if that is missing, by the table of rock
         codes; NaN if there is none."""
         values = np.full(len(self.table), np.nan)
         if "density" in self.columns.measures:

@@ -43,10 +43,10 @@ HEAD = 1 << 20
 # How many columns there may be: as many as a sheet has.
 MOST_COLUMNS = 16_384
 
-# How many times its size an archive may unpack to, where that is more than so many bytes.
+# How many times its size an archive may unpack to, if that is more than so many bytes.
 MOST_TIMES, LEAST_UNPACKED = 200, 1 << 24
 
-# How much of a line is looked at to tell what may be wrong with it, and of a cell is told.
+# How much of a line is looked at to tell what may be wrong with it, and how much of a cell is reported.
 LOOKED_AT, SHOWN = 1000, 60
 
 csv.field_size_limit(MOST_LINE)
@@ -274,7 +274,7 @@ class Source:
                 text.readline()
             yield text
         finally:
-            # All was read, or another fault is told: that it cannot be closed says nothing.
+            # All was read, or another fault is reported: that it cannot be closed says nothing.
             with suppress(OSError):
                 text.close()
 

@@ -17,7 +17,7 @@ import pandas as pd
 from pit_tools.errors import UserError
 from pit_tools.texts.decimals import plain
 
-# What stands for a formula that no program has computed yet.
+# What means a formula that no program has computed yet.
 UNCOMPUTED = "#not computed"
 
 # Quotes, escapes and brackets of a number format, whose percent signs mean nothing.
@@ -162,7 +162,7 @@ def cell_name(row: int, column: int) -> str:
 
 
 def _text_of(cell: Any, is_percent: dict[str, bool]) -> str:
-    """A cell as the text that it stands for."""
+    """A cell as the text that it means."""
     value = cell.value
     if value is None:
         return ""

@@ -5,11 +5,12 @@
             ...
 
 A file is written beside its place, as NAME.unfinished-PROCESS, and put there by a rename when all
-of it lies on the disk. The files of one `together` come together, or none does; an old file is kept
-meanwhile as NAME.before-PROCESS, and comes back where a later one cannot be put in its place. Both
-names stay where the process is killed, or where the system lets nothing be put back, which is told.
-One command at a time puts files into a folder. Of several files a record is put last
-(pit_tools.files.records), which tells a mixture of two runs to whoever reads one of them.
+of it lies on the disk. The files of one `together` come together, or none does; an old file is
+kept meanwhile as NAME.before-PROCESS, and comes back where a later one cannot be put in its
+place. Both names stay where the process is killed, or where the system lets nothing be put back,
+which is reported. One command at a time puts files into a folder. Of several files a record is
+put last (pit_tools.files.records), which tells a mixture of two runs to whoever reads one of
+them.
 
 Nothing is written over what the command reads, by whichever name or link. A link stays a link: the
 file that it leads to is replaced. A device or a pipe is written through. Of a file with several
@@ -205,8 +206,8 @@ def judged_old(place: str, kind: str) -> None:
 
 
 def folder(path: str) -> None:
-    """Makes a folder with those above it, where it is not there; within a `together` that fails it
-    goes again, where it is empty."""
+    """Makes a folder with those above it, if it is not there; within a `together` that fails
+    it goes again, if it is empty."""
     path, lacking = os.path.abspath(path), []
     while not os.path.isdir(path):
         lacking.append(path)

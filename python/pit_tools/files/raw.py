@@ -85,7 +85,7 @@ def whole(raw: Raw, encoding: Optional[str], newline: str) -> Iterator[IO]:
 
 
 def synced(descriptor: int, place: str) -> None:
-    """Waits until a file lies on the disk: full disks elsewhere are told only then."""
+    """Waits until a file lies on the disk: full disks elsewhere are reported only then."""
     try:
         os.fsync(descriptor)
     except OSError as error:

@@ -292,7 +292,7 @@ class Reading:
         self.passed.append(passing)
 
     def inputs(self, folder: str, without: Iterable[str]) -> tuple[File, ...]:
-        """All that was read, as a record in a folder names it, but for what is written.
+        """All that was read, as a record in a folder names it, except what is written.
 
         Raises UserError if a file was changed meanwhile."""
         found = []

@@ -49,15 +49,15 @@ def cut_zones(rows: pd.DataFrame, zones: Sequence[str],
 class Imported:
     """An export as blocks of a grid.
 
-    `rows` has a row for each block: ix, iy, iz, places of the grid from 0; tonnes in kilograms and
-    grade in millionths of g/t, int64; zone, a number of `zones`, where one of more rows than a
-    zone file may have stands several times. Its order is that of the export.
-    `places` has a row for each record of the export that was read, with its file, its record (the
-    header being 0) and its ix, iy, iz, so that a pit finds the export's rows again. `grid` is in
-    metres, or in feet where the lengths stay in feet. `benches` has the K of zones that are so many
-    benches below another, and `part_of` the zone that each of these was split off. `reconciliation`
-    is a resource report beside what was read, where one was given. `holdings` has what each zone
-    holds, and all."""
+    `rows` has a row for each block: ix, iy, iz, places of the grid from 0; tonnes in kilograms
+    and grade in millionths of g/t, int64; zone, a number of `zones`, if one of more rows than
+    a zone file may have stands several times. Its order is that of the export. `places` has a
+    row for each record of the export that was read, with its file, its record (the header
+    being 0) and its ix, iy, iz, so that a pit finds the export's rows again. `grid` is in
+    metres, or in feet where the lengths stay in feet. `benches` has the K of zones that are so
+    many benches below another, and `part_of` the zone that each of these was split off.
+    `reconciliation` is a resource report beside what was read, if one was given. `holdings`
+    has what each zone holds, and all."""
 
     words: Words
     sources: list[Source]
@@ -132,9 +132,9 @@ class Imported:
                           self.part_of, self.words.is_merged)
 
     def write(self, base: str) -> list[str]:
-        """Writes the zone files, and BASE.json with the words, the grid, the zones, the frame, the
-        resource report and what was told. It answers the zone files' paths. It raises UserError,
-        and writes nothing, where zones do not hold what the report says."""
+        """Writes the zone files, and BASE.json with the words, the grid, the zones, the frame,
+        the resource report and what was reported. It answers the zone files' paths. It raises
+        UserError, and writes nothing, where zones do not hold what the report says."""
         if self.reconciliation is not None:
             self.reconciliation.judge()
         paths = self.file_names(base)

@@ -16,17 +16,17 @@ from pit_tools.imports.sizes import sizes_told
 from pit_tools.plans.grids import AXES, turned_by
 from pit_tools.texts.decimals import in_short
 
-# Coordinates that mostly say that nothing is known; the last stands for all beyond, as -1e30.
+# Coordinates that mostly say that nothing is known; the last means all beyond, as -1e30.
 MARKS = (*(-1000 * (10 ** digits - 1) for digits in range(1, 7)),
          *(1000 * (10 ** digits - 1) for digits in range(4, 7)), -10 ** 18)
 
-# How many rows at each end may have the least, the greatest or the mean of all.
+# How many rows at each end may have the smallest, the largest or the mean of all.
 ENDS = 8
 
 
 def judge_ends(values: Sequence[np.ndarray], with_cells: Callable[[int], str]) -> None:
-    """Stops where the first or the last rows are the least and the greatest of all columns: rows of
-    numbers about the rows."""
+    """Stops where the first or the last rows are the smallest and the largest of all columns:
+    rows of numbers about the rows."""
     count = len(values[0])
     if count < 30:
         return
@@ -94,8 +94,8 @@ def _marks_in(values: Sequence[np.ndarray]) -> Optional[tuple[int, int]]:
 
 
 def dip_of(values: Sequence[np.ndarray]) -> Optional[float]:
-    """By how many degrees the directions to nearest neighbours are off the vertical, where they are
-    neither level nor upright."""
+    """By how many degrees the directions to nearest neighbours are off the vertical, if they
+    are neither level nor upright."""
     points = np.column_stack(values).astype(float)
     if len(points) > 50_000:
         near = np.argsort(np.abs(points - np.median(points, axis=0)).max(axis=1))[:50_000]
@@ -141,8 +141,8 @@ def two_grids(values: Sequence[np.ndarray], with_cells: Callable[[int], str]) ->
 
 
 def _most_on(value: np.ndarray) -> Optional[tuple[int, int, np.ndarray]]:
-    """The greatest distance of coordinates at which more than half the rows, and not all, lie on
-    one grid: it, a place of the grid, and which rows are on it."""
+    """The largest distance of coordinates at which more than half the rows, and not all, lie
+    on one grid: it, a place of the grid, and which rows are on it."""
     unique, counts = np.unique(value, return_counts=True)
     gaps = np.unique(np.diff(unique))
     tried = sorted({int(gap) * many for gap in gaps[:20] for many in (1, 2, 3, 4)}
@@ -254,7 +254,7 @@ class Hints:
         return [value[usual] for value in values]
 
     def turn_hint(self, values: Sequence[np.ndarray]) -> str:
-        """What the directions to neighbours say, where no grid fits."""
+        """What the directions to neighbours say, if no grid fits."""
         angle = turned_by(*self.of_one_size(values))
         if angle is None:
             return ""

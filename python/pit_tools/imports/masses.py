@@ -80,7 +80,7 @@ class Masses:
         return np.where(whole > 0, whole * self.volume, np.nan)
 
     def waste_shares(self, ore: np.ndarray) -> np.ndarray:
-        """The share of waste beside that of ore, which may be missing; all that is not ore, where
+        """The share of waste beside that of ore, which may be missing; all that is not ore, if
         none is named."""
         known = self.shares("waste_share")
         if known is None:
@@ -115,7 +115,7 @@ class Masses:
                                 "--waste-share too, and the rest is air")
 
     def shares(self, key: str) -> Optional[np.ndarray]:
-        """Shares from 0 to 1; those of a hundred are known by their greatest, where no unit says
+        """Shares from 0 to 1; those of a hundred are known by their greatest, if no unit says
         it."""
         share = self.taken(key)
         if share is None:
@@ -130,8 +130,8 @@ class Masses:
         return np.minimum(share, 1)
 
     def by_other(self) -> Optional[np.ndarray]:
-        """Tonnes of each row by the column that nobody named: by the density beside tonnes, or the
-        tonnes beside a density; by the volume, where that is all."""
+        """Tonnes of each row by the column that nobody named: by the density beside tonnes, or
+        the tonnes beside a density; by the volume, if that is all."""
         weight, volume = self.taken("own_weight"), self.taken("own_volume")
         share = 1 if self.cut is None else self.cut.share
         if weight is None:

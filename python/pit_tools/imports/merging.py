@@ -185,7 +185,7 @@ class Merging:
                                                             read.report)
 
     def without_repeats(self, rows: pd.DataFrame) -> pd.DataFrame:
-        """The rows without those that are the same as an earlier one, where that is asked for."""
+        """The rows without those that are the same as an earlier one, if that is asked for."""
         if not self.words.drop_repeats:
             return rows
         again = is_again(rows, key_of(rows) if self.read.spot is None else self.read.spot)
@@ -237,8 +237,8 @@ class Merging:
         return f"is {'--density' if self.words.density else '--tonnes'} the right column?"
 
     def one_row_a_block(self, rows: pd.DataFrame, axes: Sequence[Axis]) -> pd.DataFrame:
-        """Sums up the rows of each block, where that is asked for; else it stops where a place
-        is repeated."""
+        """Sums up the rows of each block, if that is asked for; else it stops where a place is
+        repeated."""
         words, key = self.words, key_of(rows)
         spot = key if self.read.spot is None else self.read.spot[rows["row"].to_numpy()]
         again = np.zeros(len(rows), bool) if words.drop_repeats else is_again(rows, spot)
@@ -272,8 +272,8 @@ class Merging:
         return merged
 
     def judge_fractions(self, rows: pd.DataFrame, key: np.ndarray) -> None:
-        """Stops where rows of one place are more than its block, by their volumes or shares: they
-        are its parts where they are not, also where some are the same."""
+        """Stops where rows of one place are more than its block, by their volumes or shares:
+        they are its parts if they are not, also where some are the same."""
         codes, _ = pd.factorize(key)
         sums = np.bincount(codes, rows["fraction"])
         over = np.flatnonzero(sums > 1.02)

@@ -48,7 +48,7 @@ class Ordered:
                 for first, size, many in zip(firsts, sizes, blocks)], places
 
     def judge_order(self, rows: pd.DataFrame) -> None:
-        """Looks whether rock would hang together far better in another order."""
+        """Checks whether rock would hang together far better in another order."""
         blocks = counts_of(self.words.blocks, "--blocks")
         rock = np.zeros(blocks[0] * blocks[1] * blocks[2], bool)
         rock[self.read.record - self.reading.first_record] = (rows["tonnes"] > 0).to_numpy()

@@ -25,7 +25,7 @@ from pit_tools.texts.decimals import plain, in_short
 # and Mexico, so a model there may be right.
 NORTHINGS, EASTINGS, FAR = (1e6, 1e7), (1e5, 9e5), 3e6
 
-# The greatest index that pitc takes.
+# The largest index that pitc takes.
 MOST_INDEX = 9999
 
 
@@ -178,8 +178,8 @@ class Places:
 
     def corners(self, values: Sequence[np.ndarray], sizes: Sequence[np.ndarray],
                 parents: Sequence[int]) -> list[int]:
-        """The least corner of a block, by the word or by the rows; of level blocks for a model
-        that dips a round one."""
+        """The smallest corner of a block, by the word or by the rows; of level blocks for a
+        model that dips a round one."""
         if self.words.corner:
             return thousandths(self.words.corner, "--corner")
         leasts = [int(np.rint(np.nanmin(value - size / 2))) for value, size in zip(values, sizes)]

@@ -1,4 +1,4 @@
-"""Puts the rows of exports on a grid, leaves out what is no rock, and tells of it."""
+"""Puts the rows of exports on a grid, omits what is no rock, and tells of it."""
 from __future__ import annotations
 
 from collections import Counter

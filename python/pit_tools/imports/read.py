@@ -73,7 +73,7 @@ class Read:
         return {number: name for name, number in self.reading.zone_numbers.items()}
 
     def measures(self) -> Measures:
-        """In what grades are told."""
+        """The unit in which grades are reported."""
         return Measures(grade_unit=grade_unit_of(self.unit_of("grade")))
 
     @property

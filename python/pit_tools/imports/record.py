@@ -21,10 +21,10 @@ from pit_tools.texts.units import grade_unit_of
 @dataclass(frozen=True)
 class ImportedFile:
     """What was imported: the exports and the words by which they were read, the grid with its
-    numbers of blocks, the zones with their files, the frame of the export's coordinates, the K of
-    zones that are so many benches below another, what was told, and behind LOOK AT, the resource
-    report, and how many benches have rock. Paths of zone files are those from where BASE.json was
-    read."""
+    numbers of blocks, the zones with their files, the frame of the export's coordinates, the K
+    of zones that are so many benches below another, what was reported, and behind LOOK AT, the
+    resource report, and how many benches have rock. Paths of zone files are those from where
+    BASE.json was read."""
 
     exports: list[str]
     words: Words
@@ -41,7 +41,7 @@ class ImportedFile:
 
     @property
     def grade_unit(self) -> str:
-        """In what grades are told."""
+        """The unit in which grades are reported."""
         return grade_unit_of(self.words.grade.rpartition(" ")[2])
 
     @property

@@ -27,7 +27,7 @@ MOST_POINTS = 4_000_000
 
 @dataclass
 class Sizes:
-    """Sizes of the rows along x, y and z, NaN where one is not known, and the columns that have
+    """Sizes of the rows along x, y and z, NaN if one is not known, and the columns that have
     them."""
 
     along: list[np.ndarray]
@@ -46,8 +46,8 @@ def sizes_of_axes(axes: Sequence[Axis], count: int) -> Sizes:
 
 
 def judge_own_grid(own: np.ndarray, sizes: Sizes, with_cells: Callable[[int], str]) -> None:
-    """Stops where blocks do not lie side by side along the axes that a rotation says: the edges of
-    rows of the greatest size are then on no grid of that size."""
+    """Stops where blocks do not lie side by side along the axes that a rotation says: the
+    edges of rows of the largest size are then on no grid of that size."""
     largest = [float(np.nanmax(size)) for size in sizes.along]
     is_whole = np.all([size > 0.98 * most for size, most in zip(sizes.along, largest)], axis=0)
     for axis, name in enumerate(AXES):

@@ -1,5 +1,5 @@
 """From a mining package's export to zone files: reads rows, puts them on the grid, and tells what
-was read, left out and odd.
+was read, omitted and odd.
 
     from pit_tools.imports.steps import Words, import_export
     words = Words(x="XC", y="YC", z="ZC", tonnes="T", grade="AU oz/st", zone=["DOMAIN"])

@@ -1,5 +1,5 @@
-"""What is told of the rows of an import, and of what its columns, names and rows say beside the
-rock itself, which is no fault and mostly wrong."""
+"""What is reported of the rows of an import, and of what its columns, names and rows say
+beside the rock itself, which is no fault and mostly wrong."""
 from __future__ import annotations
 
 import re
@@ -19,12 +19,13 @@ from pit_tools.plans.grids import Axis, box_told
 from pit_tools.texts.decimals import in_short
 from pit_tools.texts.formulas import plain_name
 
-# Of how many texts of missing cells and zones the rows are told.
+# Of how many texts of missing cells and zones the rows are reported.
 MOST_TOLD = 12
 
 
 class Telling:
-    """Tells how many rows were read and left out, how cells were read, and how full the grid is."""
+    """Tells how many rows were read and omitted, how cells were read, and how full the grid
+    is."""
 
     def __init__(self, read: Read) -> None:
         self.read, self.reading, self.words, self.report = (read, read.reading, read.words,

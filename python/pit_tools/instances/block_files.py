@@ -12,14 +12,14 @@ from pit_tools.instances.arrays import Blocks
 from pit_tools.texts.formats import MOST_AMOUNT, MOST_BLOCKS, MOST_INDEX, MOST_ZONE
 from pit_tools.texts.lines import Piece, Rounding, Told, numbers_of, pieces_of, refuse_row
 
-#: What the fields of a block are, and the greatest number of each.
+#: What the fields of a block are, and the largest number of each.
 MOST_OF_A_BLOCK = {"x": MOST_INDEX, "y": MOST_INDEX, "z": MOST_INDEX, "tonnes": MOST_AMOUNT,
                    "the grade": MOST_AMOUNT, "the zone": MOST_ZONE}
 
 
 @dataclass(frozen=True)
 class Columns:
-    """Which fields of a block line are what, counted from 1; 0 stands for none. A block's
+    """Which fields of a block line are what, counted from 1; 0 means none. A block's
     identifier and coordinates are fields 1 to 4, and other fields are skipped."""
 
     tonnes: int = 0
@@ -127,7 +127,7 @@ def read_columns(path: str, columns: Columns, told: Optional[Told]) -> tuple[Blo
     """The blocks in order of identifier, and the first identifier, 0 or 1.
 
     Raises UserError, with the line, if identifiers are not consecutive, coordinates are no
-    indices, a named field is lacking, or it is none that `pitc check` takes.
+    indices, a named field is missing, or it is none that `pitc check` takes.
     """
     reader = _Blocks(path, columns, told)
     for piece in pieces_of(path, told is None):

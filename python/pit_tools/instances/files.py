@@ -144,7 +144,7 @@ def read_problem(path: str, kind: Optional[str] = None) -> Problem:
     """A PCPSP or a CPIT file: values (n, D) in units of 100 cents, uses and limits in tonnes, the
     rate for one period. The kind is that of the file's ending where none is given.
 
-    Raises UserError if it is none, a section is lacking, or its parts do not fit.
+    Raises UserError if it is none, a section is missing, or its parts do not fit.
     """
     kind = kind or os.path.splitext(path)[1][1:].upper()
     return read_model(path, kind if kind in ("PCPSP", "CPIT") else _kind_of(path))

@@ -27,7 +27,7 @@ class Identifiers:
 
     @property
     def first(self) -> int:
-        """The least published identifier: they are this and the next ones."""
+        """The smallest published identifier: they are this and the next ones."""
         return int(self.published.min()) if len(self.published) else 0
 
     def blocks(self) -> np.ndarray:

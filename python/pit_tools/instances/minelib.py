@@ -96,7 +96,7 @@ def _cpit_of(pcpsp: Problem) -> Problem:
 
 
 def _completed(mine: Instance, told: Told) -> Instance:
-    """The instance with the problems that are lacking, made of those that are there."""
+    """The instance with the problems that are missing, made of those that are there."""
     pcpsp, cpit, upit = mine.pcpsp, mine.cpit, mine.upit
     if cpit is None and pcpsp is not None:
         cpit = _cpit_of(pcpsp)

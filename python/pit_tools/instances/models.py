@@ -1,8 +1,8 @@
 """UPIT, CPIT and PCPSP files, of `pitc` and of other programs.
 
 A file of `pitc` is read without a `Told`: its keys and sections have one order, and what does not
-fit is refused with its line. Header and sections of other files may have any order; what is changed
-or left out is reported to the `Told`.
+fit is refused with its line. Header and sections of other files may have any order; what is
+changed or omitted is reported to the `Told`.
 """
 from __future__ import annotations
 
@@ -473,7 +473,7 @@ def read_model(path: str, kind: str, first: int = 0, order: Optional[str] = None
     """A CPIT or a PCPSP file, of blocks from `first` on. `order` is that of a coefficient's
     fields, one of ORDERS, or None if it is to be the one that fits.
 
-    Raises UserError if parts are lacking, out of range, or there are general side constraints.
+    Raises UserError if parts are missing, out of range, or there are general side constraints.
     """
     model = Model(path, kind, told)
     uses = _Coefficients(model)

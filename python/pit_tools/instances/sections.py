@@ -42,7 +42,7 @@ def write_sections(file: IO[bytes], base: str, place: str) -> None:
 
 class _Section:
     """What of a section tells whether it is whole: how many lines it has, of a model those of
-    its objective; and its limits, None if their heading is lacking."""
+    its objective; and its limits, None if their heading is missing."""
 
     def __init__(self, name: str):
         self.name, self.lines, self.is_counted = name, 0, name in ("blocks", "prec")

@@ -93,8 +93,8 @@ class Holdings:
         return self.count(rows[~self.is_graded[rows]])
 
     def extents(self, zone: str = "") -> Optional[list[tuple[float, float]]]:
-        """The least and the largest coordinate of centroids along each axis, in the export's
-        own coordinates; None if there is no row."""
+        """The smallest and the largest coordinate of centroids along each axis, in the
+        export's own coordinates; None if there is no row."""
         rows = self.rows_of(zone)
         if len(rows) == 0:
             return None
@@ -159,8 +159,8 @@ class Holdings:
 
 
 def metal_unit(measures: Measures) -> tuple[str, float]:
-    """In what metal is told, and how many of the kept unit it is: kilograms of metal in g/t, tonnes
-    of metal in percent, and of a return money."""
+    """In what metal is reported, and how many of the kept unit it is: kilograms of metal in
+    g/t, tonnes of metal in percent, and of a return money."""
     if measures.grade_unit == "g/t":
         return "kg", 1e3
     if measures.grade_unit == "%":

@@ -13,7 +13,7 @@ from pit_tools.inventories.statements import (FIGURES, Known, Stated, Statement,
                                               take_expected)
 from pit_tools.texts.units import Measures
 
-#: How far figures may differ, in percent, where nothing else is said: reports round to three digits
+#: How far figures may differ, in percent, if nothing else is said: reports round to three digits
 #: or four.
 TOLERANCE = 1.0
 
@@ -77,8 +77,8 @@ class Difference(NamedTuple):
 
 @dataclass(frozen=True)
 class Circumstances:
-    """What `import` knows of an export that a report may count otherwise: of each column of grades
-    how many rows of a zone have none, and how many rows a filter left out."""
+    """What `import` knows of an export that a report may count otherwise: of each column of
+    grades how many rows of a zone have none, and how many rows a filter omitted."""
 
     lacking: Mapping[str, Mapping[str, int]] = field(default_factory=dict)
     filtered: int = 0

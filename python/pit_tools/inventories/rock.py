@@ -96,7 +96,7 @@ def column_of_places(x: np.ndarray, y: np.ndarray) -> np.ndarray:
 
 
 def ends_of(column: np.ndarray, z: np.ndarray) -> tuple[np.ndarray, np.ndarray]:
-    """The least and the greatest of these indices in each column."""
+    """The smallest and the largest of these indices in each column."""
     order = np.argsort(z.astype(np.int16), kind="stable")
     floors, tops = (np.empty(int(column.max()) + 1, z.dtype) for _ in range(2))
     # Of several values for one place the last one stays.

@@ -136,8 +136,8 @@ def _told(plan: Plan, name: str, values: np.ndarray) -> np.ndarray:
 
 
 def by_block(plan: Plan, mined: Mined, blocks: int, with_shares: bool = False) -> pd.DataFrame:
-    """What is told of each block on rows of its own: `mined`, 0, 1 or a share, and period and
-    destination of its greatest share, empty texts where it is not mined. With shares there is
+    """What is reported of each block on rows of its own: `mined`, 0, 1 or a share, and period and
+    destination of its greatest share, empty texts if it is not mined. With shares there is
     besides a column `share_T` for each period T.
 
     Raises UserError if shares are asked for of a pit, which has no periods.
@@ -169,9 +169,10 @@ def _share_texts(shares: np.ndarray) -> np.ndarray:
 
 def onto_rows(imported_path: str, plan: Plan, blocks: Blocks, mined: Mined,
               place: Optional[str], with_shares: bool = False) -> tuple[int, int, int]:
-    """Writes the export's own rows with what is told of their blocks behind, or prints them where
-    no place is given: every row has its block's, sub-blocks that of their parent. Answers how many
-    rows there are, how many have a block, and how many blocks that are mined have no row.
+    """Writes the export's own rows with what is reported of their blocks behind, or prints them
+    where no place is given: every row has its block's, sub-blocks that of their parent. Answers
+    how many rows there are, how many have a block, and how many blocks that are mined have no
+    row.
 
     `imported_path` is BASE.json of `pit-tools import`, by which the export is read again. Cells
     stay as they are; rows that are no block, as air, have empty cells, and a row of several
@@ -203,7 +204,7 @@ def onto_rows(imported_path: str, plan: Plan, blocks: Blocks, mined: Mined,
 
 
 class Behind:
-    """What is told of blocks, behind the rows of each export."""
+    """What is reported of blocks, behind the rows of each export."""
 
     def __init__(self, again: Imported, block_at: np.ndarray, told: pd.DataFrame) -> None:
         self.again, self.block_at, self.told = again, block_at, told

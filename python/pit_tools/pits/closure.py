@@ -156,8 +156,8 @@ def pit_of_plan(values: np.ndarray, blocks: Blocks, plan: Plan) -> tuple[np.ndar
 
 
 def pit_by_cones(values: np.ndarray, blocks: Blocks, plan: Plan) -> np.ndarray:
-    """The pit of blocks whose arcs follow from a plan's cones, bool (n,), by the program of C++ or,
-    where no compiler is there, by HiGHS. There may be no block.
+    """The pit of blocks whose arcs follow from a plan's cones, bool (n,), by the program of C++
+    or, if no compiler is there, by HiGHS. There may be no block.
 
     Raises UserError if memory was refused, or there are more arcs than HiGHS would end with.
     """

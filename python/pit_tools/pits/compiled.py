@@ -26,10 +26,10 @@ from pit_tools.files.owners import is_own, nobody_moves
 
 SOURCE = os.path.join(os.path.dirname(__file__), "closure.cpp")
 
-#: How it is compiled, behind the compiler's name: `-s` leaves out names that no call needs.
+#: How it is compiled, behind the compiler's name: `-s` omits names that no call needs.
 OPTIONS = ["-O2", "-std=c++17", "-shared", "-fPIC", "-s"]
 
-#: What is told if there is no program.
+#: What is reported if there is no program.
 WITHOUT = ("so HiGHS finds pits, which takes minutes beyond some ten thousand blocks, and arcs "
            "that others imply stay")
 
@@ -41,7 +41,7 @@ def compiler() -> Optional[str]:
 
 
 def cache() -> Optional[str]:
-    """The folder where the program is kept, made where it is not there; None if there is none."""
+    """The folder where the program is kept, made if it is not there; None if there is none."""
     home = os.environ.get("XDG_CACHE_HOME", "")
     if not os.path.isabs(home):
         home = os.path.join(os.path.expanduser("~"), ".cache")
@@ -98,7 +98,7 @@ def _loaded(path: str) -> Optional[ctypes.CDLL]:
 
 @lru_cache(None)
 def library() -> Optional[ctypes.CDLL]:
-    """The program; None if it is not there and cannot be made, which is told once."""
+    """The program; None if it is not there and cannot be made, which is reported once."""
     name = file_name()
     packed = os.path.join(os.path.dirname(SOURCE), name)
     if os.path.exists(packed) and (found := _loaded(packed)):

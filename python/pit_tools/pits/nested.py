@@ -67,8 +67,8 @@ def priced(plan: Plan, factor: Decimal) -> Plan:
 
 def nested_pits(facts: Facts, factors: Sequence[Decimal],
                 within: Optional[np.ndarray] = None) -> Iterator[NestedPit]:
-    """The pits at these factors, which rise, the greatest first. Each lies within that before it,
-    and the first within the pit of a greater factor, bool (n,), where one is known.
+    """The pits at these factors, which rise, the largest first. Each lies within that before it,
+    and the first within the pit of a greater factor, bool (n,), if one is known.
 
     Raises UserError if the values of the instance are not the plan's, so that prices say nothing
     of them.
@@ -88,7 +88,7 @@ def nested_pits(facts: Facts, factors: Sequence[Decimal],
 
 
 def text(pits: Sequence[NestedPit], plan: Plan, measures: Measures) -> str:
-    """A line for each pit; what factor 1 is; and by which price ore and values are told."""
+    """A line for each pit; what factor 1 is; and by which price ore and values are reported."""
     lines = [f"NESTED PITS {head(measures)}"]
     lines += [f"{pit.name:>11} {pit.sums.told(measures)}" for pit in pits]
     lines += [f"factor 1 is {told}" for told in _prices(plan, measures)]

@@ -21,8 +21,8 @@ VALUE, STRIP = "#111111", "#4c78a8"
 
 
 def nested_picture(facts: Facts, pits: Sequence[NestedPit]) -> Figure:
-    """Ore, waste, value and strip ratio of each pit, the least factor first; and a section along x
-    through most metal with the outlines of all."""
+    """Ore, waste, value and strip ratio of each pit, the smallest factor first; and a section
+    along x through most metal with the outlines of all."""
     high = plane_heights(facts, "y", 11)[0]
     drawn = figure(12, 4.6 + high + 1.6)
     rows = drawn.subplots(3, 1, gridspec_kw={"height_ratios": [4.4, high, 0.6]})
@@ -31,7 +31,7 @@ def nested_picture(facts: Facts, pits: Sequence[NestedPit]) -> Figure:
     shades = matplotlib.colormaps["viridis"](np.linspace(0, 0.9, len(pits)))
     colours = [to_hex(shade) for shade in shades]
     outlines = [(pit.in_pit, colour, "-") for pit, colour in zip(pits, colours)]
-    # The greatest first, so that the smaller ones lie upon it.
+    # The largest first, so that the smaller ones lie upon it.
     draw_plane(facts, section, Plane("y", richest(facts, 1)), "grade", outlines[::-1])
     lines = [Line2D([], [], color=colour, label=f"factor {pit.name}")
              for pit, colour in zip(pits, colours)]

@@ -53,7 +53,7 @@ class Sums(NamedTuple):
 
 
 def head(measures: Measures) -> str:
-    """The heads of sums that are told."""
+    """The heads of sums that are reported."""
     return (f"{'blocks':>10} {'ore, t':>15} {measures.grade_unit:>9} {'metal, kg':>12} "
             f"{'recovered, kg':>14} {'waste, t':>15} {'strip':>7} {measures.in_money('value'):>19}")
 

@@ -31,8 +31,8 @@ def writer_of(place: str) -> Writer:
     """What writes surfaces as one file with such a name: each is a layer of a DXF, an object of an
     OBJ, and of a VTK the number `pit`, from 0 on, of its triangles.
 
-    Raises UserError for another ending; what is answered does where the package is lacking that it
-    calls.
+    Raises UserError for another ending; what is answered does where the package is missing that
+    it calls.
     """
     ending = os.path.splitext(place)[1].lower()
     if ending not in WRITERS:

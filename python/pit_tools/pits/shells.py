@@ -43,7 +43,7 @@ class Shell:
 
     @property
     def ends(self) -> tuple[np.ndarray, np.ndarray]:
-        """The least and the greatest x, y and z, (3,) each."""
+        """The smallest and the largest x, y and z, (3,) each."""
         return self.points.min(axis=0), self.points.max(axis=0)
 
 
@@ -100,7 +100,7 @@ def _corners_of_faces(places: np.ndarray) -> np.ndarray:
 
 
 def _metres(grid: Grid, corners: np.ndarray) -> np.ndarray:
-    """Coordinates of corners, of which 0 0 0 is the least of block 0 0 0."""
+    """Coordinates of corners, of which 0 0 0 is the smallest of block 0 0 0."""
     axes = [(2 * int(1000 * origin) + (2 * corners[:, axis] - 1) * int(1000 * size)) / 2000
             for axis, (origin, size) in enumerate(zip(grid.origin, grid.size))]
     return np.stack(axes, axis=1)

@@ -29,7 +29,7 @@ def size_in_millimetres(grid: Grid) -> tuple[int, int, int]:
 
 
 def _farthest_along(room: int, share: int) -> int:
-    """The greatest d with (d * share)^2 <= room."""
+    """The largest d with (d * share)^2 <= room."""
     return min(isqrt(room) // share, FARTHEST)
 
 
@@ -38,8 +38,8 @@ def cone_offsets(size: Sequence[int], zone: Zone, benches: Optional[int] = None,
     """The places of a zone's cone beside a block at its apex: rows dx, dy, dz, int32, in order of
     (dz, dy, dx).
 
-    `size` is that of a block in millimetres. `benches` is K where it is not the zone's own.
-    Places further away than `most` along x or y are omitted.
+    `size` is that of a block in millimetres. `benches` is K if it is not the zone's own. Places
+    further away than `most` along x or y are omitted.
     """
     east, west, north, south = ((slope.rise, slope.run) for slope in zone.slopes)
     sx, sy, sz = size

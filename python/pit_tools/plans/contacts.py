@@ -1,5 +1,5 @@
-"""Where a flatter zone meets a steeper one: slopes and K are those of the lower block, so a flat
-cone goes on through steep rock."""
+"""Where a flatter zone meets a steeper one: slopes and K are those of the lower block, so a
+flat cone continues through steep rock."""
 from __future__ import annotations
 
 from dataclasses import dataclass, field

@@ -71,7 +71,7 @@ class Zone:
     benches: int
 
     def __str__(self) -> str:
-        """The slopes as they are told: one where all sides have the same."""
+        """The slopes as they are reported: one where all sides have the same."""
         if len(set(self.slopes)) == 1:
             return str(self.slopes[0])
         return ", ".join(f"{side} {slope}" for side, slope in zip(SIDES, self.slopes))
@@ -95,7 +95,8 @@ class Destination:
 
     @property
     def break_even(self) -> Optional[float]:
-        """The least grade, in g/t, at which a tonne is worth 0 or more here; None if none is."""
+        """The smallest grade, in g/t, at which a tonne is worth 0 or more here; None if none
+        is."""
         ends = [start for start, _ in self.bands[1:]] + [Decimal("Infinity")]
         for (start, share), end in zip(self.bands, ends):
             if share and self.price:

@@ -62,7 +62,7 @@ class Turn:
                 self.about[1] + north * along - east * across)
 
     def undone(self, x: np.ndarray, y: np.ndarray) -> tuple[np.ndarray, np.ndarray]:
-        """The coordinates of places that are told along the model's own axes."""
+        """The coordinates of places that are reported along the model's own axes."""
         return Turn(-self.angle, self.about).own(x, y)
 
 
@@ -220,7 +220,7 @@ def _size_in_noise(unique: np.ndarray) -> Optional[int]:
 
 def turned_by(x: np.ndarray, y: np.ndarray, z: np.ndarray) -> Optional[float]:
     """By how many degrees, from 0 to 90, the directions to nearest neighbours of one bench are
-    turned counterclockwise, where they agree; None if they do not, or are along the axes."""
+    turned counterclockwise, if they agree; None if they do not, or are along the axes."""
     levels, counts = np.unique(z, return_counts=True)
     on_level = np.flatnonzero(z == levels[counts.argmax()])[:20_000]
     points = np.unique(np.column_stack([x[on_level], y[on_level]]).astype(float), axis=0)
@@ -237,8 +237,8 @@ def turned_by(x: np.ndarray, y: np.ndarray, z: np.ndarray) -> Optional[float]:
 
 
 def parents_of(values: np.ndarray, corner: int, size: int, name: str) -> np.ndarray:
-    """The parent that each sub-block lies in, by the least corner of one. It raises UserError for a
-    centroid on a border."""
+    """The parent that each sub-block lies in, by the smallest corner of one. It raises
+    UserError for a centroid on a border."""
     index, rest = np.divmod(values - corner, size)
     room = max(1, size // 1000)
     at_border = (rest < room) | (rest > size - room)

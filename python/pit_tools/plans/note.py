@@ -33,7 +33,7 @@ class PlanNote:
     """`is_used` is false if there is none, and `why_not` says why one that is there is not
     used; `said` has pairs of a record and what it says; `told`, `doubts`, the `frame` of
     coordinates, the resource report and `exports`, the sums of what it read, are of `import`;
-    `benches` are those for which slopes were judged, 0 where it is not known."""
+    `benches` are those for which slopes were judged, 0 if it is not known."""
 
     is_used: bool = False
     measures: Measures = Measures()

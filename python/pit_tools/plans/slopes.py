@@ -18,7 +18,7 @@ from pit_tools.texts.decimals import number_of
 SIDE_NAMES = {"+x": 0, "e": 0, "east": 0, "-x": 1, "w": 1, "west": 1, "+y": 2, "n": 2, "north": 2,
               "-y": 3, "s": 3, "south": 3}
 
-# How much too steep a wall may be, in degrees, where nothing else is said.
+# How much too steep a wall may be, in degrees, if nothing else is said.
 WITHIN = 2.0
 
 
@@ -120,8 +120,8 @@ def judge(grid: Grid, zones: Sequence[Zone], names: Sequence[str], benches: int,
 def _judged_walls(grid: Grid, zones: Sequence[Zone], names: Sequence[str], benches: int,
                   within: float, wanted: Sequence[int],
                   contacts: Contacts) -> tuple[tuple[str, ...], tuple[str, ...]]:
-    """What is told of a K that is too small, and of walls that no K brings within: a line of each
-    for all zones, or none."""
+    """What is reported of a K that is too small, and of walls that no K brings within: a line
+    of each for all zones, or none."""
     rise = benches - 1
     small: dict[str, list[str]] = {}
     whole: dict[str, list[str]] = {}
@@ -148,7 +148,7 @@ def too_steep_by_rise(grid: Grid, zone: Zone, K: int, rise: int) -> np.ndarray:
 
 
 def _too_small(over: np.ndarray, with_all: np.ndarray, K: int, wanted: int, within: float) -> str:
-    """What is told of a K that makes walls steeper than they must be; nothing if they are
+    """What is reported of a K that makes walls steeper than they must be; nothing if they are
     within, or as steep by all arcs."""
     worse = np.where(over > within, over - with_all, 0)
     at = int(worse.argmax())

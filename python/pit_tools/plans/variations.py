@@ -77,7 +77,7 @@ def _numbered(records: list[list[str]]) -> Iterator[tuple[int, list[str]]]:
 
 
 def _set(record: list[str], number: int, cell: str, value: str) -> bool:
-    """Sets a cell of a record, where it is one that the name means."""
+    """Sets a cell of a record, if it is one that the name means."""
     if not record:
         return False
     key, parts = record[0].lower(), cell.split(".")

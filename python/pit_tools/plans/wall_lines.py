@@ -1,4 +1,4 @@
-"""What is told of how steep the walls are that the cones of a plan give."""
+"""What is reported of how steep the walls are that the cones of a plan give."""
 from __future__ import annotations
 
 from dataclasses import dataclass
@@ -14,7 +14,7 @@ from pit_tools.texts.decimals import plain
 
 SOME_K = (1, 2, 3, 4, 5, 6, 8, 10, 12, 15, 20)
 
-#: Heights of mines for which K is told where none is given.
+#: Heights of mines for which K is reported where none is given.
 SOME_HEIGHTS = (5, 10, 20, 40)
 
 

@@ -22,16 +22,16 @@ import numpy as np
 from pit_tools.plans.cones import reach_along, size_in_millimetres
 from pit_tools.plans.file import Grid, Zone
 
-#: The greatest K of a plan.
+#: The largest K of a plan.
 MOST_BENCHES = 20
 
-#: How many benches the walls rise that are told of.
+#: The rises of the walls that are reported, in benches.
 RISES = (3, 4, 5, 6, 8, 10, 12, 15, 20, 30, 40, 60)
 
 #: Bearings in whole degrees.
 BEARINGS = np.arange(360)
 
-#: What is told of: N, NE, E, SE, S, SW, W, NW.
+#: What is reported of: N, NE, E, SE, S, SW, W, NW.
 EIGHT = np.arange(0, 360, 45)
 
 EIGHT_NAMES = ("N", "NE", "E", "SE", "S", "SW", "W", "NW")
@@ -121,8 +121,8 @@ def _reach(corners: np.ndarray, bearings: np.ndarray) -> np.ndarray:
 
 @dataclass(frozen=True)
 class Walls:
-    """What a zone asks and what its cones give, for each K from 1 to 20; index 0 of lists stands
-    for none."""
+    """What a zone asks and what its cones give, for each K from 1 to 20; index 0 of lists
+    means none."""
 
     zone: Zone
     asked: np.ndarray  #: (360,)

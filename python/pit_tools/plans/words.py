@@ -175,7 +175,7 @@ def _nearest(cents: Decimal) -> int:
 
 
 def _shown(cents: Decimal) -> str:
-    """Cents as they are told, to hundredths."""
+    """Cents as they are reported, to hundredths."""
     return plain(round(cents, 2)) if abs(cents) < 10 ** 20 else f"{cents:.6g}"
 
 
@@ -214,10 +214,10 @@ def _named(text: str, kind: str) -> tuple[str, list[str]]:
 
 @dataclass
 class Spoken:
-    """The words of a plan; lists may have several. Empty ones are not said. `grade_unit` is that in
-    which grades are told: where it is money a tonne, they are net smelter returns. `K_of` has the K
-    of zones that are so many benches below another, and `x_bearing` says where the model's +x
-    points, degrees clockwise from north."""
+    """The words of a plan; lists may have several. Empty ones are not said. `grade_unit` is
+    that in which grades are reported: where it is money a tonne, they are net smelter returns.
+    `K_of` has the K of zones that are so many benches below another, and `x_bearing` says
+    where the model's +x points, degrees clockwise from north."""
 
     name: str = "mine"
     price: str = ""
@@ -541,7 +541,7 @@ def _limit(parts: Sequence[str], name: str, resource: int, periods: int,
 
 
 def _ends_of(text: str, name: str, divide: int) -> tuple[str, Optional[Decimal], Optional[Decimal]]:
-    """The letter of a limit, and the least and the most tonnes of a period."""
+    """The letter of a limit, and the smallest and the most tonnes of a period."""
     most, least = re.fullmatch(r"at most (.*)", text), re.fullmatch(r"at least (.*)", text)
     if most:
         return "L", None, _tonnage(most[1], name, divide)

@@ -109,6 +109,6 @@ def append_rows(file: IO[bytes], rows: pd.DataFrame) -> None:
 
 
 def count_lines(path: str) -> int:
-    """How many lines a zone file has below its header, blank ones left out."""
+    """How many lines a zone file has below its header, blank ones omitted."""
     refuse_pipe(path)
     return max(sum(len(line_lengths(piece)) for piece in whole_lines(path)) - 1, 0)

@@ -161,7 +161,7 @@ class Factors:
 
 
 def _exact(number: float) -> Fraction:
-    """The decimal that a number of a file stands for."""
+    """The decimal that a number of a file means."""
     return Fraction(repr(float(number)))
 
 
@@ -322,7 +322,7 @@ def _array(archive: zipfile.ZipFile, name: str, dtype: str, most: int) -> np.nda
 
 
 def _of_parts(kind: str, header: Any, parts: dict[str, np.ndarray]) -> Certificate:
-    """A certificate of its header and arrays. Raises ValueError, KeyError or TypeError where they
+    """A certificate of its header and arrays. Raises ValueError, KeyError or TypeError if they
     are none."""
     if header["form"] != _FORM or header["kind"] != kind:
         raise ValueError("another form")

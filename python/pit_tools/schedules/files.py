@@ -143,7 +143,7 @@ def _refuse(path: str, lines: np.ndarray, bad: np.ndarray, table: pd.DataFrame, 
 
 
 def write_schedule(schedule: Schedule, path: str, is_pcpsp: bool) -> None:
-    """Writes a schedule, a line for each of its own; a share stands where it is not 1, and
+    """Writes a schedule, a line for each of its own; a share stands if it is not 1, and
     destinations where the problem is a PCPSP.
 
     Raises OSError, with the name, if the file cannot be written.
@@ -270,8 +270,8 @@ _VARIABLE = re.compile(r"([wxy])([0-9]{1,9})(?:_([0-9]{1,9}))?(?:_([0-9]{1,9}))?
 
 
 def read_variables(path: str) -> dict[tuple, float]:
-    """The variables of a solution of `cbc` or `glpsol --output`, by (letter, numbers..): the first
-    number behind each name. Those that `cbc` leaves out are 0.
+    """The variables of a solution of `cbc` or `glpsol --output`, by (letter, numbers..): the
+    first number behind each name. Those that `cbc` omits are 0.
 
     Raises UserError if there is none.
     """

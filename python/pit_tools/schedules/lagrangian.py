@@ -1,12 +1,12 @@
 """Bounds of CPIT and PCPSP at a million blocks: prices of limits, by closures of greatest value.
 
 Where limits have prices, the relaxation has none left, and is a closure of blocks by the ends of
-periods, which pseudoflow finds (closure.py). The least value of all prices is that of the
-relaxation (certificates.py has the reason). Prices are found as Bienstock and Zuckerberg (2010) do:
-blocks that all closures so far take at the same times are one group, and the relaxation of groups
-is a program small enough for HiGHS. Its value is no more than that of the relaxation, its prices
-give the next closure, and that one splits groups, until both values meet. Which destination is the
-best at prices is a pattern; the program mixes the patterns of each period.
+periods, which pseudoflow finds (closure.py). The smallest value of all prices is that of the
+relaxation (certificates.py has the reason). Prices are found as Bienstock and Zuckerberg (2010)
+do: blocks that all closures so far take at the same times are one group, and the relaxation of
+groups is a program small enough for HiGHS. Its value is no more than that of the relaxation, its
+prices give the next closure, and that one splits groups, until both values meet. Which
+destination is the best at prices is a pattern; the program mixes the patterns of each period.
 """
 from __future__ import annotations
 
@@ -101,8 +101,8 @@ class _Model:
 
 @dataclass(frozen=True)
 class Found:
-    """The least bound of a search, in units of 100 cents, its prices of the limits, and what
-    the bound cannot be less than by any prices: None if that is not known."""
+    """The smallest bound of a search, in units of 100 cents, its prices of the limits, and
+    what the bound cannot be less than by any prices: None if that is not known."""
 
     bound: float
     prices: np.ndarray
@@ -110,7 +110,7 @@ class Found:
 
 
 class Search:
-    """A search for prices of the limits that give the least bound."""
+    """A search for prices of the limits that give the smallest bound."""
 
     def __init__(self, problem: Problem, precedence: sparse.csr_matrix,
                  seconds: Optional[float] = None):

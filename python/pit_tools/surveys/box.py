@@ -1,5 +1,5 @@
-"""The box with which the page of a survey begins: what the pit holds, when and by what the survey
-was made, of which files, and what was said and left out on the way."""
+"""The box with which the page of a survey begins: what the pit holds, when and by what the
+survey was made, of which files, and what was said and omitted on the way."""
 from __future__ import annotations
 
 import os

@@ -35,7 +35,7 @@ MOST_PLACES = 1 << 28
 #: Places of all cones up to which the ultimate pit is sought: a minute or two.
 MOST_PLACES_OF_CONES = 5_000_000_000
 
-#: Arcs up to which HiGHS seeks it, where no compiler is there.
+#: Arcs up to which HiGHS seeks it, if no compiler is there.
 MOST_ARCS_OF_HIGHS = 200_000
 
 
@@ -116,7 +116,7 @@ class Facts:
         return len(self.blocks)
 
     def grade_told(self, grade: float) -> str:
-        """A grade in g/t in the unit in which it is told."""
+        """A grade in g/t in the unit in which it is reported."""
         return f"{self.measures.grade(grade):.4g} {self.measures.grade_unit}"
 
     def cost_told(self, cents: float) -> str:

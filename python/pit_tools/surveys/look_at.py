@@ -89,7 +89,7 @@ def _rock(facts: Facts) -> Iterator[str]:
 
 
 def _times_the_one_that_pays(facts: Facts) -> float:
-    """The mean grade of all rock beside the least that pays, 0 where none is known."""
+    """The mean grade of all rock beside the smallest that pays, 0 where none is known."""
     ends = [one.break_even for one in facts.plan.destinations if one.break_even]
     return facts.of_all.grade / min(ends) if ends else 0.0
 
@@ -147,7 +147,7 @@ def _sides(facts: Facts) -> Iterator[str]:
         told = ", ".join(f"{with_commas(many)} {side}" for side, many in sides.items() if many)
         yield (f"the pit of {_count(pit.sum(), 'block')} ends at sides of the model ({told}): an "
                "upright wall there costs nothing")
-    # Waste at the floor of a model is no sign that ore goes on.
+    # Waste at the floor of a model is no sign that ore continues.
     bottom = (pit & facts.paying & (facts.blocks.z == facts.floor_of)).sum()
     if bottom:
         yield (f"the pit takes ore as the lowest rock of {_count(bottom, 'column')}: does the ore "
@@ -160,8 +160,8 @@ def _destinations(facts: Facts) -> Iterator[str]:
 
 
 def _best_for(facts: Facts) -> Iterator[str]:
-    """Destinations to which nothing goes, with the grades from which they pay, where no price, cost
-    or recovery is the cause."""
+    """Destinations to which nothing goes, with the grades from which they pay, if no price,
+    cost or recovery is the cause."""
     if facts.of_all.top_grade == 0 or any(_destinations(facts)):
         return
     rows = np.bincount(facts.best, minlength=len(facts.plan.destinations))

@@ -69,9 +69,9 @@ def round_numbers(top: float, many: int = 5) -> np.ndarray:
 
 
 def grade_ends(facts: Facts) -> np.ndarray:
-    """The least grades of the shades, in the unit in which they are told: 0; the least that pays,
-    so that the first shade is what pays nowhere; and round numbers above it up to the richest
-    rock."""
+    """The smallest grades of the shades, in the unit in which they are reported: 0; the
+    smallest that pays, so that the first shade is what pays nowhere; and round numbers above
+    it up to the richest rock."""
     graded = facts.measures.grade(facts.blocks.grade[facts.blocks.grade > 0])
     top = (float(np.percentile(graded, 99.5)) if len(graded) else 1.0) * 0.85
     pays = [facts.measures.grade(one.break_even)
@@ -273,8 +273,8 @@ def zone_label(facts: Facts, zone: int) -> str:
 
 
 def plane_heights(facts: Facts, normals: Sequence[str], wide: float) -> list[float]:
-    """How high each plane's picture is, in inches, where it is so wide: at most 1.2 times that, and
-    at least an eighth."""
+    """How high each plane's picture is, in inches, if it is so wide: at most 1.2 times that,
+    and at least an eighth."""
     found = []
     for normal in normals:
         _, across, up, _ = PLANES[normal]

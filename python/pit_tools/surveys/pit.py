@@ -27,8 +27,8 @@ MOST_PLACES, MOST_ARCS = 1_000_000_000, 50_000
 @dataclass(frozen=True)
 class PitParts:
     """The lines of a pit by zone and by bench, as a report has them, each with one of all
-    last; and by nested pit, the least factor first, of what each adds to that before it. Where
-    nested pits are omitted, there are no lines, and `why_not` says why."""
+    last; and by nested pit, the smallest factor first, of what each adds to that before it.
+    Where nested pits are omitted, there are no lines, and `why_not` says why."""
 
     zones: list[Line]
     benches: list[Line]

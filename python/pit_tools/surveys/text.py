@@ -111,8 +111,8 @@ def _rock(facts: Facts) -> Iterator[str]:
 
 
 def cut_offs(facts: Facts) -> np.ndarray:
-    """Grades to cut at, round in the unit in which they are told: 0, and some eight up to near the
-    highest, among them those that pay."""
+    """Grades to cut at, round in the unit in which they are reported: 0, and some eight up to
+    near the highest, among them those that pay."""
     grade = facts.measures.grade
     top = grade(facts.of_all.top_grade)
     if top <= 0:

@@ -136,7 +136,7 @@ def parts_of(texts: pd.Series, places: int,
     """Decimals, as texts with a point, as integers of 10**-places, rounded half away from zero.
 
     Each is rounded by a float where that is far enough from the middle of two numbers for the
-    float's error to say nothing, and by a decimal where it is not: so the answer is always that of
+    float's error to say nothing, and by a decimal if it is not: so the answer is always that of
     decimals.
 
     It answers two arrays of the same length: int64, and bool, where a text is no number (there the

@@ -14,7 +14,7 @@ MOST_PLAN_BYTES = 1 << 20
 #: Rows of a zone file.
 MOST_ROWS = 1_000_000
 
-#: Blocks of an instance, the greatest index along an axis, and the greatest number of a zone.
+#: Blocks of an instance, the largest index along an axis, and the largest number of a zone.
 MOST_BLOCKS, MOST_INDEX, MOST_ZONE = 64_000_000, 9999, 63
 
 #: Tonnes of a block, and its g/t.

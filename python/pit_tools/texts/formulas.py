@@ -24,10 +24,10 @@ ALLOWED = (ast.Expression, ast.BinOp, ast.UnaryOp, ast.BoolOp, ast.Compare, ast.
            ast.USub, ast.UAdd, ast.In, ast.NotIn, *OPERATORS, *COMPARISONS)
 
 
-# How much of a formula is told.
+# How much of a formula is reported.
 MOST_SHOWN = 200
 
-# How long a formula may be, and the names that a name that is lacking is compared with.
+# How long a formula may be, and the names that a name that is missing is compared with.
 MOST_TEXT, LIKE = 10_000, 100
 
 # How deep parts of a formula may stand in one another, as each term of a sum in those before it.
@@ -68,7 +68,7 @@ def short_name(text: str) -> str:
 
 
 def places_of(names: Sequence[str]) -> dict[str, list[int]]:
-    """Where each name stands; by its short form too, where no column has that whole."""
+    """Where each name stands; by its short form too, if no column has that whole."""
     found: dict[str, list[int]] = {}
     for at, name in enumerate(names):
         if plain_name(name):
@@ -92,7 +92,7 @@ class Formula:
 
     @property
     def plain_column(self) -> Optional[int]:
-        """The column that it is, where it is nothing else."""
+        """The column that it is, if it is nothing else."""
         return (self.columns[0]
                 if len(self.columns) == 1 and self.code == column_name(self.columns[0]) else None)
 
@@ -118,10 +118,10 @@ class Formula:
                    for node in ast.walk(_body(self.code)))
 
     def value(self, table: pd.DataFrame, standing: Optional[pd.DataFrame] = None) -> pd.Series:
-        """What it gives for the rows of a table with its columns _at0, _at1, .. as numbers, NaN
-        where one is missing; `standing` has them as they stand, for conditions. A term of its
-        outermost sum that is missing adds nothing to the others; where all are missing, so is the
-        sum."""
+        """What it gives for the rows of a table with its columns _at0, _at1, .. as numbers,
+        NaN if one is missing; `standing` has them as they stand, for conditions. A term of its
+        outermost sum that is missing adds nothing to the others; where all are missing, so is
+        the sum."""
         return self.summed(table, standing)[0]
 
     def summed(self, table: pd.DataFrame,
@@ -211,7 +211,7 @@ def _column(name: str, places: dict[str, list[int]], columns: list[int]) -> str:
 
 
 def _checked(code: str, text: str, names: Sequence[str]) -> str:
-    """The code, where it is a formula over columns alone."""
+    """The code, if it is a formula over columns alone."""
     code = code.strip()
     text = text if len(text) <= MOST_SHOWN else text[:MOST_SHOWN] + ".."
     own = {column_name(at) for at in range(len(names))}

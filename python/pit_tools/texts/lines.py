@@ -34,7 +34,7 @@ _END = re.compile(rb"(?im)^[ \t]*eof[ \t]*$")
 
 
 class Told:
-    """What was changed or left out, a line of words each."""
+    """What was changed or omitted, a line of words each."""
 
     def __init__(self) -> None:
         self.lines: list[str] = []
@@ -168,7 +168,7 @@ def opened(path: str) -> BinaryIO:
 def whole_lines(path: str) -> Iterator[bytes]:
     """The bytes of a file, cut at line ends, without a mark at the front.
 
-    Raises UserError if it cannot be opened and, with the line, where one is longer than 64 MB.
+    Raises UserError if it cannot be opened and, with the line, if one is longer than 64 MB.
     """
     with opened(path) as file:
         rest, number = file.read(3), 1
@@ -238,7 +238,7 @@ def line_lengths(text: bytes) -> np.ndarray:
 
 
 def integers_of(text: bytes) -> np.ndarray:
-    """The integers of a text, int64, with blanks between; none of them where one is none."""
+    """The integers of a text, int64, with blanks between; none of them if one is none."""
     with warnings.catch_warnings():
         warnings.simplefilter("error", DeprecationWarning)
         try:
@@ -321,7 +321,7 @@ class Rounding:
         return rounded
 
     def tell(self, pieces: Iterable[Piece], what: str, told: Optional[Told]) -> None:
-        """Tells how many were rounded, where one was; raises UserError if there is no `told`."""
+        """Tells how many were rounded, if one was; raises UserError if there is no `told`."""
         if self.count and told is None:
             refuse_row(pieces, self.first, f"a number has more than {self.decimals} decimals")
         if self.count and told is not None:

@@ -19,7 +19,7 @@ Part = Union[bytes, np.ndarray]
 #: Lines that are made at a time: they stay in a processor's own memory.
 ROWS = 1 << 14
 
-#: The greatest whole number up to which each one has a float of its own.
+#: The largest whole number up to which each one has a float of its own.
 EXACT = 2**53
 
 #: Decimals of numbers that are too great for more.
@@ -42,7 +42,7 @@ def scaled(values: np.ndarray, decimals: int) -> np.ndarray:
 
 
 def scales(values: np.ndarray, decimals: int) -> np.ndarray:
-    """10^decimals for each value, or 10^2 where it is too great for so many to be told apart.
+    """10^decimals for each value, or 10^2 if it is too great for so many to be told apart.
 
     Raises NotHeld where one is infinite, NaN, or too great for two.
     """
@@ -92,9 +92,9 @@ def at_least_cents(value: float) -> str:
 
 @lru_cache(None)
 def _digits() -> tuple[np.ndarray, np.ndarray, np.ndarray]:
-    """The four digits of 0 to 9999, as numbers of four bytes, in three tables. The first has them
-    without leading zeros, the second too, except a 0, and the third without trailing zeros. Each
-    goes on with all four digits of each."""
+    """The four digits of 0 to 9999, as numbers of four bytes, in three tables. The first has
+    them without leading zeros, the second too, except a 0, and the third without trailing
+    zeros. Each continues with all four digits of each."""
     places = np.arange(10_000)[:, None] // [1000, 100, 10, 1] % 10
     whole = (places + ord("0")).astype(np.uint8)
     leading = np.where(np.logical_or.accumulate(places > 0, axis=1), whole, 0).astype(np.uint8)

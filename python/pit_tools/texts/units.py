@@ -69,9 +69,9 @@ TABLES = {"length": LENGTHS, "mass": MASSES, "volume": VOLUMES, "density": DENSI
 
 @dataclass(frozen=True)
 class Measures:
-    """In what a planner is told of a plan and its instance: the currency, empty where it is not
-    known; in how many parts of a cent the plan counts money; and the unit of grades, `g/t`, `%`, or
-    money a tonne."""
+    """In what a planner is reported of a plan and its instance: the currency, empty if it is
+    not known; in how many parts of a cent the plan counts money; and the unit of grades,
+    `g/t`, `%`, or money a tonne."""
 
     currency: str = ""
     parts: int = 1
@@ -111,8 +111,8 @@ class Measures:
 
 
 def grade_unit_of(name: str) -> str:
-    """In what grades are told that were read in a unit: percent and money a tonne stay, all others
-    are g/t."""
+    """In what grades are reported that were read in a unit: percent and money a tonne stay,
+    all others are g/t."""
     if is_money_a_tonne(name):
         return name.strip()
     return "%" if plain_name(name) in ("%", "pct") else "g/t"

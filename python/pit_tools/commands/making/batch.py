@@ -118,7 +118,7 @@ def _made(args: argparse.Namespace) -> int:
 
 
 def _told(failed: list[str], line: str, whole: bool, lacking: str) -> int:
-    """Tells what failed, the line, and where not all is whole what is lacking; returns the
+    """Tells what failed, the line, and where not all is whole what is missing; returns the
     status."""
     import sys
 

@@ -73,8 +73,8 @@ def run(args: argparse.Namespace) -> int:
 
 
 def _note(plan_path: str, name: str) -> PlanNote:
-    """The note of the plan of an instance of this name; where one is there and does not fit, that
-    is told."""
+    """The note of the plan of an instance of this name; where one is there and does not fit,
+    that is reported."""
     import sys
 
     from pit_tools.files.records import status_of
