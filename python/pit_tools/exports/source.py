@@ -46,7 +46,8 @@ MOST_COLUMNS = 16_384
 # How many times its size an archive may unpack to, if that is more than so many bytes.
 MOST_TIMES, LEAST_UNPACKED = 200, 1 << 24
 
-# How much of a line is looked at to tell what may be wrong with it, and how much of a cell is reported.
+# How much of a line is looked at to tell what may be wrong with it, and how much of a cell is
+# reported.
 LOOKED_AT, SHOWN = 1000, 60
 
 csv.field_size_limit(MOST_LINE)
