@@ -89,3 +89,49 @@ def test_a_part_that_was_not_read_is_named(tmp_path):
     mine = pit_tools.read_instance(mines.six_blocks(tmp_path), ("blocks", "prec"))
     with pytest.raises(pit_tools.UserError, match="there is no UPIT of this instance"):
         pit_tools.bounds_of(mine)
+
+
+#: A script of a user, which stays as it is: what it needs of `pit_tools` stays too.
+SCRIPT = """
+import sys
+import pit_tools as pit
+
+base, out = sys.argv[1:]
+mine: pit.Instance = pit.read_instance(base)
+blocks, arcs = pit.read_blocks(base + ".blocks"), pit.read_precedence(base + ".prec")
+upit, cpit = pit.read_upit(base + ".upit"), pit.read_problem(base + ".cpit")
+plan = pit.read_plan(base + ".plan")
+print(len(blocks), arcs.nnz, pit.immediate(arcs).nnz, plan.periods, cpit.kind)
+in_pit = pit.ultimate_pit(upit.values, arcs)
+pit.write_pit(in_pit, out + ".pit")
+print(pit.read_pit(out + ".pit", len(blocks)).tolist(), int(pit.cents(upit.values)[in_pit].sum()))
+pcpsp = pit.present(mine.pcpsp, "PCPSP")
+for problem in (cpit, pcpsp):
+    program = pit.program_of(problem, arcs)
+    with open(f"{out}.{problem.kind}.lp", "w", encoding="ascii") as file:
+        pit.write_lp(program, file)
+    found = pit.solve(program, seconds=600)
+    schedule = pit.schedule_of(found.values, problem, program.names)
+    pit.write_schedule(schedule, out, problem.kind == "PCPSP")
+    checked = pit.check_schedule(pit.read_schedule(out, problem), problem, arcs)
+    print(problem.kind, checked.holds, round(checked.worth), round(found.value))
+print(pit.solve(pit.program_of_upit(upit, arcs)).status, len(pit.bounds_of(mine)))
+pit.write_instance(mine, out)
+pit.write_published(mine, out + "-published")
+files = {name: f"{out}-published.{name}" for name in ("blocks", "prec", "upit", "cpit", "pcpsp")}
+again, _ = pit.read_published(files)
+print(again.counts() == mine.counts(), pit.VERSION != "")
+try:
+    pit.read_instance(out + "-none")
+except pit.UserError as error:
+    print("cannot open" in str(error))
+"""
+
+
+def test_a_script_of_a_user_runs_unchanged(tmp_path):
+    base = mines.six_blocks(tmp_path)
+    done = subprocess.run([sys.executable, "-c", SCRIPT, base, str(tmp_path / "out")], capture_output=True,
+                          text=True, env={**os.environ, "PYTHONPATH": PYTHON}, check=False)
+    assert done.stderr == "" and done.stdout.splitlines() == [
+        "6 7 7 3 CPIT", "[0, 1, 2, 3, 4, 5] 60696500", "CPIT True 606965 606965", "PCPSP True 606965 606965",
+        "best 4", "True True", "True"]
