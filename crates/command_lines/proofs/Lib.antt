@@ -3,4 +3,3 @@ pub mod Commands
 pub mod FoundJob
 pub mod FoundRun
 pub mod Numbers
-pub mod ThinAccepted

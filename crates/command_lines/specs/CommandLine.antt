@@ -128,7 +128,7 @@ IsEndedText text = (words : Text) × (text ≡ words ++ 10 ∷ [])
 abbrev pub AppendsText : (old new : Text) → Type 0
 AppendsText old new = (text : Text) × IsEndedText text × (new ≡ old ++ text)
 
--- words are refused by a line of a kind that clap has for them, or where they state no job; or memory was refused
-abbrev pub RefusesWords : List Text → JobFault → Type 0
-RefusesWords words OutOfMemory = Unit {0}
-RefusesWords words (Line error) = IsAmong (kind_of error) (fault_of program words) ⊎ ((job : Job) → StatesJob words job → ⊥)
+-- words are refused by a line of a kind that clap has for them, or where they state nothing of this kind; or memory was refused
+abbrev pub RefusesBy : {A : Type 0} → App → (A → Type 0) → List Text → JobFault → Type 0
+RefusesBy app States words OutOfMemory = Unit {0}
+RefusesBy {A} app States words (Line error) = IsAmong (kind_of error) (fault_of app words) ⊎ ((stated : A) → States stated → ⊥)

@@ -1,9 +1,7 @@
 -- The command line of pitc_thin, and the run that its words state.
-use Rattle.std.specs.Prelude.{◌⊎◌, List, true, codes}
-use Rattle.clap.specs.Words.{App, IsAmong, Text, fault_of, kind_of, matches_of, new_app, with_rule}
+use Rattle.std.specs.Prelude.{List, true, codes}
+use Rattle.clap.specs.Words.{App, Text, matches_of, new_app, with_rule}
 use Rattle.command_lines.specs.CommandLine.{FindsWords, capacity_word, out_word, plan_word, valuers_word, zone_word}
-use Rattle.command_lines.specs.declared.job.JobFault.{JobFault}
-use Rattle.command_lines.specs.declared.job.JobFault.TheVariants.{OutOfMemory, Line}
 use Rattle.command_lines.specs.declared.job.RunWords.{RunWords}
 
 -- the program itself, which has no subcommand: `--version` is taken
@@ -17,8 +15,3 @@ thin_program = with_rule (with_rule (with_rule (with_rule (with_rule thin_top pl
 -- the run has the values that clap finds in these words, the program's name first
 unfoldable pub StatesRun : List Text → RunWords → Type 0
 StatesRun words run = FindsWords (matches_of thin_program words) run
-
--- words are refused by a line of a kind that clap has for them, or where they state no run; or memory was refused
-abbrev pub RefusesThin : List Text → JobFault → Type 0
-RefusesThin words OutOfMemory = Unit {0}
-RefusesThin words (Line error) = IsAmong (kind_of error) (fault_of thin_program words) ⊎ ((run : RunWords) → StatesRun words run → ⊥)

@@ -5,4 +5,5 @@ pub mod command_line;
 pub mod job;
 mod run_words;
 pub mod stated_job;
+mod stating;
 pub mod thin_line;

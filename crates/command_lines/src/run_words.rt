@@ -2,8 +2,8 @@
 
 ghost use Rattle.std.specs.Prelude.{◌≡◌, ℕ, map, string_bytes, IfOk, MatchOption};
 ghost use Rattle.clap.specs.Words.{found_of, rows_of};
-ghost use Rattle.command_lines.specs.CommandLine.{FindsNumber, FindsSettings};
-ghost use Rattle.command_lines.specs.inner.Commands.{FindsWordsIfAny};
+ghost use Rattle.command_lines.specs.CommandLine.{FindsNumber, FindsSettings, FindsWords};
+ghost use Rattle.command_lines.specs.inner.Commands.{FindsIfAny};
 ghost use Rattle.plan_parts.specs.declared.settings.Settings.{Settings as ASettings};
 
 use crate::job::RunWords;
@@ -14,7 +14,7 @@ use std::alloc::{AllocError, Global};
 
 /// The values of a run, given or by default. `None` where clap found not all of them, which it does not let pass.
 pub fn run_words(alloc: Global, found: &ArgMatches<'_>) -> Result<Option<RunWords>, AllocError>
-    ensures { IfOk result (FindsWordsIfAny (rows_of (found_of found.now))) }
+    ensures { IfOk result (FindsIfAny (FindsWords (rows_of (found_of found.now)))) }
 {
     let Some(plan) = found.get_str("plan") else {
         return Ok(None);

@@ -1,14 +1,14 @@
 //! The job that the words of a command line state.
 
 ghost use Rattle.std.specs.Prelude.{◌≡◌, [], Some, codes, map, string_bytes, IfOk, IfErr};
-ghost use Rattle.clap.specs.Words.{app_of, fault_of, found_of, rows_of, subcommand_of, subcommand_rows_of};
-ghost use Rattle.command_lines.specs.CommandLine.{IsNoMemoryLine, RefusesWords, StatesJob, program};
+ghost use Rattle.clap.specs.Words.{fault_of, found_of, rows_of, subcommand_rows_of};
+ghost use Rattle.command_lines.specs.CommandLine.{Finds, IsNoMemoryLine, RefusesBy, StatesJob, program};
 ghost use Rattle.command_lines.specs.inner.Commands.{FindsIfAny};
 
 use crate::command_line::command_line;
 use crate::job::{Job, JobFault, RunWords};
 use crate::run_words::run_words;
-use clap::error::ErrorKind;
+use crate::stating::{Stating, stated};
 use clap::{ArgMatches, Command};
 use std::alloc::{AllocError, Global};
 
@@ -18,54 +18,34 @@ use std::alloc::{AllocError, Global};
 ///
 /// - `Line`: `clap` refuses the words, or they ask for help or the version.
 /// - `OutOfMemory`: memory was refused, here or within `clap`.
+#[tactic(auto, unfolding(crate::specs::CommandLine::StatesJob))]
 pub fn job(alloc: Global, words: &[String]) -> Result<Job, JobFault>
     ensures accepted { IfOk result (λ _. fault_of program (map string_bytes words.now) ≡ []) }
     ensures stated { IfOk result (StatesJob (map string_bytes words.now)) }
-    ensures refused { IfErr result (RefusesWords (map string_bytes words.now)) }
+    ensures refused { let words = map string_bytes words.now in
+        IfErr result (RefusesBy program (StatesJob words) words) }
     ensures memory { IfErr result IsNoMemoryLine }
 {
-    let mut command = command_line(alloc)?;
-    job_by(alloc, &mut command, words)
+    stated(alloc, words)
 }
 
-// The job that these words state by the program's command line.
-fn job_by<'a>(
-    alloc: Global,
-    command: &mut Command<'a>,
-    words: &'a [String],
-) -> Result<Job, JobFault>
-    requires { app_of command.old ≡ program }
-    ensures accepted { IfOk result (λ _. fault_of program (map string_bytes words.now) ≡ []) }
-    ensures stated { IfOk result (StatesJob (map string_bytes words.now)) }
-    ensures refused { IfErr result (RefusesWords (map string_bytes words.now)) }
-    ensures memory { IfErr result IsNoMemoryLine }
-{
-    if let Some(job) = job_if_any(alloc, command, words)? {
-        return Ok(job);
+impl Stating for Job {
+    ghost app = { program };
+
+    ghost finds = { λ _ found. Finds found };
+
+    fn command_line<'a>(alloc: Global) -> Result<Command<'a>, AllocError> {
+        command_line(alloc)
     }
-    let fault = command.error(ErrorKind::MissingSubcommand, "a subcommand is required")?;
-    Err(JobFault::from(fault))
-}
 
-// The job that clap finds in these words, if it finds one.
-fn job_if_any<'a>(
-    alloc: Global,
-    command: &mut Command<'a>,
-    words: &'a [String],
-) -> Result<Option<Job>, JobFault>
-    requires { app_of command.old ≡ program }
-    ensures accepted { IfOk result (λ _. fault_of program (map string_bytes words.now) ≡ []) }
-    ensures found { IfOk result (FindsIfAny (subcommand_of program (map string_bytes words.now))) }
-    ensures refused { IfErr result (RefusesWords (map string_bytes words.now)) }
-    ensures memory { IfErr result IsNoMemoryLine }
-{
-    let matches = command.try_get_matches_from_mut(words)?;
-    Ok(found_job(alloc, &matches)?)
+    fn find(alloc: Global, matches: &ArgMatches<'_>) -> Result<Option<Job>, AllocError> {
+        found_job(alloc, matches)
+    }
 }
 
 // The job that clap found in the words.
 fn found_job(alloc: Global, matches: &ArgMatches<'_>) -> Result<Option<Job>, AllocError>
-    ensures { IfOk result (FindsIfAny (subcommand_rows_of matches.now)) }
+    ensures { IfOk result (FindsIfAny (Finds (subcommand_rows_of matches.now))) }
 {
     let Some((name, found)) = matches.subcommand() else {
         return Ok(None);
@@ -79,7 +59,8 @@ fn found_job(alloc: Global, matches: &ArgMatches<'_>) -> Result<Option<Job>, All
 }
 
 fn check_job(alloc: Global, found: &ArgMatches<'_>) -> Result<Option<Job>, AllocError>
-    ensures { IfOk result (FindsIfAny (Some (codes "check", rows_of (found_of found.now)))) }
+    ensures { IfOk result
+        (FindsIfAny (Finds (Some (codes "check", rows_of (found_of found.now))))) }
 {
     let Some(base) = found.get_str("base") else {
         return Ok(None);
@@ -89,7 +70,8 @@ fn check_job(alloc: Global, found: &ArgMatches<'_>) -> Result<Option<Job>, Alloc
 }
 
 fn compile_job(alloc: Global, found: &ArgMatches<'_>) -> Result<Option<Job>, AllocError>
-    ensures { IfOk result (FindsIfAny (Some (codes "compile", rows_of (found_of found.now)))) }
+    ensures { IfOk result
+        (FindsIfAny (Finds (Some (codes "compile", rows_of (found_of found.now))))) }
 {
     let Some(run) = run_words(alloc, found)? else {
         return Ok(None);

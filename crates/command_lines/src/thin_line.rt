@@ -1,18 +1,18 @@
 //! The command line of pitc_thin, and the run that its words state.
 
 ghost use Rattle.std.specs.Prelude.{◌≡◌, [], map, string_bytes, IfOk, IfErr};
-ghost use Rattle.clap.specs.Words.{app_of, fault_of, matches_of};
-ghost use Rattle.command_lines.specs.CommandLine.{IsNoMemoryLine};
-ghost use Rattle.command_lines.specs.ThinLine.{RefusesThin, StatesRun, thin_program, thin_top};
-ghost use Rattle.command_lines.specs.inner.Commands.{FindsWordsIfAny, IsCommandOf};
+ghost use Rattle.clap.specs.Words.{app_of, fault_of};
+ghost use Rattle.command_lines.specs.CommandLine.{FindsWords, IsNoMemoryLine, RefusesBy};
+ghost use Rattle.command_lines.specs.ThinLine.{StatesRun, thin_program, thin_top};
+ghost use Rattle.command_lines.specs.inner.Commands.{IsCommandOf};
 
 use crate::command_line::{
     VERSION, capacity_option, out_option, plan_option, valuers_option, zones,
 };
 use crate::job::{JobFault, RunWords};
 use crate::run_words::run_words;
-use clap::Command;
-use clap::error::ErrorKind;
+use crate::stating::{Stating, stated};
+use clap::{ArgMatches, Command};
 use std::alloc::{AllocError, Global};
 
 const ABOUT: &str = "Writes the precedences of a model, and leaves out arcs that follow from others.
@@ -36,50 +36,29 @@ FILE too, if it is BASE.prec. Statuses and faults are those of pitc compile.";
 ///
 /// - `Line`: `clap` refuses the words, or they ask for help or the version.
 /// - `OutOfMemory`: memory was refused, here or within `clap`.
+#[tactic(auto, unfolding(crate::specs::ThinLine::StatesRun))]
 pub fn thin_run(alloc: Global, words: &[String]) -> Result<RunWords, JobFault>
     ensures accepted { IfOk result (λ _. fault_of thin_program (map string_bytes words.now) ≡ []) }
     ensures stated { IfOk result (StatesRun (map string_bytes words.now)) }
-    ensures refused { IfErr result (RefusesThin (map string_bytes words.now)) }
+    ensures refused { let words = map string_bytes words.now in
+        IfErr result (RefusesBy thin_program (StatesRun words) words) }
     ensures memory { IfErr result IsNoMemoryLine }
 {
-    let mut command = thin_command(alloc)?;
-    run_by(alloc, &mut command, words)
+    stated(alloc, words)
 }
 
-// The run that these words state by the program's command line.
-fn run_by<'a>(
-    alloc: Global,
-    command: &mut Command<'a>,
-    words: &'a [String],
-) -> Result<RunWords, JobFault>
-    requires { app_of command.old ≡ thin_program }
-    ensures accepted { IfOk result (λ _. fault_of thin_program (map string_bytes words.now) ≡ []) }
-    ensures stated { IfOk result (StatesRun (map string_bytes words.now)) }
-    ensures refused { IfErr result (RefusesThin (map string_bytes words.now)) }
-    ensures memory { IfErr result IsNoMemoryLine }
-{
-    if let Some(stated) = run_if_any(alloc, command, words)? {
-        return Ok(stated);
+impl Stating for RunWords {
+    ghost app = { thin_program };
+
+    ghost finds = { λ rows _. FindsWords rows };
+
+    fn command_line<'a>(alloc: Global) -> Result<Command<'a>, AllocError> {
+        thin_command(alloc)
     }
-    let fault = command.error(ErrorKind::MissingRequiredArgument, "a run is required")?;
-    Err(JobFault::from(fault))
-}
 
-// The run that clap finds in these words, if it finds one.
-fn run_if_any<'a>(
-    alloc: Global,
-    command: &mut Command<'a>,
-    words: &'a [String],
-) -> Result<Option<RunWords>, JobFault>
-    requires { app_of command.old ≡ thin_program }
-    ensures accepted { IfOk result (λ _. fault_of thin_program (map string_bytes words.now) ≡ []) }
-    ensures found { IfOk result
-        (FindsWordsIfAny (matches_of thin_program (map string_bytes words.now))) }
-    ensures refused { IfErr result (RefusesThin (map string_bytes words.now)) }
-    ensures memory { IfErr result IsNoMemoryLine }
-{
-    let matches = command.try_get_matches_from_mut(words)?;
-    Ok(run_words(alloc, &matches)?)
+    fn find(alloc: Global, matches: &ArgMatches<'_>) -> Result<Option<RunWords>, AllocError> {
+        run_words(alloc, matches)
+    }
 }
 
 /// The program's command line.
