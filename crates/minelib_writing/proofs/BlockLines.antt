@@ -1,6 +1,6 @@
 -- The line of the values of one block, as a part of all lines, and what is known of these values.
 use Rattle.std.proofs.Common.{◌≡◌, ℕ, ◌+◌, ◌<◌, List, [], ◌∷◌, ◌++◌, ℤ, length, get_or, ◌∙◌}
-use Rattle.std.specs.Prelude.{HoldsAt, OnOk, Result, Ok, Err}
+use Rattle.std.specs.Prelude.{HoldsAt}
 use Rattle.std.proofs.lemmas.List.{get_or_default}
 use Rattle.minelib_lines.specs.Lines.{line_of, lines_from}
 use Rattle.minelib_writing.proofs.KeptFacts.{holds_one, kept_at}

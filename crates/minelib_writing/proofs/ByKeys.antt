@@ -1,5 +1,5 @@
 -- The texts of model files by the keys of their headers, as the code goes through them.
-use Rattle.std.proofs.Common.{◌≡◌, ℕ, [], ◌∷◌, ◌++◌, length, refl}
+use Rattle.std.proofs.Common.{◌≡◌, ℕ, ◌∷◌, ◌++◌, length, refl}
 use Rattle.std.specs.Prelude.{codes, decimal}
 use Rattle.plan_parts.specs.declared.limit.Bound.{Bound}
 use Rattle.plan_parts.specs.declared.limit.Bound.TheVariants.{AtMost, AtLeast, Between}

@@ -1,9 +1,9 @@
--- The room of a coefficient's line: digits of the block, a pair or a resource behind them, and the tonnes from 14 on.
-use Rattle.std.proofs.Common.{◌≡◌, ℕ, suc, ◌+◌, ◌-◌, ◌<◌, ◌≤◌, All, Bor, cond, false, ⊎_elim, List, [], ◌∷◌, ◌++◌, length, map, take, drop, get_or, min, refl, subst, sym, ap, ◌∙◌, arith, append_assoc}
-use Rattle.std.proofs.Math.Seq.{drop-drop, drop-append_seam, take-add, take-append_seam, take-suc}
+-- The lines of coefficients, group by group.
+use Rattle.std.proofs.Common.{◌≡◌, ℕ, suc, ◌+◌, ◌-◌, ◌<◌, ◌≤◌, All, Bor, cond, false, ⊎_elim, List, [], ◌∷◌, ◌++◌, length, map, take, drop, get_or, refl, subst, sym, ap, ◌∙◌, arith, append_assoc, length-append, rules}
+use Rattle.std.proofs.Math.Seq.{drop-drop, drop-append_seam, take-add, take-suc}
 use Rattle.std.proofs.lemmas.Bool.{cases_Bool, eqb-true}
 use Rattle.std.proofs.lemmas.Bool.Decides.{nat_tests}
-use Rattle.std.proofs.lemmas.List.{drop-take, drop-append-le, flat_map_more, get_or-drop, get_or-map, get_or-take, length-map, length-take, length-drop, take-append-drop}
+use Rattle.std.proofs.lemmas.List.{drop-take, flat_map_more, get_or-drop, get_or-map, get_or-take, length-map, length-take, length-drop}
 use Rattle.std.proofs.lemmas.List.Concat.{concat_is}
 use Rattle.std.proofs.lemmas.List.Elements.{All-map}
 use Rattle.std.proofs.lemmas.List.Folds.{concat-append, flat_map-map}
@@ -14,55 +14,42 @@ use Rattle.mine_instance.specs.Greatest.{first_greatest}
 use Rattle.mine_instance.specs.coefs.CoveredPairs.{coef_of}
 use Rattle.mine_instance.specs.declared.coefs.coef.Coef.{Coef}
 use Rattle.minelib_writing.specs.declared.lines.coefs.CoefForm.TheVariants.{OfChosen}
+use Rattle.minelib_writing.specs.inner.LineIn.{line_in}
 use Rattle.minelib_writing.specs.inner.CoefParts.{coef_part, coef_text, cpit_coef_text, has_values}
-use Rattle.minelib_writing.proofs.numbers.OneDigit.{one_digit}
 
--- the line of a coefficient, whose destination and resource are digits
-pub coef_text_is : (c : Coef) → c.d < 10 → c.r < 10
-    → coef_text c ≡ decimal c.b ++ 32 ∷ (48 + c.d) ∷ 32 ∷ (48 + c.r) ∷ 32 ∷ (shortest c.v ++ 10 ∷ [])
-coef_text_is c h k =
-    rw (one_digit c.d h, one_digit c.r k)
-    (append_assoc (decimal c.b) (32 ∷ (48 + c.d) ∷ 32 ∷ (48 + c.r) ∷ 32 ∷ shortest c.v) (10 ∷ []))
+-- the line of a coefficient, whose end has its tonnes
+pub coef_text_is : (c : Coef)
+    → coef_text c ≡ decimal c.b ++ 32 ∷ (decimal c.d ++ 32 ∷ (decimal c.r ++ 32 ∷ (shortest c.v ++ 10 ∷ [])))
+coef_text_is c = search (rules, append_assoc)
 
 -- the same in a CPIT
-pub cpit_coef_text_is : (c : Coef) → c.r < 10 → cpit_coef_text c ≡ decimal c.b ++ 32 ∷ (48 + c.r) ∷ 32 ∷ (shortest c.v ++ 10 ∷ [])
-cpit_coef_text_is c h =
-    rw (one_digit c.r h)
-    (append_assoc (decimal c.b) (32 ∷ (48 + c.r) ∷ 32 ∷ shortest c.v) (10 ∷ []))
+pub cpit_coef_text_is : (c : Coef) → cpit_coef_text c ≡ decimal c.b ++ 32 ∷ (decimal c.r ++ 32 ∷ (shortest c.v ++ 10 ∷ []))
+cpit_coef_text_is c = search (rules, append_assoc)
 
--- where something stands from a place on, the room has the places before it
-pub places_before : (place : ℕ) (room rest : List ℕ) (x : ℕ) → drop place room ≡ x ∷ rest → suc place ≤ length room
-places_before place room rest x h =
-    let long : suc (length rest) ≡ length room - place = sym (ap length h) ∙ length-drop place room in omega (arith, long)
-
--- other tonnes behind the space
-pub other_tonnes : (room text rest : List ℕ) → drop 14 room ≡ 32 ∷ rest → drop 14 (take 15 room ++ text) ≡ 32 ∷ text
-other_tonnes room text rest h =
-    let long = places_before 14 room rest 32 h in
-    drop-append-le 14 (take 15 room) text (omega (arith, long, length-take 15 room))
-    ∙ ap (λ xs. xs ++ text) (drop-take 14 1 room ∙ ap (take 1) h)
-
--- what stands from the digits on
-pub line_in : (end : ℕ) (room digits rest : List ℕ) (start : ℕ) → start ≤ end → end ≤ length room → drop start (take end room) ≡ digits
-    → drop end room ≡ rest → drop start room ≡ digits ++ rest
-line_in end room digits rest start within long before behind =
-    let front : length (take end room) ≡ min end (length room) = length-take end room in
-    ap (drop start) (sym (take-append-drop end room)) ∙ drop-append-le start (take end room) (drop end room) (omega (arith, front, long, within))
-    ∙ ap (λ xs. xs ++ drop end room) before ∙ ap (λ xs. digits ++ xs) behind
-
--- digits that end at a place
-pub digits_end : (end : ℕ) (room new digits : List ℕ) (start : ℕ) → start + length digits ≡ end → drop start new ≡ digits ++ drop end room
-    → drop start (take end new) ≡ digits
-digits_end end room new digits start ends written =
-    ap (λ n. drop start (take n new)) (sym ends) ∙ drop-take start (length digits) new ∙ ap (take (length digits)) written
-    ∙ take-append_seam digits (drop end room)
-
--- what stands behind them
-pub behind_stays : (end : ℕ) (room new digits : List ℕ) (start : ℕ) → start + length digits ≡ end → drop start new ≡ digits ++ drop end room
-    → drop end new ≡ drop end room
-behind_stays end room new digits start ends written =
-    ap (λ n. drop n new) (sym ends) ∙ sym (drop-drop (length digits) start new) ∙ ap (drop (length digits)) written
-    ∙ drop-append_seam digits (drop end room)
+-- what is written before the end of a line leaves it
+pub end_kept : (front old new : List ℕ) (start end : ℕ) → start ≤ end → end ≤ 208 → length old ≡ 256 → length new ≡ 256
+    → line_in new start ≡ front ++ line_in old end → line_in new end ≡ line_in old end
+end_kept front old new start end before within wide as_wide more =
+    let count : 208 - start ≡ (end - start) + (208 - end) = omega (arith, before, within) in
+    let back : start + (end - start) ≡ end = omega (arith, before) in
+    let less : end - start ≡ length front =
+    omega (
+      arith,
+      ap length more,
+      length-append front (line_in old end),
+      length-take (208 - start) (drop start new),
+      length-drop start new,
+      length-take (208 - end) (drop end old),
+      length-drop end old,
+      before,
+      within,
+      wide,
+      as_wide,
+    ) in
+    sym
+    (ap (λ n. drop (end - start) (take n (drop start new))) count ∙ drop-take (end - start) (208 - end) (drop start new)
+    ∙ ap (take (208 - end)) (drop-drop (end - start) start new ∙ ap (λ n. drop n new) back))
+    ∙ ap (λ k. drop k (line_in new start)) less ∙ ap (drop (length front)) more ∙ drop-append_seam front (line_in old end)
 
 -- one line more
 pub next_line : {X : Type 0} (f : X → List ℕ) (out now new line : List ℕ) (xs : List X) (i : ℕ) (x : X) → i < length xs → x ≡ get_or xs i x
@@ -72,10 +59,6 @@ next_line f out now new line xs i x within read so_far more is_line =
     more ∙ ap (λ ys. ys ++ line) so_far ∙ ap (λ ys. (out ++ flat_map f (take i xs)) ++ ys) is_line ∙ flat_map_more f out (take i xs) x
     ∙ ap (λ ys. out ++ flat_map f ys) (ap (λ y. take i xs ++ y ∷ []) read ∙ sym (take-suc xs i x within)
     ∙ ap (λ n. take n xs) one)
-
--- what stands from a further place on
-pub further : (n place : ℕ) (xs ys : List ℕ) → drop place xs ≡ drop place ys → drop (place + n) xs ≡ drop (place + n) ys
-further n place xs ys h = sym (drop-drop n place xs) ∙ ap (drop n) h ∙ drop-drop n place ys
 
 -- what holds of all coefficients of a group holds of that of a pair
 pub of_pair : (P : Coef → Type 0) (b : ℕ) (v : ℤ) (pairs all : List (ℕ × ℕ)) (i : ℕ) → pairs ≡ all → i < length pairs

@@ -1,3 +1,2 @@
-pub mod CentsFacts
-pub mod Digits
+pub mod Fractions
 pub mod OneDigit

@@ -1,5 +1,6 @@
 pub mod CoefParts
 pub mod IdTextFields
 pub mod KeptParts
+pub mod LineIn
 pub mod Parts
 pub mod Spaced

@@ -5,7 +5,7 @@ ghost use Rattle.precedence.specs.IdRuns.{ids_of, ids_of_run};
 ghost use Rattle.minelib_writing.specs.inner.Spaced.{spaced};
 ghost use Rattle.plan_parts.specs.declared.ranges.TheConstants.{MAX_BLOCKS};
 
-use crate::fields::append_whole_behind;
+use crate::fields::append_field;
 use precedence::IdRun;
 use std::alloc::{AllocError, Global};
 use std::marker::Model;
@@ -40,7 +40,7 @@ impl IdText {
         let mut starts = Vec::with_capacity(alloc, count + 1)?;
         starts.push(0)?;
         for id in 0..count {
-            append_whole_behind(&mut text, b' ', id as u64)?;
+            append_field(&mut text, id as u64)?;
             starts.push(text.len() as u32)?;
         }
         Ok(IdText { text, starts })

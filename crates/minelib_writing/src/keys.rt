@@ -73,6 +73,6 @@ fn append_value(
     match values.of(key) {
         KeyValue::Text(text) => append_text(out, text, b'\n'),
         KeyValue::Whole(number) => append_whole_to(out, number, b'\n'),
-        KeyValue::Decimal(number) => append_decimal_to(alloc, out, number, b'\n'),
+        KeyValue::Decimal(number) => append_decimal_to(out, number, b'\n'),
     }
 }

@@ -1,7 +1,6 @@
 //! The MineLib texts of an instance, written to sinks.
 #![tactic(auto)]
 
-mod cents;
 mod fields;
 mod files;
 mod id_text;
@@ -10,6 +9,7 @@ pub mod laws;
 mod lines;
 mod lists_file;
 mod parts;
+mod room;
 mod sections;
 
 pub use files::{write_blocks, write_cpit, write_named, write_pcpsp, write_prec, write_upit};

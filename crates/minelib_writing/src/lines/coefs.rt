@@ -1,5 +1,5 @@
-//! The lines of coefficients. Those of a group have the block and the tonnes in common, and the next group mostly states the same
-//! tonnes: so each line is made from the one before it in a room, by other digits.
+//! The lines of coefficients. Those of a group have the tonnes in common, and the next group mostly states the same: so the end of a
+//! line, which has them, is written once.
 
 ghost use Rattle.std.specs.Prelude.{◌≡◌, ◌+◌, ◌<◌, ◌≤◌, ◌==◌, ◌++◌, ◌∷◌, [], length, map, if◌then◌else◌, All, HoldsAt, OnOk, IfOk, decimal, take, drop};
 ghost use Rattle.std.specs.List.{flat_map};
@@ -7,27 +7,21 @@ ghost use Rattle.pit_units.specs.Decimal.{shortest};
 ghost use Rattle.pit_units.specs.DecimalRange.{IsInDecimalRange};
 ghost use Rattle.mine_instance.specs.coefs.Groups.{coefs_in, pairs_of};
 ghost use Rattle.minelib_writing.specs.Written.{cpit_coef_line};
+ghost use Rattle.minelib_writing.specs.inner.LineIn.{line_in};
 ghost use Rattle.minelib_writing.specs.inner.CoefParts.{coef_lines, coef_part, coef_text, cpit_coef_text, FitsForm};
 
 use crate::fields::{append_decimal_to, append_whole_to};
 use crate::lines::Line;
 use crate::parts::{MOST_AT_ONCE, Parted};
-use itoa::write_digits;
+use crate::room::{
+    Digits, LONGEST, ROOM, Room, append_line, write_byte, write_dec, write_digit, write_start,
+};
 use mine_instance::coefs::coef::Coef;
 use mine_instance::coefs::group::{CoefGroup, Pairs};
 use mine_instance::coefs::list::CoefList;
 use mine_instance::values::list::ValueList;
 use pit_units::Dec;
 use std::alloc::{AllocError, Global};
-
-// Where ` d r ` stands in the room of a line, behind the block: its identifier has at most ten digits.
-const PAIR: usize = 10;
-
-// Where ` r ` stands, which in a CPIT is behind the block.
-const RESOURCE: usize = 12;
-
-// Where the tonnes stand, with the LF behind them.
-const TONNES: usize = 15;
 
 /// Which coefficients have a line, and its form.
 #[derive(Drop)]
@@ -61,16 +55,17 @@ impl<'a, C: CoefList, V: ValueList> Parted for CoefLines<'a, C, V> {
         self.coefs.len()
     }
 
-    fn append(&self, alloc: Global, index: usize, out: &mut Vec<u8>) -> Result<usize, AllocError> {
+    fn append(&self, _alloc: Global, index: usize, out: &mut Vec<u8>) -> Result<usize, AllocError> {
         let most = MOST_AT_ONCE.min(self.coefs.len() - index);
         let mut tonnes = self.coefs.group(index).v;
-        let mut room = new_room(alloc, tonnes)?;
+        let mut room = [0; ROOM];
+        let mut end = write_tonnes(&mut room, tonnes);
         let mut count = 0;
         while count < most {
             let group = group_within(self.coefs, index + count, most - count);
-            next_tonnes(alloc, &mut room, tonnes, group.v)?;
+            end = next_tonnes(&mut room, end, tonnes, group.v);
             tonnes = group.v;
-            append_group(out, &mut room, &group, &self.form)?;
+            append_group(out, &mut room, end, &group, &self.form)?;
             count += group.pairs.len();
         }
         Ok(count)
@@ -106,77 +101,79 @@ fn front_of(pairs: Pairs<'_>, most: usize) -> Pairs<'_>
     }
 }
 
-// A room with the tonnes behind a space.
-fn new_room(alloc: Global, tonnes: Dec) -> Result<Vec<u8>, AllocError>
-    ensures text { IfOk result (λ room. drop 14 room.items ≡ 32 ∷ (shortest tonnes ++ 10 ∷ [])) }
-    ensures kept { OnOk result (IsInDecimalRange tonnes) }
+// Writes the end of a line with these tonnes.
+#[inline(always)]
+fn write_tonnes(room: &mut Room, tonnes: Dec) -> usize
+    ensures text { line_in room.new result ≡ 32 ∷ (shortest tonnes ++ 10 ∷ []) }
+    ensures end { (178 ≤ result) × (result ≤ 208) }
+    ensures kept { IsInDecimalRange tonnes }
 {
-    let mut room = Vec::new(alloc);
-    room.resize(TONNES, b' ')?;
-    append_decimal_to(alloc, &mut room, tonnes, b'\n')?;
-    Ok(room)
+    let at = write_byte(room, LONGEST, b'\n');
+    let at = write_dec(room, at, tonnes);
+    write_byte(room, at, b' ')
 }
 
 // Makes the tonnes in the room those of the next group.
 #[inline(always)]
-fn next_tonnes(
-    alloc: Global,
-    room: &mut Vec<u8>,
-    before: Dec,
-    tonnes: Dec,
-) -> Result<(), AllocError>
-    requires text { drop 14 room.old.items ≡ 32 ∷ (shortest before ++ 10 ∷ []) }
+fn next_tonnes(room: &mut Room, end: usize, before: Dec, tonnes: Dec) -> usize
+    requires text { line_in room.old end ≡ 32 ∷ (shortest before ++ 10 ∷ []) }
+    requires end { (178 ≤ end) × (end ≤ 208) }
     requires kept { IsInDecimalRange before }
-    ensures text { OnOk result (drop 14 room.new.items ≡ 32 ∷ (shortest tonnes ++ 10 ∷ [])) }
-    ensures kept { OnOk result (IsInDecimalRange tonnes) }
+    ensures text { line_in room.new result ≡ 32 ∷ (shortest tonnes ++ 10 ∷ []) }
+    ensures end { (178 ≤ result) × (result ≤ 208) }
+    ensures kept { IsInDecimalRange tonnes }
 {
     if tonnes == before {
-        return Ok(());
+        return end;
     }
-    room.truncate(TONNES);
-    append_decimal_to(alloc, room, tonnes, b'\n')
+    write_tonnes(room, tonnes)
 }
 
-// Appends the lines of a group, whose tonnes stand in the room.
+// Appends the lines of a group, whose tonnes are written.
 #[inline(always)]
 fn append_group<V: ValueList>(
     out: &mut Vec<u8>,
-    room: &mut Vec<u8>,
+    room: &mut Room,
+    end: usize,
     group: &CoefGroup,
     form: &CoefForm<V>,
 ) -> Result<(), AllocError>
-    requires tonnes { drop 14 room.old.items ≡ 32 ∷ (shortest group.now.v ++ 10 ∷ []) }
+    requires tonnes { line_in room.old end ≡ 32 ∷ (shortest group.now.v ++ 10 ∷ []) }
+    requires end { (178 ≤ end) × (end ≤ 208) }
     requires some { 0 < length (pairs_of group.now.pairs) }
     requires fit { All (FitsForm V.list form.now) (coefs_in group.now) }
     ensures text { OnOk result
         (out.new.items
         ≡ out.old.items ++ flat_map (coef_part V.list form.now) (coefs_in group.now)) }
-    ensures tonnes { OnOk result
-        (drop 14 room.new.items ≡ 32 ∷ (shortest group.now.v ++ 10 ∷ [])) }
+    ensures end { OnOk result (line_in room.new end ≡ line_in room.old end) }
 {
     match form {
-        CoefForm::OfAll => append_all(out, room, group),
+        CoefForm::OfAll => append_all(out, room, end, group),
         CoefForm::OfChosen(values) => {
             let destination = values.of_block(group.b as usize).first_greatest();
-            append_at(out, room, group, destination)
+            append_at(out, room, end, group, destination)
         }
     }
 }
 
 // Appends the lines `b d r v` of a group.
 #[inline(always)]
-fn append_all(out: &mut Vec<u8>, room: &mut Vec<u8>, group: &CoefGroup) -> Result<(), AllocError>
-    requires tonnes { drop 14 room.old.items ≡ 32 ∷ (shortest group.now.v ++ 10 ∷ []) }
+fn append_all(
+    out: &mut Vec<u8>,
+    room: &mut Room,
+    end: usize,
+    group: &CoefGroup,
+) -> Result<(), AllocError>
+    requires tonnes { line_in room.old end ≡ 32 ∷ (shortest group.now.v ++ 10 ∷ []) }
+    requires end { (178 ≤ end) × (end ≤ 208) }
     requires digits { All (λ c. (c.d < 10) × (c.r < 10)) (coefs_in group.now) }
     ensures text { OnOk result
         (out.new.items ≡ out.old.items ++ flat_map coef_text (coefs_in group.now)) }
-    ensures tonnes { OnOk result
-        (drop 14 room.new.items ≡ 32 ∷ (shortest group.now.v ++ 10 ∷ [])) }
+    ensures end { OnOk result (line_in room.new end ≡ line_in room.old end) }
 {
-    let start = write_block(room.as_mut_slice(), PAIR, group.b);
+    let block = Digits::of(u64::from(group.b));
     for (d, r) in group.pairs.as_slice() {
-        write_pair(room, *d, *r);
-        out.extend_from_slice(&room[start..])?;
+        append_coef(out, room, end, &block, *d, *r)?;
     }
     Ok(())
 }
@@ -185,83 +182,67 @@ fn append_all(out: &mut Vec<u8>, room: &mut Vec<u8>, group: &CoefGroup) -> Resul
 #[inline(always)]
 fn append_at(
     out: &mut Vec<u8>,
-    room: &mut Vec<u8>,
+    room: &mut Room,
+    end: usize,
     group: &CoefGroup,
     destination: usize,
 ) -> Result<(), AllocError>
-    requires tonnes { drop 14 room.old.items ≡ 32 ∷ (shortest group.now.v ++ 10 ∷ []) }
+    requires tonnes { line_in room.old end ≡ 32 ∷ (shortest group.now.v ++ 10 ∷ []) }
+    requires end { (178 ≤ end) × (end ≤ 208) }
     requires digits { All (λ c. c.r < 10) (coefs_in group.now) }
     ensures text { OnOk result (out.new.items ≡ out.old.items ++ flat_map
         (λ c. if c.d == destination then cpit_coef_text c else []) (coefs_in group.now)) }
-    ensures tonnes { OnOk result
-        (drop 14 room.new.items ≡ 32 ∷ (shortest group.now.v ++ 10 ∷ [])) }
+    ensures end { OnOk result (line_in room.new end ≡ line_in room.old end) }
 {
-    let start = write_block(room.as_mut_slice(), RESOURCE, group.b);
+    let block = Digits::of(u64::from(group.b));
     for (d, r) in group.pairs.as_slice() {
         if usize::from(*d) == destination {
-            write_resource(room, *r);
-            out.extend_from_slice(&room[start..])?;
+            append_chosen(out, room, end, &block, *r)?;
         }
     }
     Ok(())
 }
 
-// Writes the digits of a block before a place, and answers where they begin.
+// Appends the line of a coefficient before the end that is written.
 #[inline(always)]
-fn write_block(room: &mut [u8], end: usize, block: u32) -> usize
-    requires room { 14 ≤ length room.old }
-    requires end { (10 ≤ end) × (end ≤ 14) }
-    ensures start { result ≤ end }
-    ensures digits { drop result (take end room.new) ≡ decimal block }
-    ensures tonnes { drop 14 room.new ≡ drop 14 room.old }
-{
-    write_digits(u64::from(block), room, end)
-}
-
-// Writes a destination and a resource behind the block, each behind a space.
-#[inline(always)]
-fn write_pair(room: &mut Vec<u8>, d: u8, r: u8)
-    requires room { 14 ≤ length room.old.items }
+fn append_coef(
+    out: &mut Vec<u8>,
+    room: &mut Room,
+    end: usize,
+    block: &Digits,
+    d: u8,
+    r: u8,
+) -> Result<(), AllocError>
     requires digits { (d < 10) × (r < 10) }
-    ensures before { take 10 room.new.items ≡ take 10 room.old.items }
-    ensures pair { drop 10 room.new.items
-        ≡ 32 ∷ (48 + d) ∷ 32 ∷ (48 + r) ∷ drop 4 (drop 10 room.old.items) }
+    requires end { (178 ≤ end) × (end ≤ 208) }
+    ensures text { OnOk result (out.new.items ≡ out.old.items
+        ++ (block.now ++ 32 ∷ (decimal d ++ 32 ∷ (decimal r ++ line_in room.old end)))) }
+    ensures end { OnOk result (line_in room.new end ≡ line_in room.old end) }
 {
-    set_pair(&mut room[PAIR..], d, r);
+    let at = write_digit(room, end, r);
+    let at = write_digit(room, at, d);
+    let start = write_start(room, at, block);
+    append_line(out, room, start)
 }
 
+// The same of a CPIT.
 #[inline(always)]
-fn set_pair(text: &mut [u8], d: u8, r: u8)
-    requires room { 4 ≤ length text.old }
-    requires digits { (d < 10) × (r < 10) }
-    ensures { text.new ≡ 32 ∷ (48 + d) ∷ 32 ∷ (48 + r) ∷ drop 4 text.old }
+fn append_chosen(
+    out: &mut Vec<u8>,
+    room: &mut Room,
+    end: usize,
+    block: &Digits,
+    r: u8,
+) -> Result<(), AllocError>
+    requires digit { r < 10 }
+    requires end { (178 ≤ end) × (end ≤ 208) }
+    ensures text { OnOk result (out.new.items
+        ≡ out.old.items ++ (block.now ++ 32 ∷ (decimal r ++ line_in room.old end))) }
+    ensures end { OnOk result (line_in room.new end ≡ line_in room.old end) }
 {
-    text[0] = b' ';
-    text[1] = b'0' + d;
-    text[2] = b' ';
-    text[3] = b'0' + r;
-}
-
-// Writes a resource behind the block and a space.
-#[inline(always)]
-fn write_resource(room: &mut Vec<u8>, r: u8)
-    requires room { 14 ≤ length room.old.items }
-    requires digits { r < 10 }
-    ensures before { take 12 room.new.items ≡ take 12 room.old.items }
-    ensures resource { drop 12 room.new.items
-        ≡ 32 ∷ (48 + r) ∷ drop 2 (drop 12 room.old.items) }
-{
-    set_resource(&mut room[RESOURCE..], r);
-}
-
-#[inline(always)]
-fn set_resource(text: &mut [u8], r: u8)
-    requires room { 2 ≤ length text.old }
-    requires digits { r < 10 }
-    ensures { text.new ≡ 32 ∷ (48 + r) ∷ drop 2 text.old }
-{
-    text[0] = b' ';
-    text[1] = b'0' + r;
+    let at = write_digit(room, end, r);
+    let start = write_start(room, at, block);
+    append_line(out, room, start)
 }
 
 // A coefficient of a CPIT that is kept: its destination is the only one, and is not written.
@@ -270,9 +251,9 @@ impl Line for Coef {
 
     ghost kept = { λ c. IsInDecimalRange c.v };
 
-    fn append(&self, alloc: Global, _index: usize, out: &mut Vec<u8>) -> Result<(), AllocError> {
+    fn append(&self, _alloc: Global, _index: usize, out: &mut Vec<u8>) -> Result<(), AllocError> {
         append_whole_to(out, u64::from(self.b), b' ')?;
         append_whole_to(out, u64::from(self.r), b' ')?;
-        append_decimal_to(alloc, out, self.v, b'\n')
+        append_decimal_to(out, self.v, b'\n')
     }
 }

@@ -8,7 +8,7 @@ ghost use Rattle.minelib_writing.specs.inner.Parts.{line_of_preds};
 ghost use Rattle.plan_parts.specs.declared.ranges.TheConstants.{MAX_BLOCKS};
 ghost use Rattle.devices.specs.sinks.Writes.{WritesOn};
 
-use crate::fields::append_whole_behind;
+use crate::fields::append_field;
 use crate::id_text::IdText;
 use devices::sinks::sink::Sink;
 use devices::sinks::slices::flush_full;
@@ -124,7 +124,7 @@ fn append_preds(
 {
     let count = count_of(runs);
     texts.append_one(out, id)?;
-    append_whole_behind(out, b' ', count)?;
+    append_field(out, count)?;
     texts.append(out, runs)?;
     out.push(b'\n')?;
     Ok(count)

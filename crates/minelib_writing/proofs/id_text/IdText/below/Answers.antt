@@ -8,11 +8,11 @@ use Rattle.minelib_writing.proofs.id_text.IdText.below.Goals as goal
 pub overflow_cast-len : goal.overflow_cast-len
 overflow_cast-len c =
     let id = c.loop-id.id in
-    let text = c.in_ok-append_whole_behind.ensures ∙ ap (λ t. t ++ 32 ∷ decimal id) c.loop-id.invariant.text ∙ sym (spaced_below id) in
+    let text = c.in_ok-append_field.ensures ∙ ap (λ t. t ++ 32 ∷ decimal id) c.loop-id.invariant.text ∙ sym (spaced_below id) in
     omega (
       arith,
       c.len.ensures,
-      c.append_whole_behind.new.out.ok,
+      c.append_field.new.out.ok,
       ap length text,
       c.requires,
       c.loop-id-test.true,
@@ -32,9 +32,9 @@ pub loop-id-preserved : goal.loop-id-preserved
 loop-id-preserved c =
     let id = c.loop-id.id in
     let starts = c.loop-id.starts.items in
-    let text = c.in_ok-append_whole_behind.ensures ∙ ap (λ t. t ++ 32 ∷ decimal id) c.loop-id.invariant.text ∙ sym (spaced_below id) in
+    let text = c.in_ok-append_field.ensures ∙ ap (λ t. t ++ 32 ∷ decimal id) c.loop-id.invariant.text ∙ sym (spaced_below id) in
     let start : c.len.result ≡ start_in (length starts) =
-    omega (arith, c.len.ensures, c.append_whole_behind.new.out.ok, ap length text, ap start_in c.loop-id.invariant.count) in
+    omega (arith, c.len.ensures, c.append_field.new.out.ok, ap length text, ap start_in c.loop-id.invariant.count) in
     record {
       text = text;
       count =

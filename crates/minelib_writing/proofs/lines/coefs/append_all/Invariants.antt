@@ -1,16 +1,14 @@
-use Rattle.std.proofs.Common.{◌≡◌, ◌++◌, ◌∷◌, [], take, drop}
-use Rattle.std.specs.Prelude.{decimal}
+use Rattle.std.proofs.Common.{◌≡◌, ◌++◌, take}
 use Rattle.std.specs.List.{flat_map}
-use Rattle.pit_units.specs.Decimal.{shortest}
 use Rattle.mine_instance.specs.coefs.CoveredPairs.{coef_of}
 use Rattle.minelib_writing.specs.inner.CoefParts.{coef_text}
+use Rattle.minelib_writing.specs.inner.LineIn.{line_in}
 use Rattle.minelib_writing.proofs.lines.coefs.append_all.Given as goal
 
--- The lines so far are appended, and in the room are the block's digits and the tonnes.
+-- The lines so far are appended, and the end is as it was.
 abbrev pub invariant-loop-d : goal.invariant-loop-d
 invariant-loop-d l = record {
-  digits : drop l.start (take 10 l.room.items) ≡ decimal l.group.b;
-  tonnes : drop 14 l.room.items ≡ 32 ∷ (shortest l.group.v ++ 10 ∷ []);
+  end : line_in l.room l.end ≡ line_in l.initial.room l.end;
   text : l.out.items ≡ l.initial.out.items
       ++ flat_map (λ pair. coef_text (coef_of l.group.b l.group.v pair)) (take l.d-index l.d-items);
 }

@@ -11,11 +11,11 @@ loop-value-preserved c =
     let index = c.loop-value.value-index in
     let value = c.value-item.result in
     record {
-      text = next_line (λ v. 32 ∷ shortest v) c.args.out.now.items c.loop-value.out.items c.append_decimal_behind.new.out.items
+      text = next_line (λ v. 32 ∷ shortest v) c.args.out.now.items c.loop-value.out.items c.append_decimal_field.new.out.items
           (32 ∷ shortest value) values index value c.loop-value-test.true c.value-item.is c.loop-value.invariant.text
-          c.in_ok-append_decimal_behind.ensures.text refl;
+          c.in_ok-append_decimal_field.ensures.text refl;
       kept = All-more (λ v. IsInDecimalRange v) values index value c.loop-value-test.true c.loop-value.invariant.kept
-          (subst (λ v. IsInDecimalRange v) c.value-item.is c.in_ok-append_decimal_behind.ensures.kept);
+          (subst (λ v. IsInDecimalRange v) c.value-item.is c.append_decimal_field.ensures.kept);
     }
 
 pub returns-clause-kept : goal.returns-clause-kept

@@ -27,7 +27,7 @@ loop-count-preserved g c =
     let more : c.len-count.result ≡ n = c.len-count.ensures in
     let on : (index + count) + n ≡ index + (count + n) = omega arith in
     let value = c.group_within-group.ensures.value in
-    let known = known_of (λ v. IsInDecimalRange v) group.b group.v (pairs_of group.pairs) c.in_ok-next_tonnes.ensures.kept in
+    let known = known_of (λ v. IsInDecimalRange v) group.b group.v (pairs_of group.pairs) c.next_tonnes-end.ensures.kept in
     let part = kept_part (λ c. IsInDecimalRange c.v) all (index + count) n c.group_within-group.ensures.within
     (subst (All (λ c. IsInDecimalRange c.v)) value known) in
     let so_far = concat (take count (drop index (map (coef_part g.V.ValueList.list form) all))) in
@@ -35,8 +35,9 @@ loop-count-preserved g c =
     rw more (record {
       few = omega (arith, c.group_within-group.ensures.few, c.loop-count-test.true);
       within = subst (λ k. k ≤ length all) on c.group_within-group.ensures.within;
-      room = c.in_ok-append_group.ensures.tonnes;
-      known = c.in_ok-next_tonnes.ensures.kept;
+      tonnes = c.in_ok-append_group.ensures.end ∙ c.next_tonnes-end.ensures.text;
+      end = c.next_tonnes-end.ensures.end;
+      known = c.next_tonnes-end.ensures.kept;
       text =
           c.in_ok-append_group.ensures.text ∙ ap (λ text. text ++ next) c.loop-count.invariant.text
           ∙ append_assoc c.args.out.now.items so_far next

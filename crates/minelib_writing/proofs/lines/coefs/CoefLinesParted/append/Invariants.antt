@@ -4,15 +4,17 @@ use Rattle.std.specs.List.{concat}
 use Rattle.pit_units.specs.Decimal.{shortest}
 use Rattle.pit_units.specs.DecimalRange.{IsInDecimalRange}
 use Rattle.minelib_writing.specs.inner.CoefParts.{coef_part}
+use Rattle.minelib_writing.specs.inner.LineIn.{line_in}
 use Rattle.minelib_writing.specs.inner.KeptParts.{HoldsFrom}
 use Rattle.minelib_writing.proofs.lines.coefs.CoefLinesParted.append.Given as goal
 
--- The parts so far are appended, and in the room are the tonnes of the last of them, of which is known what their type keeps.
+-- The parts so far are appended, and the end of their lines has the tonnes of the last of them, of which is known what their type keeps.
 abbrev pub invariant-loop-count : goal.invariant-loop-count
 invariant-loop-count g l = record {
   few : l.count ≤ l.most;
   within : l.index + l.count ≤ length (g.C.CoefList.list l.self.coefs.now);
-  room : drop 14 l.room.items ≡ 32 ∷ (shortest l.tonnes ++ 10 ∷ []);
+  tonnes : line_in l.room l.end ≡ 32 ∷ (shortest l.tonnes ++ 10 ∷ []);
+  end : (178 ≤ l.end) × (l.end ≤ 208);
   known : IsInDecimalRange l.tonnes;
   text : l.out.items ≡ l.initial.out.items
       ++ concat (take l.count (drop l.index (map (coef_part g.V.ValueList.list l.self.form) (g.C.CoefList.list l.self.coefs.now))));
