@@ -264,10 +264,13 @@ def numbers_of(piece: Piece, fields: Sequence[int], what: str,
     is_hard = may_be_misread(piece.text)
     if is_hard:
         _look_at_each(piece, fields, what)
+    # Of a fixed length all fields are taken: pandas then refuses a row with more, as control
+    # bytes make one. With `usecols` it would drop them.
     try:
         table = pd.read_csv(io.BytesIO(piece.text), sep=r"\s+", header=None, dtype=float,
                             names=range(max(last + 1, int(lengths.max()))), index_col=False,
-                            usecols=sorted(set(fields)), na_filter=False, quoting=csv.QUOTE_NONE,
+                            usecols=None if length else sorted(set(fields)), na_filter=False,
+                            quoting=csv.QUOTE_NONE,
                             float_precision="round_trip" if is_hard else "high")
         found = np.stack([table[field].to_numpy() for field in fields])
     except (ValueError, OverflowError, pd.errors.ParserError):
