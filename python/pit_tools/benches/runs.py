@@ -164,9 +164,10 @@ def _recorded(base: str, build: str) -> Iterator[dict[str, Any]]:
     """The lines of all records of a base, those of the record written last at the end.
 
     Raises UserError if one is of another setting."""
-    for path in sorted(glob.glob(f"{glob.escape(base)}{RUNS}*"), key=os.path.getmtime):
-        if not re.fullmatch(rf"{re.escape(base)}{re.escape(RUNS)}(-\d+-of-\d+)?", path):
-            continue
+    # Others of these names, as a part's that is being written, may be gone at any time.
+    form = re.compile(rf"{re.escape(base)}{re.escape(RUNS)}(-\d+-of-\d+)?")
+    paths = sorted(filter(form.fullmatch, glob.glob(f"{glob.escape(base)}{RUNS}*")))
+    for path in sorted(paths, key=os.path.getmtime):
         found = build_of(path)
         if found is not None and found != build:
             raise UserError(f"{path}: it is of other limits, another problem or another tool than "
