@@ -114,7 +114,7 @@ def test_a_plan_goes_without_a_precedence_file(tmp_path, capsys):
 def test_a_thin_file_that_is_none_is_refused_by_its_name(tmp_path, capsys, command):
     base, thin = with_thin(tmp_path)
     for text, wanted in (("0 1 1\n1 0\n", "not of as many blocks: "),
-                         ("0 1\n", "other.thin: no line of the precedence file")):
+                         ("0 1\n", "other.thin: line 1: 0 predecessors ")):
         (tmp_path / "other.thin").write_text(text)
         assert main([command, base, "--prec", str(tmp_path / "other.thin")]) == 2
         assert wanted in capsys.readouterr().err
